@@ -1,5 +1,5 @@
 -- What a source and a sink in memory do at a call: they count it, and fail where it is listed.
-use Rattle.std.specs.Prelude.{◌≡◌, ℕ, ◌⊎◌, List, [], ◌++◌, length, take, drop, min, Contains, Result, Ok, Err}
+use Rattle.std.specs.Prelude.{◌≡◌, ℕ, ◌⊎◌, List, ◌++◌, length, take, drop, min, Contains, Result, Ok, Err}
 use Rattle.flow_io.specs.Causes.{one_more}
 
 -- the numbers of the calls that fail, how many calls were made, and how many of them failed

@@ -1,5 +1,5 @@
 -- What one call of `next` tells of the bytes that stand before it.
-use Rattle.std.specs.Prelude.{◌≡◌, ℕ, ◌+◌, ◌-◌, ◌<◌, ◌≤◌, ◌⊎◌, List, [], ◌∷◌, ◌++◌, length, min, Bool, true, ◌||◌, ◌&&◌, not, nat_lt, ◌==◌, if◌then◌else◌, Result, Ok, Err, Some, None, Option}
+use Rattle.std.specs.Prelude.{◌≡◌, ℕ, ◌+◌, ◌-◌, ◌<◌, ◌≤◌, ◌⊎◌, List, [], ◌∷◌, ◌++◌, length, min, Bool, true, ◌||◌, ◌&&◌, not, nat_lt, ◌==◌, if◌then◌else◌, Result, Ok, Err, Option}
 use Rattle.std.specs.Io.KnownBytes.{IsAtEnd}
 use Rattle.flow_io.specs.Causes.{Rose}
 use Rattle.flow_io.specs.Inputs.{NoFeedBelow}

@@ -108,6 +108,17 @@ fn take_more<S: Source>(src: &mut S, block: &mut [u8], bytes: &mut Vec<u8>) -> R
     }
 }
 
+/// What a line of this length is, behind a part that was passed over.
+fn line_kind(passed: bool, len: usize) -> Line
+    ensures { result ≡ kind_of passed len }
+{
+    if passed || len > MAX_LINE {
+        Line::TooLong
+    } else {
+        Line::Text
+    }
+}
+
 /// Takes the first bytes away.
 fn forget_front(bytes: &mut Vec<u8>, count: usize)
     requires { count ≤ vec_len bytes.old }
@@ -192,11 +203,7 @@ impl Lines {
         self.to = self.start + len;
         self.start = self.to + 1;
         self.room -= len as u64 + 1;
-        if passed || len > MAX_LINE {
-            Line::TooLong
-        } else {
-            Line::Text
-        }
+        line_kind(passed, len)
     }
 
     /// Hands out all that is held as a line.
@@ -220,10 +227,8 @@ impl Lines {
         self.hand_all();
         if !passed && len == 0 {
             Line::Ended
-        } else if passed || len > MAX_LINE {
-            Line::TooLong
         } else {
-            Line::Text
+            line_kind(passed, len)
         }
     }
 
