@@ -1,0 +1,25 @@
+use flow_model::List;
+use std::alloc::AllocError;
+use thiserror::Error;
+
+/// Why a graph's nodes were not put in order.
+#[derive(Debug, Drop, Error)]
+pub enum GraphFault {
+    /// The nodes of a closed walk along edges, in the order of the walk, the first one once.
+    #[error("the graph has a closed walk")]
+    Cycle(List<u32>),
+    /// There was no memory for the call.
+    #[error("out of memory")]
+    NoMemory,
+}
+
+impl From<AllocError> for GraphFault {
+    ghost use Rattle.std.specs.Prelude.{◌≡◌};
+    ghost use Rattle.graph_check.specs.declared.faults.GraphFault.TheVariants.{NoMemory};
+
+    ghost from_gives = { λ _ e. e ≡ NoMemory };
+
+    fn from(_error: AllocError) -> GraphFault {
+        GraphFault::NoMemory
+    }
+}
