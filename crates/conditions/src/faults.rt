@@ -1,6 +1,4 @@
 //! Why a written condition can't be resolved, and how large it is.
-ghost use Rattle.std.specs.Prelude.{◌<◌, ◌^◌, length};
-
 use containers::find_leaf;
 use flow_model::{Cond, Kind, LeafAt, Leaves, NumberAt, OperandTree, Side, TermTree};
 
@@ -20,7 +18,6 @@ pub fn number_value(number: &NumberAt) -> Option<i64> {
 
 /// The kind of the leaf that is written so, if there is one.
 fn leaf_kind(leaves: &Leaves, leaf: &LeafAt) -> Option<Kind>
-    requires { length leaves.now.leaves < 2 ^ 32 }
 {
     let place = find_leaf(leaves, leaf)?;
     let found = leaves.leaves.as_slice().get(place as usize)?;
@@ -29,7 +26,6 @@ fn leaf_kind(leaves: &Leaves, leaf: &LeafAt) -> Option<Kind>
 
 /// The place of the first leaf of a side that isn't there.
 fn unknown_in_side(side: &Side, leaves: &Leaves) -> Option<u32>
-    requires { length leaves.now.leaves < 2 ^ 32 }
 {
     match side {
         Side::Text(_, _) => None,
@@ -48,7 +44,6 @@ fn unknown_in_side(side: &Side, leaves: &Leaves) -> Option<u32>
 
 /// The place of the first leaf of a condition that isn't one of these.
 pub fn first_unknown(cond: &Cond, leaves: &Leaves) -> Option<u32>
-    requires { length leaves.now.leaves < 2 ^ 32 }
 {
     match cond {
         Cond::Or(members) => {
@@ -76,7 +71,6 @@ pub fn first_unknown(cond: &Cond, leaves: &Leaves) -> Option<u32>
 
 /// Whether a term is a text leaf.
 fn is_text_term(term: &TermTree, leaves: &Leaves) -> bool
-    requires { length leaves.now.leaves < 2 ^ 32 }
 {
     match &term.operand {
         OperandTree::Leaf(leaf) => leaf_kind(leaves, leaf) == Some(Kind::Str),
@@ -86,7 +80,6 @@ fn is_text_term(term: &TermTree, leaves: &Leaves) -> bool
 
 /// The kind of a side; None where a text leaf stands in a sum.
 fn side_kind(side: &Side, leaves: &Leaves) -> Option<Kind>
-    requires { length leaves.now.leaves < 2 ^ 32 }
 {
     let Side::Sum(terms) = side else {
         return Some(Kind::Str);
@@ -124,7 +117,6 @@ fn side_place(side: &Side) -> u32 {
 
 /// The place of the first comparison whose sides don't have one kind.
 pub fn first_mismatch(cond: &Cond, leaves: &Leaves) -> Option<u32>
-    requires { length leaves.now.leaves < 2 ^ 32 }
 {
     match cond {
         Cond::Or(members) => {

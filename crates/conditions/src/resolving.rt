@@ -1,5 +1,5 @@
 //! From a written condition to one whose leaves are places.
-ghost use Rattle.std.specs.Prelude.{◌≡◌, ◌<◌, ◌^◌, length};
+ghost use Rattle.std.specs.Prelude.{◌≡◌};
 ghost use Rattle.conditions.specs.declared.resolving.TypeFault.TheVariants.{NoMemory};
 
 use crate::faults::{first_mismatch, first_number_fault, first_unknown, number_value};
@@ -37,7 +37,6 @@ impl From<AllocError> for TypeFault {
 
 /// A term whose leaf is a place.
 fn term_of(term: &TermTree, leaves: &Leaves) -> Result<Term, TypeFault>
-    requires { length leaves.now.leaves < 2 ^ 32 }
 {
     let operand = match &term.operand {
         OperandTree::Leaf(leaf) => {
@@ -55,7 +54,6 @@ fn term_of(term: &TermTree, leaves: &Leaves) -> Result<Term, TypeFault>
 
 /// The terms of a side of numbers.
 fn sum_of(alloc: Global, side: &Side, leaves: &Leaves) -> Result<List<Term>, TypeFault>
-    requires { length leaves.now.leaves < 2 ^ 32 }
 {
     let mut terms = List::new(alloc);
     if let Side::Sum(written) = side {
@@ -68,7 +66,6 @@ fn sum_of(alloc: Global, side: &Side, leaves: &Leaves) -> Result<List<Term>, Typ
 
 /// The text, or the leaf, of a side of texts.
 fn text_of(alloc: Global, side: &Side, leaves: &Leaves) -> Result<Option<TextSide>, TypeFault>
-    requires { length leaves.now.leaves < 2 ^ 32 }
 {
     match side {
         Side::Text(text, _) => Ok(Some(TextSide::Text(text.copy(alloc)?))),
@@ -100,7 +97,6 @@ fn comparison(
     right: &Side,
     leaves: &Leaves,
 ) -> Result<Expr, TypeFault>
-    requires { length leaves.now.leaves < 2 ^ 32 }
 {
     if let Some(left) = text_of(alloc, left, leaves)? {
         if let Some(right) = text_of(alloc, right, leaves)? {
@@ -116,7 +112,6 @@ fn comparison(
 
 /// The condition with places for leaves, where nothing stands against it.
 fn expr_of(alloc: Global, cond: &Cond, leaves: &Leaves) -> Result<Expr, TypeFault>
-    requires { length leaves.now.leaves < 2 ^ 32 }
 {
     match cond {
         Cond::Or(members) => {
@@ -147,7 +142,6 @@ fn expr_of(alloc: Global, cond: &Cond, leaves: &Leaves) -> Result<Expr, TypeFaul
 /// `UnknownMember` comes where a leaf isn't one of these; else `Mismatch` where a comparison's sides
 /// don't have one kind; else `Number` where a number has no 64 bits; each with the first such place.
 pub fn resolve(alloc: Global, cond: &Cond, leaves: &Leaves) -> Result<Expr, TypeFault>
-    requires { length leaves.now.leaves < 2 ^ 32 }
 {
     if let Some(place) = first_unknown(cond, leaves) {
         return Err(TypeFault::UnknownMember(place));

@@ -1,8 +1,8 @@
 //! Leaves by their names.
-ghost use Rattle.std.specs.Prelude.{◌≡◌, ◌<◌, ◌^◌, length, Option};
+ghost use Rattle.std.specs.Prelude.{◌≡◌, ◌<◌, ◌≤◌, ◌^◌, length, Option, IfSome};
 ghost use Rattle.containers.specs.Named.{names_step, names_leaf, leaf_place};
 
-use flow_model::{LeafAt, Leaves, Step, StepTree};
+use flow_model::{Leaf, LeafAt, Leaves, Step, StepTree};
 
 /// Whether a written step names a step.
 fn is_step(step: &Step, written: &StepTree) -> bool
@@ -42,15 +42,26 @@ fn are_steps(steps: &[Step], written: &[StepTree]) -> bool
     true
 }
 
-/// The place of the leaf that is written so; None exactly where there is none.
-pub fn find_leaf(leaves: &Leaves, leaf: &LeafAt) -> Option<u32>
-    requires { length leaves.now.leaves < 2 ^ 32 }
-    ensures { result ≡ leaf_place leaves.now.leaves leaf.now.steps }
+/// The place among all leaves.
+fn leaf_index(leaves: &[Leaf], steps: &[StepTree]) -> Option<usize>
+    ensures place { result ≡ leaf_place leaves.now steps.now }
+    ensures within { IfSome result (λ i. i < length leaves.now) }
 {
-    for (i, candidate) in leaves.leaves.as_slice().iter().enumerate() {
-        if are_steps(candidate.name.steps.as_slice(), leaf.steps.as_slice()) {
-            return Some(i as u32);
+    for (i, leaf) in leaves.iter().enumerate() {
+        if are_steps(leaf.name.steps.as_slice(), steps) {
+            return Some(i);
         }
     }
     None
+}
+
+/// The place of the leaf that is written so; None exactly where there is none. No container has 2^32 leaves.
+pub fn find_leaf(leaves: &Leaves, leaf: &LeafAt) -> Option<u32>
+    ensures { length leaves.now.leaves < 2 ^ 32 → result ≡ leaf_place leaves.now.leaves leaf.now.steps }
+{
+    match leaf_index(leaves.leaves.as_slice(), leaf.steps.as_slice()) {
+        None => None,
+        Some(place) if place <= u32::MAX as usize => Some(place as u32),
+        Some(_) => None,
+    }
 }

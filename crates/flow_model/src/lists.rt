@@ -4,7 +4,7 @@ use std::alloc::{AllocError, Global};
 use std::marker::Model;
 
 /// A `Vec` that contracts see as the list of its elements, and that a type may hold which it holds itself.
-#[derive(Drop)]
+#[derive(Debug, Drop)]
 pub struct List<T> {
     items: Vec<T>,
 }
