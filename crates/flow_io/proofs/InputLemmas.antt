@@ -5,10 +5,10 @@ use Rattle.std.proofs.lemmas.List.{take_all, get_or_append_left}
 use Rattle.std.proofs.Math.Seq.{take-append-add}
 use Rattle.std.proofs.lemmas.Bool.Decides.{nat_tests}
 use Rattle.flow_io.proofs.Progress.{no_feed_in_front}
-use Rattle.std.specs.Io.KnownBytes.{Consumes}
+use Rattle.std.specs.Io.KnownBytes.{Consumes, IsAtEnd}
 use Rattle.flow_io.specs.Inputs.{NoFeedBelow, Input, Served, PassedOver, AtEnd, inputs, inputs_from, input_of}
 use Rattle.flow_io.specs.Reading.{Reading}
-use Rattle.flow_io.specs.Told.{Hands, Tells}
+use Rattle.flow_io.specs.Told.{Hands, Tells, Shrinks}
 use Rattle.flow_io.specs.Serving.{ServesInputs}
 use Rattle.flow_io.specs.declared.lines.Line.{Line}
 use Rattle.flow_io.specs.declared.lines.Line.TheVariants.{Text, TooLong, Ended}
@@ -102,3 +102,18 @@ told_inputs old new (Some left) (Some left') (Err ScriptTooLong) given taken tol
     (λ k h is. told.1 k h (sym (get_or_append_left (old.held ++ given) left' 0 k (omega (arith, told.0))) ∙ is))
 told_inputs old new (Some left) (Some left') (Err ReadFault) given taken told = tt
 told_inputs old new (Some left) (Some left') (Err NoMemory) given taken told = tt
+
+-- a line that is handed out takes room
+hands_room : (bytes line rest : List ℕ) (room room' : ℕ) (left : Option (List ℕ)) → Hands bytes room left line rest room' → room' < room
+hands_room bytes line rest room room' left h =
+    ⊎_elim (λ (c : (bytes ≡ line ++ 10 ∷ rest) × (room ≡ length line + 1 + room')). omega (arith, c.1))
+    (λ (c : (bytes ≡ line) × (rest ≡ []) × (0 < length line) × (room ≡ length line + room') × IsAtEnd left). omega (arith, c.2, c.3)) h.cut
+
+-- what a call tells shrinks the room
+pub told_shrinks : (bytes : List ℕ) (room : ℕ) (left : Option (List ℕ)) (result : Result Line IoStop) (new : Reading) → Tells bytes room left result new → Shrinks room new.room result
+told_shrinks bytes room left (Ok Text) new told = hands_room bytes new.text new.held room new.room left told.0
+told_shrinks bytes room left (Ok TooLong) new told = hands_room bytes told.0 new.held room new.room left told.1
+told_shrinks bytes room left (Ok Ended) new told = told.2
+told_shrinks bytes room left (Err ReadFault) new told = tt
+told_shrinks bytes room left (Err ScriptTooLong) new told = tt
+told_shrinks bytes room left (Err NoMemory) new told = tt

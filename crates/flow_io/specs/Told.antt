@@ -46,3 +46,10 @@ abbrev pub StopCause : ℕ → ℕ → IoStop → Type 0
 StopCause before now ReadFault = Rose before now
 StopCause before now ScriptTooLong = now ≡ before
 StopCause before now NoMemory = now ≡ before
+
+-- a line that is handed out leaves room for fewer bytes, so that a loop over the lines ends
+abbrev pub Shrinks : ℕ → ℕ → Result Line IoStop → Type 0
+Shrinks room room' (Ok Text) = room' < room
+Shrinks room room' (Ok TooLong) = room' < room
+Shrinks room room' (Ok Ended) = room' ≡ room
+Shrinks room room' (Err stop) = Unit {0}

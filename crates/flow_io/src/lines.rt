@@ -3,7 +3,7 @@ ghost use Rattle.std.specs.Prelude.{◌≡◌, ◌≢◌, ℕ, ◌+◌, ◌-◌,
 ghost use Rattle.std.specs.Io.KnownBytes.{Consumes, IsAtEnd};
 ghost use Rattle.flow_io.specs.Inputs.{NoFeedBelow};
 ghost use Rattle.flow_io.specs.Found.{IsFirstFeed, IsReach, Takes};
-ghost use Rattle.flow_io.specs.Told.{Tells, StopCause, SetsAside, kind_of, last_kind};
+ghost use Rattle.flow_io.specs.Told.{Tells, Shrinks, StopCause, SetsAside, kind_of, last_kind};
 ghost use Rattle.flow_io.specs.Serving.{ServesInputs};
 
 use crate::outside::{Failed, Source};
@@ -168,7 +168,7 @@ impl Lines {
         })
     }
 
-    /// The line that the last call of `next` found.
+    /// The line that the last call of `next` found, where it answered `Text`.
     pub fn text(&self) -> &[u8]
         ensures { result.now ≡ self.now.text }
     {
@@ -270,6 +270,7 @@ impl Lines {
         ensures told { (given : List ℕ) × Consumes (S.left src.old) (S.left src.new) given
             × Tells (self.old.held ++ given) self.old.room (S.left src.new) result self.new }
         ensures serves { ServesInputs self.old (S.left src.old) self.new (S.left src.new) result }
+        ensures shrinks { Shrinks self.old.room self.new.room result }
         ensures later { S.faults src.old ≤ S.faults src.new }
         ensures cause { MatchResult result (λ _. S.faults src.new ≡ S.faults src.old) (StopCause (S.faults src.old) (S.faults src.new)) }
     {
