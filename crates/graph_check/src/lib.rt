@@ -12,10 +12,12 @@ mod orders;
 mod reach;
 mod search;
 mod sources;
+mod strong;
 
 pub use faults::GraphFault;
 pub use orders::order;
 pub use reach::{reaches, reaching};
+pub use strong::{components, cyclic_edges};
 
 #[cfg(test)]
 mod tests {
