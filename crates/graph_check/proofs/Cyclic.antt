@@ -1,6 +1,6 @@
 -- An edge whose ends have one number lies on a closed walk, and no other.
-use Rattle.std.proofs.Common.{◌≡◌, ℕ, ◌<◌, List, [], ◌∷◌, ◌⊎◌, inl, inr, length, get_or, map, refl, sym, ap, subst, ◌∙◌, arith, true, false, Bool}
-use Rattle.std.specs.Prelude.{Some, slice_get, IsTrue, ◌↔◌, slice_index, ◌==◌}
+use Rattle.std.proofs.Common.{◌≡◌, ℕ, ◌<◌, List, [], inl, inr, length, get_or, map, sym, ap, subst, ◌∙◌, true, false, Bool}
+use Rattle.std.specs.Prelude.{◌↔◌, slice_index, ◌==◌}
 use Rattle.std.proofs.lemmas.Bool.{eqb-true, eq-eqb}
 use Rattle.std.proofs.lemmas.List.{get_or-map, length-map}
 use Rattle.std.proofs.lemmas.List.Elements.{All-contains}
@@ -15,8 +15,7 @@ module _ (nodes : ℕ) (edges : List (ℕ × ℕ)) (all : AreNodes nodes edges) 
 
   told : (a b : ℕ) → HasEdge edges a b → (slice_index numbers a == slice_index numbers b ≡ true) ↔ Reaches edges b a
   told a b e =
-      let i = All-contains (λ (p : ℕ × ℕ). (p.0 < nodes) × (p.1 < nodes)) edges (a, b) all e in
-      (
+      let i = All-contains (λ (p : ℕ × ℕ). (p.0 < nodes) × (p.1 < nodes)) edges (a, b) all e in (
         λ q. back a b e (h.together b a i.1 i.0 (sym (eqb-true (slice_index numbers a) (slice_index numbers b) q))),
         λ r. eq-eqb (slice_index numbers a) (slice_index numbers b) (h.apart a b i.0 i.1 ([], e) r),
       )

@@ -13,8 +13,8 @@ use Rattle.std.proofs.lemmas.List.Elements.{All-contains}
 use Rattle.graph_check.specs.Walks.{HasEdge, IsWalk, AreNodes}
 use Rattle.graph_check.specs.Rows.{IsSourced}
 use Rattle.graph_check.specs.Among.{Among, first_of, rest_of}
-use Rattle.graph_check.specs.Components.{Leads, AreComponents}
-use Rattle.graph_check.specs.Grouping.{State, row_of, mark_of, At, above, below, up_to, all_settled, entered, skipped, merged, left, released, settled, Falls, IsLinked, IsMet, IsSettledBy, new_count, work_left, number_of, IsGrouped, Grows, IsStep}
+use Rattle.graph_check.specs.Components.{AreComponents}
+use Rattle.graph_check.specs.Grouping.{State, row_of, mark_of, At, above, below, up_to, all_settled, entered, skipped, merged, left, released, settled, Falls, IsLinked, IsMet, IsSettledBy, new_count, number_of, IsGrouped, Grows, IsStep}
 use Rattle.graph_check.proofs.Stacks.{begins, is_empty}
 use Rattle.graph_check.proofs.Leading.{leads_on, at_less, at_same, at_below, below_at, above_at, at_above, length_below, falls_up, falls_less, falls_up_to, up_to_among, up_to_le, up_to_cases, root_begins, linked_with, linked_below, relinked, down, spans, above_cons, below_cons, above_none, below_none, off_root}
 
@@ -343,9 +343,9 @@ module _ (nodes : ℕ) (edges : List (ℕ × ℕ)) (s : State) (h : IsGrouped no
           no_row i = elim (h.emptied y m k) [
             | inl q ↦ subst (Among x) q i
             | inr o ↦ elim (path_top m o) [
-                | inl q ↦ subst (Among x) (ap (row_of s) (at_same s.held m y b k (subst (λ (v : ℕ). At s.held v b) q at)) ∙ none) i
-                | inr j ↦ let l = falls_less p rest m falls.1 j in absurd (omega (arith, l, le))
-              ]
+              | inl q ↦ subst (Among x) (ap (row_of s) (at_same s.held m y b k (subst (λ (v : ℕ). At s.held v b) q at)) ∙ none) i
+              | inr j ↦ let l = falls_less p rest m falls.1 j in absurd (omega (arith, l, le))
+            ]
           ]
 
           tell : (v : Standing) → mark_of s x ≡ v → IsMet s.roots m v → IsSettledBy s.count (mark_of after x)
@@ -388,13 +388,13 @@ module _ (nodes : ℕ) (edges : List (ℕ × ℕ)) (s : State) (h : IsGrouped no
         numbered = λ x n m. elim (told x) [ inl j ↦ let f : n ≡ s.count = (let g = j.0 in cc) in omega (arith, f) | inr o ↦ let l = h.numbered x n (sym o.0 ∙ m) in omega (arith, l) ];
         together = λ x y n m k. elim (told x) [
           | inl i ↦ elim (told y) [
-              | inl j ↦ leads_on edges x b y (down edges s.roots s.held h.linked p i.1.0 b x at i.1.1 i.1.2) (spans edges s.roots s.held h.linked p roots_top j.1.0 b y at j.1.1)
-              | inr o ↦ let f : n ≡ s.count = (let g = i.0 in cc) in let l = h.numbered y n (sym o.0 ∙ k) in absurd (omega (arith, f, l))
-            ]
+            | inl j ↦ leads_on edges x b y (down edges s.roots s.held h.linked p i.1.0 b x at i.1.1 i.1.2) (spans edges s.roots s.held h.linked p roots_top j.1.0 b y at j.1.1)
+            | inr o ↦ let f : n ≡ s.count = (let g = i.0 in cc) in let l = h.numbered y n (sym o.0 ∙ k) in absurd (omega (arith, f, l))
+          ]
           | inr i ↦ elim (told y) [
-              | inl j ↦ let f : n ≡ s.count = (let g = j.0 in cc) in let l = h.numbered x n (sym i.0 ∙ m) in absurd (omega (arith, f, l))
-              | inr o ↦ h.together x y n (sym i.0 ∙ m) (sym o.0 ∙ k)
-            ]
+            | inl j ↦ let f : n ≡ s.count = (let g = j.0 in cc) in let l = h.numbered x n (sym i.0 ∙ m) in absurd (omega (arith, f, l))
+            | inr o ↦ h.together x y n (sym i.0 ∙ m) (sym o.0 ∙ k)
+          ]
         ];
         counted = omega (arith, h.counted, low, falls.0, all_fewer_new s.count (above p s.held) s.marks);
       }
@@ -411,7 +411,7 @@ pub joined_step : (nodes : ℕ) (edges : List (ℕ × ℕ)) (s : State) (h : IsG
     → HasEdge edges a b → mark_of s a ≡ Held q → (more : List ℕ) → row_of s b ≡ a ∷ more → IsStep nodes edges s (skipped (merged s q) b more)
 joined_step nodes edges s h b p rest is at a q edge mark more e =
     let i = skipped_step nodes edges (merged s q) (merged_grouped nodes edges s h b p rest is at a q edge mark) a b p more at (on_path nodes edges s h b p rest is at) e
-        (rw mark (λ r m. inl (up_to_le (length s.held) q s.roots r h.roots_fall m))) in
+    (rw mark (λ r m. inl (up_to_le (length s.held) q s.roots r h.roots_fall m))) in
     record { grouped = i.grouped; less = i.less; grows = i.grows }
 
 -- once nothing is held, the marks tell the components

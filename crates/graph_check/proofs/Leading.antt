@@ -1,12 +1,12 @@
 -- Walks are joined, and held nodes lead to each other.
-use Rattle.std.proofs.Common.{◌≡◌, ℕ, zero, suc, ◌+◌, ◌<◌, ◌≤◌, List, [], ◌∷◌, ◌++◌, ◌⊎◌, inl, inr, length, get_or, reverse, refl, sym, ap, subst, ◌∙◌, arith, true, false, length-append}
+use Rattle.std.proofs.Common.{◌≡◌, ℕ, zero, suc, ◌<◌, ◌≤◌, List, [], ◌∷◌, ◌++◌, ◌⊎◌, inl, inr, length, get_or, reverse, refl, sym, ap, subst, ◌∙◌, arith, true, false, length-append}
 use Rattle.std.proofs.lemmas.Bool.Decides.{leb_tells}
 use Rattle.std.proofs.lemmas.Bool.{le-leb, eqb-true, eq-eqb}
 use Rattle.std.specs.Prelude.{Option, Some, None}
 use Rattle.std.specs.Option.{option_eq}
 use lib.Dec.{eqb}
 use Rattle.std.proofs.lemmas.List.{reverse-append}
-use Rattle.graph_check.specs.Walks.{HasEdge, IsWalk, Reaches}
+use Rattle.graph_check.specs.Walks.{IsWalk, Reaches}
 use Rattle.graph_check.specs.Among.{Among, first_of}
 use Rattle.graph_check.specs.Components.{Leads}
 use Rattle.graph_check.specs.Grouping.{At, above, below, up_to, Falls, IsLinked}

@@ -317,11 +317,7 @@ impl Grouping {
 
 /// The number of each node's strong component: two nodes have one number exactly where each
 /// reaches the other. No edge leads from a node to one of a smaller number.
-pub fn components(
-    alloc: Global,
-    nodes: u32,
-    edges: &[(u32, u32)],
-) -> Result<Vec<u32>, AllocError>
+pub fn components(alloc: Global, nodes: u32, edges: &[(u32, u32)]) -> Result<Vec<u32>, AllocError>
     requires { AreNodes nodes edges.now }
     ensures { IfOk result (λ numbers. AreComponents nodes edges.now numbers.items) }
 {

@@ -1,4 +1,4 @@
-use Rattle.std.proofs.Common.{◌≡◌, ℕ, take, map}
+use Rattle.std.proofs.Common.{◌≡◌, take, map}
 use Rattle.graph_check.specs.Components.{same_number}
 use Rattle.graph_check.proofs.strong.cyclic_edges.Given as goal
 
