@@ -6,4 +6,7 @@ pub mod RowSteps
 pub mod Steps
 pub mod Ends
 pub mod Spreads
+pub mod Leading
+pub mod Groups
+pub mod Cyclic
 pub mod NoReturn

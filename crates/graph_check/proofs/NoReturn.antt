@@ -2,7 +2,7 @@
 use Rattle.std.proofs.Common.{◌≡◌, ℕ, zero, suc, ◌<◌, List, [], ◌∷◌, ap, ◌∙◌, arith}
 use Rattle.std.specs.Prelude.{Some, slice_get}
 use Rattle.std.proofs.lemmas.Option.{slice_get-get_or}
-use Rattle.graph_check.specs.Walks.{HasEdge, IsWalk, Reaches, IsOrder}
+use Rattle.graph_check.specs.Walks.{IsWalk, Reaches, IsOrder}
 
 module _ (nodes : ℕ) (edges : List (ℕ × ℕ)) (order : List ℕ) (h : IsOrder nodes edges order) where
   -- the start of a walk stands before its end
