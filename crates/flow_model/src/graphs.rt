@@ -185,6 +185,23 @@ pub struct LoopLine {
     pub maps: List<LeafMap>,
 }
 
+/// Where a graph's lines lead, by the places of its activities: what follows from its lists alone.
+#[derive(Drop)]
+pub struct Wiring {
+    /// An order of the activities in which each connector goes forward.
+    pub order: List<u32>,
+    /// For each activity the places of the connectors that lead to it.
+    pub incoming: List<List<u32>>,
+    /// For each activity the places of the connectors that leave it.
+    pub outgoing: List<List<u32>>,
+    /// For each activity the places of the data lines that lead to it.
+    pub feeding: List<List<u32>>,
+    /// The places of the data lines that lead to the scope's output.
+    pub sinking: List<u32>,
+    /// For each activity the places of its LOOP lines.
+    pub looping: List<List<u32>>,
+}
+
 /// A graph of activities with its connectors and data lines, in text order.
 #[cycle(graph)]
 #[derive(Drop)]
@@ -195,6 +212,7 @@ pub struct Graph {
     pub controls: List<Control>,
     pub lines: List<DataLine>,
     pub loops: List<LoopLine>,
+    pub wiring: Wiring,
 }
 
 /// A version of a process.

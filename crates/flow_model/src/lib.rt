@@ -19,7 +19,7 @@ pub use commands::{Command, Completion, Outcome, Query, RawSetting, RawValue, Ta
 pub use graphs::{
     Activity, Container, Control, DataLine, DoneBy, Expr, Graph, Join, Kind, Leaf, LeafMap,
     LeafName, Leaves, Library, LoopLine, MapEnd, Operand, Operator, PersonDef, Program, Step,
-    Template, Term, TextSide, Value, When, Work,
+    Template, Term, TextSide, Value, When, Wiring, Work,
 };
 pub use instances::{
     Fact, Fate, FateRow, Hold, ItemLine, Message, Mode, Part, Path, Phase, SourceEnd, Who, WorkLine,

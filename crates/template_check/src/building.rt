@@ -4,7 +4,7 @@ use crate::members::LeafTable;
 use crate::people::{Callee, Known, is_manual};
 use crate::scopes::{Scope, small};
 use crate::sizes::Shape;
-use crate::structures::Structures;
+use crate::wires::wiring;
 use conditions::{TypeFault, resolve};
 use containers::find_leaf;
 use flow_model::{
@@ -19,9 +19,8 @@ use std::alloc::{AllocError, Global};
 #[derive(Drop)]
 pub struct Builder<'a> {
     pub alloc: Global,
-    pub structures: &'a Structures<'a>,
-    pub table: &'a LeafTable<'a>,
-    pub known: &'a Known<'a>,
+    pub table: LeafTable<'a>,
+    pub known: Known<'a>,
 }
 
 /// The place of an activity, which is known to be one of the graph.
@@ -209,8 +208,11 @@ impl<'a> Builder<'a> {
         Ok(Activity {
             name: activity.name.name.copy(self.alloc)?,
             work,
-            input: self.structures.leaves(self.alloc, &activity.input)?,
-            output: self.structures.output_leaves(self.alloc, &activity.output)?,
+            input: self.table.structures().leaves(self.alloc, &activity.input)?,
+            output: self
+                .table
+                .structures()
+                .output_leaves(self.alloc, &activity.output)?,
             join: join_of(activity),
             exit: self.exit(activity)?,
         })
@@ -232,13 +234,23 @@ impl<'a> Builder<'a> {
                 activities.push(self.activity(&scope, activity)?)?;
             }
         }
+        let controls = self.controls(&scope)?;
+        let lines = self.lines(&scope)?;
+        let loops = self.loops(&scope)?;
         Ok(Graph {
-            input: self.structures.leaves(self.alloc, input)?,
-            output: self.structures.leaves(self.alloc, output)?,
+            input: self.table.structures().leaves(self.alloc, input)?,
+            output: self.table.structures().leaves(self.alloc, output)?,
+            wiring: wiring(
+                self.alloc,
+                activities.len(),
+                controls.as_slice(),
+                lines.as_slice(),
+                loops.as_slice(),
+            )?,
             activities,
-            controls: self.controls(&scope)?,
-            lines: self.lines(&scope)?,
-            loops: self.loops(&scope)?,
+            controls,
+            lines,
+            loops,
         })
     }
 

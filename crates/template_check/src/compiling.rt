@@ -241,7 +241,7 @@ fn first_sizes<'a>(
 fn judged_and_built<'a>(
     alloc: Global,
     tree: &'a Tree,
-    structures: &'a Structures<'a>,
+    structures: Structures<'a>,
     scopes: &[Scope<'a>],
     earlier: &'a Catalog,
 ) -> Result<Result<Compiled, (u8, u32)>, AllocError> {
@@ -254,14 +254,13 @@ fn judged_and_built<'a>(
         return Ok(Err(fault));
     }
     let shapes = shapes(alloc, &known)?;
-    if let Some(fault) = first_sizes(alloc, structures, &known, &shapes, scopes)? {
+    if let Some(fault) = first_sizes(alloc, table.structures(), &known, &shapes, scopes)? {
         return Ok(Err(fault));
     }
     let builder = Builder {
         alloc,
-        structures,
-        table: &table,
-        known: &known,
+        table,
+        known,
     };
     Ok(Ok(built(&builder, tree, &shapes)?))
 }
@@ -303,7 +302,7 @@ fn compile_tree(
     if let Some(fault) = first_connectors(alloc, &scopes)? {
         return Ok(Err(fault));
     }
-    judged_and_built(alloc, tree, &structures, &scopes, earlier)
+    judged_and_built(alloc, tree, structures, &scopes, earlier)
 }
 
 /// What a text adds to the library of the earlier imports.

@@ -18,6 +18,7 @@ mod people;
 mod scopes;
 mod sizes;
 mod structures;
+mod wires;
 
 pub use catalog::Catalog;
 pub use compiling::{Compiled, compile, line_of, syntax_tree};

@@ -14,7 +14,7 @@ use std::alloc::{AllocError, Global};
 /// The leaves of the structures that containers of a text have, with `_RC` and without, each made once.
 #[derive(Drop)]
 pub struct LeafTable<'a> {
-    structures: &'a Structures<'a>,
+    structures: Structures<'a>,
     inputs: IndexMap<u32, Leaves>,
     outputs: IndexMap<u32, Leaves>,
 }
@@ -23,7 +23,7 @@ impl<'a> LeafTable<'a> {
     /// The leaves that the containers of these graphs have.
     pub fn new(
         alloc: Global,
-        structures: &'a Structures<'a>,
+        structures: Structures<'a>,
         scopes: &[Scope<'a>],
     ) -> Result<LeafTable<'a>, AllocError> {
         let mut table = LeafTable {
@@ -66,6 +66,11 @@ impl<'a> LeafTable<'a> {
             }
         }
         Ok(())
+    }
+
+    /// The structures of the text.
+    pub fn structures(&self) -> &Structures<'a> {
+        &self.structures
     }
 
     /// The leaves of a structure, without `_RC`.

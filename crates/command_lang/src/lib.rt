@@ -1,0 +1,10 @@
+//! Which command, or which completion, does a line say?
+//!
+//! Knows the words of commands and the tokens of lines, not whether a command is allowed. Begin with
+//! [`read_command`]; `grammar` has the commands one by one.
+#![tactic(auto)]
+
+mod grammar;
+mod reading;
+
+pub use reading::{CommandFault, read_command, read_completion};

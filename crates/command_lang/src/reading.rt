@@ -1,0 +1,100 @@
+//! From the bytes of a line to what it says. Places are counted from 1.
+ghost use Rattle.std.specs.Prelude.{◌≡◌, ◌≤◌, length};
+ghost use Rattle.command_lang.specs.declared.reading.CommandFault.TheVariants.{NoMemory};
+
+use crate::grammar::{command, completion};
+use fdl_lexer::{LexFault, Tokens, lex};
+use fdl_parser::{Cursor, SyntaxFault};
+use flow_model::{Command, Completion};
+use std::alloc::{AllocError, Global};
+use thiserror::Error;
+
+/// Why a line says nothing that is served.
+#[derive(Clone, Copy, Debug, PartialEq, Eq, Drop, Error)]
+pub enum CommandFault {
+    /// The place of the first byte that may not stand in a line, else of the first place where no token
+    /// begins, else of the first token with which the tokens begin no command, else behind the last token.
+    #[error("Word")]
+    Word(u32),
+    /// There was no memory for it.
+    #[error("NoMemory")]
+    NoMemory,
+}
+
+impl From<AllocError> for CommandFault {
+    ghost from_gives = { λ _ e. e ≡ NoMemory };
+
+    fn from(_fault: AllocError) -> CommandFault {
+        CommandFault::NoMemory
+    }
+}
+
+/// A place counted from 1.
+fn from_one(place: u32) -> CommandFault {
+    CommandFault::Word(place.saturating_add(1))
+}
+
+fn may_stand(byte: u8) -> bool {
+    byte == b'\t' || byte == b'\r' || (b' '..=b'~').contains(&byte)
+}
+
+/// The tokens of a line.
+fn tokens_of(alloc: Global, line: &[u8]) -> Result<Tokens, CommandFault>
+    requires { length line.now ≤ 65536 }
+{
+    if let Some(place) = line.iter().position(|byte| !may_stand(*byte)) {
+        return Err(from_one(u32::try_from(place).unwrap_or(u32::MAX)));
+    }
+    match lex(alloc, line) {
+        Ok(tokens) => Ok(tokens),
+        Err(LexFault::Byte(place)) => Err(from_one(place)),
+        Err(LexFault::Token(place)) => Err(from_one(place)),
+        Err(LexFault::NoMemory) => Err(CommandFault::NoMemory),
+    }
+}
+
+/// The line up to the end of its last token; None where it has none.
+fn spoken<'a>(line: &'a [u8], tokens: &Tokens) -> Option<&'a [u8]> {
+    let last = tokens.items.as_slice().last()?;
+    Some(line.get(..last.to as usize).unwrap_or(line))
+}
+
+fn command_fault(fault: SyntaxFault) -> CommandFault {
+    match fault {
+        SyntaxFault::At(place) => from_one(place),
+        SyntaxFault::NoMemory => CommandFault::NoMemory,
+    }
+}
+
+/// The command of a line.
+///
+/// None comes where the line has only blanks and comments, and `Word` where that doesn't hold and the
+/// line is no command.
+pub fn read_command(alloc: Global, line: &[u8]) -> Result<Option<Command>, CommandFault>
+    requires { length line.now ≤ 65536 }
+{
+    let tokens = tokens_of(alloc, line)?;
+    let Some(spoken) = spoken(line, &tokens) else {
+        return Ok(None);
+    };
+    let mut cursor = Cursor::new(alloc, spoken, tokens.items.as_slice());
+    match command(&mut cursor) {
+        Ok(command) => Ok(Some(command)),
+        Err(fault) => Err(command_fault(fault)),
+    }
+}
+
+/// The completion of a line, with None and `Word` as for commands.
+pub fn read_completion(alloc: Global, line: &[u8]) -> Result<Option<Completion>, CommandFault>
+    requires { length line.now ≤ 65536 }
+{
+    let tokens = tokens_of(alloc, line)?;
+    let Some(spoken) = spoken(line, &tokens) else {
+        return Ok(None);
+    };
+    let mut cursor = Cursor::new(alloc, spoken, tokens.items.as_slice());
+    match completion(&mut cursor) {
+        Ok(completion) => Ok(Some(completion)),
+        Err(fault) => Err(command_fault(fault)),
+    }
+}
