@@ -23,7 +23,7 @@ kind_of Text = 6
 kind_of (Mark mark) = 7
 
 -- the only kind that may begin with these two bytes
-pub kind_at : ℕ → ℕ → ℕ
+unfoldable pub kind_at : ℕ → ℕ → ℕ
 kind_at a b =
     cond (is_ascii_alphabetic a) 1
     (cond (is_ascii_digit a) 5

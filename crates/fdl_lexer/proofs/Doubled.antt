@@ -21,7 +21,7 @@ pub doubled-append : (xs ys : List ℕ) → doubled (xs ++ ys) ≡ doubled xs ++
 doubled-append [] ys = refl
 doubled-append (x ∷ xs) ys = grind (arith, common_steps, nat_tests, doubled-append xs ys)
 
-too_long : (x : ℕ) (xs t r : List ℕ) (b : Bool) → eqb x 34 ≡ b → doubled (x ∷ xs) ++ t ≡ 34 ∷ r → slice_index r 0 ≢ 34 → ⊥
+pub too_long : (x : ℕ) (xs t r : List ℕ) (b : Bool) → eqb x 34 ≡ b → doubled (x ∷ xs) ++ t ≡ 34 ∷ r → slice_index r 0 ≢ 34 → ⊥
 too_long x xs t r true quote e stop =
     let f : 34 ∷ 34 ∷ (doubled xs ++ t) ≡ 34 ∷ r = rw (doubled_quote x xs quote) at e in
     let g : 34 ∷ (doubled xs ++ t) ≡ r = cc in

@@ -41,5 +41,5 @@ pub no_end : (bytes : List ℕ) (n k : ℕ) → length bytes ≤ n + 1 → ((j :
 no_end bytes n k le none h =
     elim (cases_lt k n) [
       | inl below ↦ none k h.behind below h.ends
-      | inr above ↦ let e : get_or bytes (k + 1) 0 ≡ 0 = get_or_past bytes (k + 1) 0 (omega arith) in let f : 0 ≡ 47 = sym e ∙ h.ends.1 in absurd (omega arith)
+      | inr above ↦ let e : get_or bytes (k + 1) 0 ≡ 0 = get_or_past bytes (k + 1) 0 (omega arith) in let f : get_or bytes (k + 1) 0 ≡ 47 = h.ends.1 in absurd (omega arith)
     ]

@@ -72,6 +72,12 @@ abbrev pub Scans : List ℕ → ℕ → List Placed → ℕ → Type 0
 Scans text at [] end = end ≡ at
 Scans text at (t ∷ ts) end = IsNext text at t × Scans text t.to ts end
 
+-- this token stands in the text
+pub record IsPlaced (text : List ℕ) (t : Placed) : Type 0 where
+  pub some : t.from < t.to
+  pub within : t.to ≤ length text
+  pub spelled : Spells t.what (t.to - t.from) (drop t.from text)
+
 -- each byte may stand in a text
 abbrev pub AreAllowed : List ℕ → Type 0
 AreAllowed text = AllPass is_allowed text

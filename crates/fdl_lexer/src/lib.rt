@@ -8,11 +8,13 @@
 mod bytes;
 mod gap;
 mod kinds;
+mod laws;
 mod lexer;
 mod quoted;
 mod scan;
 
 pub use kinds::{LexFault, Token, Tokens, What};
+pub use laws::one_outcome;
 pub use lexer::lex;
 pub use quoted::text_value;
 
