@@ -1,3 +1,9 @@
 pub mod formers
 pub mod Words
 pub mod Paths
+pub mod Containers
+pub mod Conditions
+pub mod Fates
+pub mod ScopeContainers
+pub mod Scopes
+pub mod Rows

@@ -203,6 +203,10 @@ pub struct Template {
     pub name: Name,
     pub version: u32,
     pub graph: Graph,
+    /// How deep blocks and subprocesses nest in it.
+    pub depth: u32,
+    /// Its connectors, 2, and the sizes of its blocks and of the processes that it calls, at each use.
+    pub size: u32,
 }
 
 /// A person with the roles of the latest declaration.

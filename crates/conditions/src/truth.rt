@@ -1,0 +1,101 @@
+//! The value of a condition on a container.
+ghost use Rattle.std.specs.Prelude.{◌≡◌, ◌≤◌, length, slice_get, Option, List, ℕ, true, false};
+ghost use Rattle.flow_model.specs.Conditions.{truth, holds as is_held, satisfies as is_satisfied, side_text, operand_value as number_of};
+
+use flow_model::{Container, Expr, Operand, Operator, Term, TextSide, Value};
+use std::cmp::Ordering;
+
+/// Whether a comparison asks for this order of its sides.
+fn satisfies(operator: Operator, order: Ordering) -> bool
+    ensures { result ≡ is_satisfied operator order }
+{
+    match operator {
+        Operator::Eq => order.is_eq(),
+        Operator::Ne => order.is_ne(),
+        Operator::Lt => order.is_lt(),
+        Operator::Le => order.is_le(),
+        Operator::Gt => order.is_gt(),
+        Operator::Ge => order.is_ge(),
+    }
+}
+
+/// The number of an operand; a leaf that holds none counts as 0.
+fn operand_value(operand: Operand, container: &Container) -> i64
+    ensures { result ≡ number_of operand container.now }
+{
+    match operand {
+        Operand::Number(number) => number,
+        Operand::Leaf(place) => match container.values.as_slice().get(place as usize) {
+            Some(Value::Whole(number)) => *number,
+            Some(Value::Text(_)) => 0,
+            None => 0,
+        },
+    }
+}
+
+/// The sum of the terms; it is exact where there are at most 64.
+fn sum(terms: &[Term], container: &Container) -> i128 {
+    let mut so_far = 0i128;
+    for term in terms {
+        let operand = i128::from(operand_value(term.operand, container));
+        so_far = if term.minus {
+            so_far.saturating_sub(operand)
+        } else {
+            so_far.saturating_add(operand)
+        };
+    }
+    so_far
+}
+
+/// The text of a side; a leaf that holds none counts as empty.
+fn text<'a>(side: &'a TextSide, container: &'a Container) -> &'a [u8]
+    ensures { result.now ≡ side_text side.now container.now }
+{
+    match side {
+        TextSide::Text(text) => text.as_slice(),
+        TextSide::Leaf(place) => match container.values.as_slice().get(*place as usize) {
+            Some(Value::Text(text)) => text.as_slice(),
+            Some(Value::Whole(_)) => &[],
+            None => &[],
+        },
+    }
+}
+
+/// The value of a condition on a container.
+pub fn value(e: &Expr, container: &Container) -> bool {
+    match e {
+        Expr::Or(members) => {
+            for member in members.as_slice() {
+                if value(member, container) {
+                    return true;
+                }
+            }
+            false
+        }
+        Expr::And(members) => {
+            for member in members.as_slice() {
+                if !value(member, container) {
+                    return false;
+                }
+            }
+            true
+        }
+        Expr::Not(member) => !value(member, container),
+        Expr::Whole(operator, left, right) => {
+            let left = sum(left.as_slice(), container);
+            let right = sum(right.as_slice(), container);
+            satisfies(*operator, left.cmp(&right))
+        }
+        Expr::Texts(operator, left, right) => {
+            satisfies(*operator, text(left, container).cmp(text(right, container)))
+        }
+    }
+}
+
+/// The value of a condition that may be absent; then it is true.
+pub fn holds(e: &Option<Expr>, container: &Container) -> bool {
+    match e {
+        None => true,
+        Some(e) => value(e, container),
+    }
+}

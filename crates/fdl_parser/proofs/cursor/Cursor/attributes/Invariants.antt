@@ -1,0 +1,8 @@
+use Rattle.std.proofs.Common.{◌≤◌, ◌<◌, length}
+use Rattle.fdl_parser.proofs.cursor.Cursor.attributes.Given as goal
+
+abbrev pub invariant-loop-attributes : goal.invariant-loop-attributes
+invariant-loop-attributes l = length l.self ≤ length l.fn.self
+
+abbrev pub decreases-loop-attributes : goal.decreases-loop-attributes
+decreases-loop-attributes l = length l.self

@@ -1,0 +1,8 @@
+use Rattle.std.proofs.Common.{◌≤◌, ◌<◌, length}
+use Rattle.fdl_parser.proofs.cursor.Cursor.structure.Given as goal
+
+abbrev pub invariant-loop-members : goal.invariant-loop-members
+invariant-loop-members l = length l.self < length l.fn.self
+
+abbrev pub decreases-loop-members : goal.decreases-loop-members
+decreases-loop-members l = length l.self

@@ -1,0 +1,160 @@
+//! Conditions.
+ghost use Rattle.std.specs.Prelude.{◌≡◌, ◌<◌, length, IfOk};
+
+use crate::cursor::{Cursor, SyntaxFault, mark};
+use fdl_lexer::What;
+use flow_model::{Cond, CondAt, List, OperandTree, Operator, Side, TermTree};
+use flow_table::keyword;
+use std::alloc::Global;
+
+/// How many levels of NOT and parentheses a condition may have.
+const LEVELS: u32 = 64;
+
+/// The comparison of a mark.
+fn operator_of(what: Option<What>) -> Option<Operator> {
+    match what {
+        Some(What::Mark(mark::EQUAL)) => Some(Operator::Eq),
+        Some(What::Mark(mark::NOT_EQUAL)) => Some(Operator::Ne),
+        Some(What::Mark(mark::LESS)) => Some(Operator::Lt),
+        Some(What::Mark(mark::AT_MOST)) => Some(Operator::Le),
+        Some(What::Mark(mark::GREATER)) => Some(Operator::Gt),
+        Some(What::Mark(mark::AT_LEAST)) => Some(Operator::Ge),
+        _ => None,
+    }
+}
+
+/// The mark of a comparison.
+fn mark_of(operator: Operator) -> u8 {
+    match operator {
+        Operator::Eq => mark::EQUAL,
+        Operator::Ne => mark::NOT_EQUAL,
+        Operator::Lt => mark::LESS,
+        Operator::Le => mark::AT_MOST,
+        Operator::Gt => mark::GREATER,
+        Operator::Ge => mark::AT_LEAST,
+    }
+}
+
+impl<'a> Cursor<'a> {
+    fn operand(&mut self) -> Result<OperandTree, SyntaxFault>
+        ensures { IfOk result (λ _. length self.new < length self.old) }
+    {
+        if self.is_next(What::Name) || self.is_next(What::Rc) {
+            return Ok(OperandTree::Leaf(self.leaf()?));
+        }
+        Ok(OperandTree::Number(self.signed()?))
+    }
+
+    /// Takes `+` or `-` and an operand.
+    fn next_term(&mut self) -> Result<TermTree, SyntaxFault>
+        ensures { IfOk result (λ _. length self.new < length self.old) }
+    {
+        let minus = self.is_mark(mark::MINUS);
+        self.mark(if minus { mark::MINUS } else { mark::PLUS })?;
+        let operand = self.operand()?;
+        Ok(TermTree { minus, operand })
+    }
+
+    fn side(&mut self) -> Result<Side, SyntaxFault>
+        ensures { IfOk result (λ _. length self.new < length self.old) }
+    {
+        if self.is_next(What::Text) {
+            let (text, place) = self.text()?;
+            return Ok(Side::Text(text, place));
+        }
+        let mut terms = List::new(self.alloc());
+        let operand = self.operand()?;
+        terms.push(TermTree {
+            minus: false,
+            operand,
+        })?;
+        while self.is_mark(mark::PLUS) || self.is_mark(mark::MINUS) {
+            terms.push(self.next_term()?)?;
+        }
+        Ok(Side::Sum(terms))
+    }
+
+    fn comparison(&mut self) -> Result<Cond, SyntaxFault>
+        ensures { IfOk result (λ _. length self.new < length self.old) }
+    {
+        let left = self.side()?;
+        let Some(operator) = operator_of(self.peek()) else {
+            return Err(self.fault());
+        };
+        self.mark(mark_of(operator))?;
+        let right = self.side()?;
+        Ok(Cond::Compare(left, operator, right))
+    }
+
+    /// Takes NOT and what it denies, or a condition in parentheses, or a comparison.
+    #[cycle(condition)]
+    fn negation(&mut self, levels: u32) -> Result<Cond, SyntaxFault>
+        ensures { IfOk result (λ _. length self.new < length self.old) }
+    {
+        let denies = self.is_word(keyword::NOT);
+        if !denies && !self.is_mark(mark::OPEN) {
+            return self.comparison();
+        }
+        if levels == 0 {
+            return Err(self.fault());
+        }
+        if denies {
+            self.word(keyword::NOT)?;
+            let denied = self.negation(levels - 1)?;
+            return not_of(self.alloc(), denied);
+        }
+        self.mark(mark::OPEN)?;
+        let inner = self.disjunction(levels - 1)?;
+        self.mark(mark::CLOSE)?;
+        Ok(inner)
+    }
+
+    #[cycle(condition)]
+    fn conjunction(&mut self, levels: u32) -> Result<Cond, SyntaxFault>
+        ensures { IfOk result (λ _. length self.new < length self.old) }
+    {
+        let first = self.negation(levels)?;
+        if !self.is_word(keyword::AND) {
+            return Ok(first);
+        }
+        let mut members = List::new(self.alloc());
+        members.push(first)?;
+        while self.is_word(keyword::AND) {
+            self.word(keyword::AND)?;
+            members.push(self.negation(levels)?)?;
+        }
+        Ok(Cond::And(members))
+    }
+
+    #[cycle(condition)]
+    fn disjunction(&mut self, levels: u32) -> Result<Cond, SyntaxFault>
+        ensures { IfOk result (λ _. length self.new < length self.old) }
+    {
+        let first = self.conjunction(levels)?;
+        if !self.is_word(keyword::OR) {
+            return Ok(first);
+        }
+        let mut members = List::new(self.alloc());
+        members.push(first)?;
+        while self.is_word(keyword::OR) {
+            self.word(keyword::OR)?;
+            members.push(self.conjunction(levels)?)?;
+        }
+        Ok(Cond::Or(members))
+    }
+
+    /// Takes a condition in the parentheses of WHEN.
+    pub(crate) fn condition(&mut self) -> Result<CondAt, SyntaxFault>
+        ensures { IfOk result (λ _. length self.new < length self.old) }
+    {
+        let place = self.mark(mark::OPEN)?;
+        let cond = self.disjunction(LEVELS)?;
+        self.mark(mark::CLOSE)?;
+        Ok(CondAt { place, cond })
+    }
+}
+
+fn not_of(alloc: Global, denied: Cond) -> Result<Cond, SyntaxFault> {
+    let boxed = Box::new(alloc, denied).map_err(|_| SyntaxFault::NoMemory)?;
+    Ok(Cond::Not(boxed))
+}

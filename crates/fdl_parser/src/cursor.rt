@@ -1,0 +1,295 @@
+//! The tokens that are left to read, and the parts that one or two of them make.
+ghost use Rattle.std.specs.Prelude.{◌≡◌, ◌<◌, ◌≤◌, ◌+◌, length, IfOk, ◌==◌};
+ghost use Rattle.fdl_parser.specs.declared.cursor.SyntaxFault.TheVariants.{NoMemory};
+
+use fdl_lexer::{Token, What, text_value};
+use flow_model::{Bytes, LeafAt, List, Name, NameAt, NameFault, NumberAt, StepTree, Txt};
+use std::alloc::{AllocError, Global};
+use std::marker::Model;
+use thiserror::Error;
+
+/// The numbers of the marks, from 1 in the order in which the lexer counts them.
+pub mod mark {
+    pub const OPEN: u8 = 1;
+
+    pub const CLOSE: u8 = 2;
+
+    pub const COMMA: u8 = 3;
+
+    pub const SEMICOLON: u8 = 4;
+
+    pub const COLON: u8 = 5;
+
+    pub const DOT: u8 = 6;
+
+    pub const OPEN_BRACKET: u8 = 7;
+
+    pub const CLOSE_BRACKET: u8 = 8;
+
+    pub const EQUAL: u8 = 9;
+
+    pub const NOT_EQUAL: u8 = 10;
+
+    pub const LESS: u8 = 11;
+
+    pub const AT_MOST: u8 = 12;
+
+    pub const GREATER: u8 = 13;
+
+    pub const AT_LEAST: u8 = 14;
+
+    pub const PLUS: u8 = 15;
+
+    pub const MINUS: u8 = 16;
+}
+
+/// Why tokens have no tree.
+#[derive(Clone, Copy, Debug, PartialEq, Eq, Drop, Error)]
+pub enum SyntaxFault {
+    /// The place of the first token with which the tokens begin no text of the grammar, or the text's length.
+    #[error("At")]
+    At(u32),
+    /// There was no memory for the tree.
+    #[error("NoMemory")]
+    NoMemory,
+}
+
+impl From<AllocError> for SyntaxFault {
+    ghost from_gives = { λ _ e. e ≡ NoMemory };
+
+    fn from(_fault: AllocError) -> SyntaxFault {
+        SyntaxFault::NoMemory
+    }
+}
+
+/// The tokens of a text that are left to read; contracts see it as their list.
+#[derive(Drop)]
+pub struct Cursor<'a> {
+    alloc: Global,
+    text: &'a [u8],
+    left: &'a [Token],
+}
+
+impl<'a> Model for Cursor<'a> {
+    ghost use Rattle.std.specs.Prelude.{List as Seq};
+    ghost use Rattle.fdl_lexer.specs.declared.kinds.Token.{Token};
+
+    ghost Value = { Seq Token };
+
+    ghost view = { λ c. c.left.now };
+}
+
+impl<'a> Cursor<'a> {
+    /// All tokens of a text.
+    pub fn new(alloc: Global, text: &'a [u8], tokens: &'a [Token]) -> Cursor<'a>
+        ensures { result ≡ tokens.now }
+    {
+        Cursor {
+            alloc,
+            text,
+            left: tokens,
+        }
+    }
+
+    /// The allocator for what is made of the tokens.
+    pub fn alloc(&self) -> Global {
+        self.alloc
+    }
+
+    /// What the next token is.
+    pub fn peek(&self) -> Option<What> {
+        self.left.first().map(|token| token.what)
+    }
+
+    /// Whether no token is left.
+    pub fn is_at_end(&self) -> bool
+        ensures { result ≡ (length self.now == 0) }
+    {
+        self.left.is_empty()
+    }
+
+    /// Where the next token stands, or the text's length.
+    pub fn place(&self) -> u32 {
+        match self.left.first() {
+            Some(token) => token.from,
+            None => u32::try_from(self.text.len()).unwrap_or(u32::MAX),
+        }
+    }
+
+    /// The fault of the next token.
+    pub fn fault(&self) -> SyntaxFault {
+        SyntaxFault::At(self.place())
+    }
+
+    /// Whether the next token is this one.
+    pub fn is_next(&self, what: What) -> bool {
+        self.peek() == Some(what)
+    }
+
+    /// Whether the next token is this word.
+    pub fn is_word(&self, word: u8) -> bool {
+        self.is_next(What::Word(word))
+    }
+
+    /// Whether the next token is this mark.
+    pub fn is_mark(&self, mark: u8) -> bool {
+        self.is_next(What::Mark(mark))
+    }
+
+    /// Takes the next token, if it is this one; gives its place.
+    pub fn token(&mut self, what: What) -> Result<u32, SyntaxFault>
+        ensures { IfOk result (λ _. length self.new < length self.old) }
+    {
+        match self.left {
+            [token, rest @ ..] if token.what == what => {
+                self.left = rest;
+                Ok(token.from)
+            }
+            _ => Err(self.fault()),
+        }
+    }
+
+    /// Takes the next token, if it is this word; gives its place.
+    pub fn word(&mut self, word: u8) -> Result<u32, SyntaxFault>
+        ensures { IfOk result (λ _. length self.new < length self.old) }
+    {
+        self.token(What::Word(word))
+    }
+
+    /// Takes the next token, if it is this mark; gives its place.
+    pub fn mark(&mut self, mark: u8) -> Result<u32, SyntaxFault>
+        ensures { IfOk result (λ _. length self.new < length self.old) }
+    {
+        self.token(What::Mark(mark))
+    }
+
+    /// Takes the next token, if it is of a kind that is read from its bytes; gives these and its place.
+    fn spelled(&mut self, what: What) -> Result<(&'a [u8], u32), SyntaxFault>
+        ensures { IfOk result (λ _. length self.new < length self.old) }
+    {
+        match self.left {
+            [token, rest @ ..] if token.what == what => {
+                let Some(bytes) = self.text.get(token.from as usize..token.to as usize) else {
+                    return Err(self.fault());
+                };
+                self.left = rest;
+                Ok((bytes, token.from))
+            }
+            _ => Err(self.fault()),
+        }
+    }
+
+    /// Takes a name.
+    pub fn name(&mut self) -> Result<NameAt, SyntaxFault>
+        ensures { IfOk result (λ _. length self.new < length self.old) }
+    {
+        let (bytes, place) = self.spelled(What::Name)?;
+        match Name::new(self.alloc, unquoted(bytes)) {
+            Ok(name) => Ok(NameAt { name, place }),
+            Err(NameFault::Bad) => Err(SyntaxFault::At(place)),
+            Err(NameFault::NoMemory) => Err(SyntaxFault::NoMemory),
+        }
+    }
+
+    /// Takes a text; gives its place too.
+    pub fn text(&mut self) -> Result<(Txt, u32), SyntaxFault>
+        ensures { IfOk result (λ _. length self.new < length self.old) }
+    {
+        let (bytes, place) = self.spelled(What::Text)?;
+        let value = text_value(self.alloc, bytes)?;
+        match Txt::new(self.alloc, &value) {
+            Ok(text) => Ok((text, place)),
+            Err(NameFault::Bad) => Err(SyntaxFault::At(place)),
+            Err(NameFault::NoMemory) => Err(SyntaxFault::NoMemory),
+        }
+    }
+
+    /// Takes an item, with its quotes.
+    pub fn item(&mut self) -> Result<Bytes, SyntaxFault>
+        ensures { IfOk result (λ _. length self.new < length self.old) }
+    {
+        let (bytes, _place) = self.spelled(What::Item)?;
+        Ok(Bytes::new(self.alloc, bytes)?)
+    }
+
+    /// Takes a number without a sign.
+    pub fn number(&mut self) -> Result<NumberAt, SyntaxFault>
+        ensures { IfOk result (λ _. length self.new < length self.old) }
+    {
+        match self.peek() {
+            Some(What::Number(size)) => {
+                let place = self.token(What::Number(size))?;
+                Ok(NumberAt {
+                    minus: None,
+                    size,
+                    place,
+                })
+            }
+            _ => Err(self.fault()),
+        }
+    }
+
+    /// Takes a number, with a `-` before it or without.
+    pub fn signed(&mut self) -> Result<NumberAt, SyntaxFault>
+        ensures { IfOk result (λ _. length self.new < length self.old) }
+    {
+        if !self.is_mark(mark::MINUS) {
+            return self.number();
+        }
+        let minus = self.mark(mark::MINUS)?;
+        let number = self.number()?;
+        Ok(NumberAt {
+            minus: Some(minus),
+            size: number.size,
+            place: number.place,
+        })
+    }
+
+    /// Takes the first step of a leaf: a name or `'_RC'`; gives its place too.
+    fn first_step(&mut self) -> Result<(StepTree, u32), SyntaxFault>
+        ensures { IfOk result (λ _. length self.new < length self.old) }
+    {
+        if self.is_next(What::Rc) {
+            let place = self.token(What::Rc)?;
+            return Ok((StepTree::Rc, place));
+        }
+        let member = self.name()?;
+        Ok((StepTree::Member(member.name), member.place))
+    }
+
+    /// Takes `. name` or `[ number ]`.
+    fn next_step(&mut self) -> Result<StepTree, SyntaxFault>
+        ensures { IfOk result (λ _. length self.new < length self.old) }
+    {
+        if self.is_mark(mark::DOT) {
+            self.mark(mark::DOT)?;
+            let member = self.name()?;
+            return Ok(StepTree::Member(member.name));
+        }
+        self.mark(mark::OPEN_BRACKET)?;
+        let number = self.number()?;
+        self.mark(mark::CLOSE_BRACKET)?;
+        Ok(StepTree::Place(number.size))
+    }
+
+    /// Takes a leaf.
+    pub fn leaf(&mut self) -> Result<LeafAt, SyntaxFault>
+        ensures { IfOk result (λ _. length self.new < length self.old) }
+    {
+        let (first, place) = self.first_step()?;
+        let mut steps = List::new(self.alloc);
+        steps.push(first)?;
+        while self.is_mark(mark::DOT) || self.is_mark(mark::OPEN_BRACKET) {
+            steps.push(self.next_step()?)?;
+        }
+        Ok(LeafAt { steps, place })
+    }
+}
+
+/// The bytes between the quotes.
+fn unquoted(bytes: &[u8]) -> &[u8] {
+    match bytes {
+        [_, inner @ .., _] => inner,
+        _ => bytes,
+    }
+}

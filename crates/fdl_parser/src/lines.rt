@@ -1,0 +1,98 @@
+//! CONTROL and DATA lines.
+ghost use Rattle.std.specs.Prelude.{◌≡◌, ◌<◌, ◌≤◌, length, IfOk};
+
+use crate::cursor::{Cursor, SyntaxFault, mark};
+use flow_model::{ControlTree, DataTree, EndTree, EndsTree, List, MapTree, WhenTree};
+use flow_table::keyword;
+
+impl<'a> Cursor<'a> {
+    /// Takes the transition condition of a connector, if one stands there.
+    fn transition(&mut self) -> Result<WhenTree, SyntaxFault>
+        ensures { IfOk result (λ _. length self.new ≤ length self.old) }
+    {
+        if self.is_word(keyword::OTHERWISE) {
+            self.word(keyword::OTHERWISE)?;
+            return Ok(WhenTree::Otherwise);
+        }
+        if self.is_word(keyword::WHEN) {
+            self.word(keyword::WHEN)?;
+            let cond = self.condition()?;
+            return Ok(WhenTree::Cond(cond));
+        }
+        Ok(WhenTree::Always)
+    }
+
+    pub(crate) fn control(&mut self) -> Result<ControlTree, SyntaxFault>
+        ensures { IfOk result (λ _. length self.new < length self.old) }
+    {
+        let place = self.word(keyword::CONTROL)?;
+        self.word(keyword::FROM)?;
+        let from = self.name()?;
+        self.word(keyword::TO)?;
+        let to = self.name()?;
+        let when = self.transition()?;
+        Ok(ControlTree {
+            place,
+            from,
+            to,
+            when,
+        })
+    }
+
+    /// Takes an activity's name, or the word for the scope's own container.
+    fn end(&mut self, border: u8) -> Result<EndTree, SyntaxFault>
+        ensures { IfOk result (λ _. length self.new < length self.old) }
+    {
+        if self.is_word(border) {
+            self.word(border)?;
+            return Ok(EndTree::Border);
+        }
+        Ok(EndTree::Activity(self.name()?))
+    }
+
+    /// Takes what stands between DATA and MAP.
+    fn ends(&mut self) -> Result<EndsTree, SyntaxFault>
+        ensures { IfOk result (λ _. length self.new < length self.old) }
+    {
+        if self.is_word(keyword::LOOP) {
+            self.word(keyword::LOOP)?;
+            return Ok(EndsTree::Loop(self.name()?));
+        }
+        self.word(keyword::FROM)?;
+        let from = self.end(keyword::SOURCE)?;
+        self.word(keyword::TO)?;
+        let to = self.end(keyword::SINK)?;
+        Ok(EndsTree::Line(from, to))
+    }
+
+    fn map(&mut self) -> Result<MapTree, SyntaxFault>
+        ensures { IfOk result (λ _. length self.new < length self.old) }
+    {
+        let from = self.leaf()?;
+        self.word(keyword::TO)?;
+        let to = self.leaf()?;
+        Ok(MapTree { from, to })
+    }
+
+    fn maps(&mut self) -> Result<List<MapTree>, SyntaxFault>
+        ensures { IfOk result (λ _. length self.new < length self.old) }
+    {
+        self.word(keyword::MAP)?;
+        let mut maps = List::new(self.alloc());
+        maps.push(self.map()?)?;
+        while self.is_mark(mark::COMMA) {
+            self.mark(mark::COMMA)?;
+            maps.push(self.map()?)?;
+        }
+        Ok(maps)
+    }
+
+    pub(crate) fn data_line(&mut self) -> Result<DataTree, SyntaxFault>
+        ensures { IfOk result (λ _. length self.new < length self.old) }
+    {
+        let place = self.word(keyword::DATA)?;
+        let ends = self.ends()?;
+        let maps = self.maps()?;
+        Ok(DataTree { place, ends, maps })
+    }
+}

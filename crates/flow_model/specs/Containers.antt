@@ -1,0 +1,55 @@
+-- Containers: a value for each leaf, and maps that copy leaves.
+use Rattle.std.specs.Prelude.{◌≡◌, ◌⊎◌, ℕ, ◌<◌, pos, true, Option, Some, None, List, [], ◌∷◌, map, length, slice_get, slice_set}
+use Rattle.std.specs.List.{All}
+use Rattle.flow_model.specs.Words.{is_text}
+use Rattle.flow_model.specs.declared.graphs.Container.{Container}
+use Rattle.flow_model.specs.declared.graphs.Value.{Value}
+use Rattle.flow_model.specs.declared.graphs.Value.TheVariants.{Whole, Text}
+use Rattle.flow_model.specs.declared.graphs.Kind.{Kind}
+use Rattle.flow_model.specs.declared.graphs.Kind.TheVariants.{Long, Str}
+use Rattle.flow_model.specs.declared.graphs.Leaf.{Leaf}
+use Rattle.flow_model.specs.declared.graphs.Leaves.{Leaves}
+use Rattle.flow_model.specs.declared.graphs.LeafMap.{LeafMap}
+
+-- the value of a leaf in a fresh container: zero, or the empty text
+abbrev pub first_value : Kind → Value
+first_value Long = Whole (pos 0)
+first_value Str = Text []
+
+-- a container in which nothing is set
+abbrev pub fresh : Leaves → Container
+fresh of = record { values = map (λ leaf. first_value leaf.kind) of.leaves }
+
+-- a value of the output of a block or subprocess has the return code 0 before it
+abbrev pub with_return_code : Container → Container
+with_return_code c = record { values = Whole (pos 0) ∷ c.values }
+
+-- one leaf is set, where there is a value for it
+abbrev pub put : Option Value → ℕ → Container → Container
+put None to target = target
+put (Some v) to target = record { values = slice_set target.values to v }
+
+-- the maps in text order, so that the later wins
+abbrev pub mapped : List LeafMap → Container → Container → Container
+mapped [] source target = target
+mapped (m ∷ maps) source target = mapped maps source (put (slice_get source.values m.from) m.to target)
+
+-- ---- what fits
+
+abbrev pub kind_of : Value → Kind
+kind_of (Whole n) = Long
+kind_of (Text t) = Str
+
+-- one value for each leaf, of its kind
+abbrev pub Fits : Container → Leaves → Type 0
+Fits c of = map kind_of c.values ≡ map (λ leaf. leaf.kind) of.leaves
+
+-- both leaves of a map are there, and have one kind
+abbrev pub JoinsKinds : List Kind → List Kind → LeafMap → Type 0
+JoinsKinds source target m = (k : Kind) × (slice_get source m.from ≡ Some k) × (slice_get target m.to ≡ Some k)
+
+abbrev pub kinds : Leaves → List Kind
+kinds of = map (λ leaf. leaf.kind) of.leaves
+
+abbrev pub MapsFit : List LeafMap → List Kind → List Kind → Type 0
+MapsFit maps source target = All (JoinsKinds source target) maps

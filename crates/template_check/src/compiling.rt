@@ -1,0 +1,318 @@
+//! The rules in their order, and what an accepted text compiles to.
+use crate::building::Builder;
+use crate::catalog::Catalog;
+use crate::connectors::{
+    cycle, double_connector, empty_graph, otherwise, unknown_activity, unreachable_data,
+};
+use crate::faults::{ImportFault, RuleFault};
+use crate::least::lesser;
+use crate::members::{LeafTable, Search, leaf_fault};
+use crate::names::{duplicate, end_name};
+use crate::people::{Known, container_mismatch, performer, unknown_person, unknown_process};
+use crate::scopes::{Scope, small, text_scopes};
+use crate::sizes::{Shape, count_limit, expanded_size, nesting, number, shapes};
+use crate::structures::Structures;
+use fdl_lexer::{LexFault, lex};
+use fdl_parser::{SyntaxFault, parse};
+use flow_model::{ItemTree, List, PersonDef, Template, Tree};
+use std::alloc::{AllocError, Global};
+
+/// A text has at most so many bytes.
+const MOST_BYTES: usize = 1_048_576;
+
+/// What an accepted text adds to the library.
+#[derive(Drop)]
+pub struct Compiled {
+    pub templates: List<Template>,
+    pub people: List<PersonDef>,
+}
+
+/// The line of a place: 1 and the number of line feeds before it.
+pub fn line_of(text: &[u8], place: u32) -> u32 {
+    let before = text.get(..place as usize).unwrap_or(text);
+    small(before.iter().filter(|byte| **byte == b'\n').count()).saturating_add(1)
+}
+
+fn fault(text: &[u8], rule: u8, place: u32) -> ImportFault {
+    ImportFault::Rule(RuleFault {
+        rule,
+        line: line_of(text, place),
+        place,
+    })
+}
+
+/// The tree of a text; else the first of rules 1, 2 and 3 that is broken, or rule 24 of a text that is too long.
+pub fn syntax_tree(alloc: Global, text: &[u8]) -> Result<Tree, ImportFault> {
+    if text.len() > MOST_BYTES {
+        return Err(fault(text, 24, 0));
+    }
+    let tokens = match lex(alloc, text) {
+        Ok(tokens) => tokens,
+        Err(LexFault::Byte(place)) => return Err(fault(text, 1, place)),
+        Err(LexFault::Token(place)) => return Err(fault(text, 2, place)),
+        Err(LexFault::NoMemory) => return Err(ImportFault::NoMemory),
+    };
+    match parse(alloc, text, &tokens) {
+        Ok(tree) => Ok(tree),
+        Err(SyntaxFault::At(place)) => Err(fault(text, 3, place)),
+        Err(SyntaxFault::NoMemory) => Err(ImportFault::NoMemory),
+    }
+}
+
+/// A broken rule and its place.
+type Broken = Option<(u8, u32)>;
+
+fn broken(rule: u8, place: Option<u32>) -> Broken {
+    place.map(|place| (rule, place))
+}
+
+/// Rules 4 to 8, and the structures with their leaves counted.
+fn first_names<'a>(
+    alloc: Global,
+    tree: &Tree,
+    structures: &mut Structures<'a>,
+    scopes: &[Scope<'a>],
+) -> Result<Broken, AllocError> {
+    if let Some(place) = end_name(tree, scopes) {
+        return Ok(Some((4, place)));
+    }
+    if let Some(place) = duplicate(alloc, tree, scopes)? {
+        return Ok(Some((5, place)));
+    }
+    if let Some(place) = structures.unknown_structure(scopes) {
+        return Ok(Some((6, place)));
+    }
+    if let Some(place) = structures.cycle(alloc)? {
+        return Ok(Some((7, place)));
+    }
+    Ok(broken(8, structures.too_many_leaves()))
+}
+
+/// The least place that a rule on single graphs finds.
+#[derive(Clone, Copy, Debug, PartialEq, Eq)]
+enum GraphRule {
+    UnknownActivity,
+    DoubleConnector,
+    Cycle,
+    EmptyGraph,
+    Otherwise,
+    UnreachableData,
+    Performer,
+}
+
+fn graph_fault(
+    alloc: Global,
+    rule: GraphRule,
+    scope: &Scope<'_>,
+) -> Result<Option<u32>, AllocError> {
+    match rule {
+        GraphRule::UnknownActivity => Ok(unknown_activity(scope)),
+        GraphRule::DoubleConnector => double_connector(alloc, scope),
+        GraphRule::Cycle => cycle(alloc, scope),
+        GraphRule::EmptyGraph => Ok(empty_graph(scope)),
+        GraphRule::Otherwise => otherwise(alloc, scope),
+        GraphRule::UnreachableData => unreachable_data(alloc, scope),
+        GraphRule::Performer => performer(alloc, scope),
+    }
+}
+
+fn over_graphs(
+    alloc: Global,
+    rule: GraphRule,
+    scopes: &[Scope<'_>],
+) -> Result<Option<u32>, AllocError> {
+    let mut least = None;
+    for scope in scopes {
+        least = lesser(least, graph_fault(alloc, rule, scope)?);
+    }
+    Ok(least)
+}
+
+/// Rules 9 to 12.
+fn first_connectors(alloc: Global, scopes: &[Scope<'_>]) -> Result<Broken, AllocError> {
+    let rules = [
+        (9, GraphRule::UnknownActivity),
+        (10, GraphRule::DoubleConnector),
+        (11, GraphRule::Cycle),
+        (12, GraphRule::EmptyGraph),
+    ];
+    for (number, rule) in rules {
+        if let Some(place) = over_graphs(alloc, rule, scopes)? {
+            return Ok(Some((number, place)));
+        }
+    }
+    Ok(None)
+}
+
+fn over_members<'a>(search: Search, table: &LeafTable<'a>, scopes: &[Scope<'a>]) -> Option<u32> {
+    let mut least = None;
+    for scope in scopes {
+        least = lesser(least, leaf_fault(search, table, scope));
+    }
+    least
+}
+
+/// Rules 13 to 16.
+fn first_members<'a>(
+    alloc: Global,
+    table: &LeafTable<'a>,
+    scopes: &[Scope<'a>],
+) -> Result<Broken, AllocError> {
+    if let Some(place) = over_members(Search::Unknown, table, scopes) {
+        return Ok(Some((13, place)));
+    }
+    if let Some(place) = over_members(Search::Mismatch, table, scopes) {
+        return Ok(Some((14, place)));
+    }
+    if let Some(place) = over_graphs(alloc, GraphRule::Otherwise, scopes)? {
+        return Ok(Some((15, place)));
+    }
+    Ok(broken(16, over_graphs(alloc, GraphRule::UnreachableData, scopes)?))
+}
+
+fn over_processes<'a>(known: &Known<'a>, scopes: &[Scope<'a>]) -> Option<u32> {
+    let mut least = None;
+    for scope in scopes {
+        least = lesser(least, unknown_process(known, scope));
+    }
+    least
+}
+
+fn over_containers<'a>(
+    known: &Known<'a>,
+    table: &LeafTable<'a>,
+    scopes: &[Scope<'a>],
+) -> Option<u32> {
+    let mut least = None;
+    for scope in scopes {
+        least = lesser(least, container_mismatch(known, table, scope));
+    }
+    least
+}
+
+fn over_people<'a>(known: &Known<'a>, scopes: &[Scope<'a>]) -> Option<u32> {
+    let mut least = None;
+    for scope in scopes {
+        least = lesser(least, unknown_person(known, scope));
+    }
+    least
+}
+
+/// Rules 17 to 20.
+fn first_people<'a>(
+    alloc: Global,
+    known: &Known<'a>,
+    table: &LeafTable<'a>,
+    scopes: &[Scope<'a>],
+) -> Result<Broken, AllocError> {
+    if let Some(place) = over_processes(known, scopes) {
+        return Ok(Some((17, place)));
+    }
+    if let Some(place) = over_containers(known, table, scopes) {
+        return Ok(Some((18, place)));
+    }
+    if let Some(place) = over_people(known, scopes) {
+        return Ok(Some((19, place)));
+    }
+    Ok(broken(20, over_graphs(alloc, GraphRule::Performer, scopes)?))
+}
+
+/// Rules 21 to 24.
+fn first_sizes<'a>(
+    alloc: Global,
+    structures: &Structures<'a>,
+    known: &Known<'a>,
+    shapes: &[Shape],
+    scopes: &[Scope<'a>],
+) -> Result<Broken, AllocError> {
+    if let Some(place) = nesting(known.processes(), shapes) {
+        return Ok(Some((21, place)));
+    }
+    if let Some(place) = expanded_size(known.processes(), shapes) {
+        return Ok(Some((22, place)));
+    }
+    if let Some(place) = number(alloc, structures, scopes)? {
+        return Ok(Some((23, place)));
+    }
+    Ok(broken(24, count_limit(known.processes(), scopes)))
+}
+
+/// Judges rules 13 to 24, and builds what the text adds where none is broken.
+fn judged_and_built<'a>(
+    alloc: Global,
+    tree: &'a Tree,
+    structures: &'a Structures<'a>,
+    scopes: &[Scope<'a>],
+    earlier: &'a Catalog,
+) -> Result<Result<Compiled, (u8, u32)>, AllocError> {
+    let table = LeafTable::new(alloc, structures, scopes)?;
+    let known = Known::new(alloc, tree, earlier)?;
+    if let Some(fault) = first_members(alloc, &table, scopes)? {
+        return Ok(Err(fault));
+    }
+    if let Some(fault) = first_people(alloc, &known, &table, scopes)? {
+        return Ok(Err(fault));
+    }
+    let shapes = shapes(alloc, &known)?;
+    if let Some(fault) = first_sizes(alloc, structures, &known, &shapes, scopes)? {
+        return Ok(Err(fault));
+    }
+    let builder = Builder {
+        alloc,
+        structures,
+        table: &table,
+        known: &known,
+    };
+    Ok(Ok(built(&builder, tree, &shapes)?))
+}
+
+/// The templates and the people of an accepted text.
+fn built<'a>(
+    builder: &Builder<'a>,
+    tree: &'a Tree,
+    shapes: &[Shape],
+) -> Result<Compiled, AllocError> {
+    let mut templates = List::new(builder.alloc);
+    let mut people = List::new(builder.alloc);
+    for item in tree.items.as_slice() {
+        match item {
+            ItemTree::Structure(_) => {}
+            ItemTree::Person(person) => people.push(builder.person(person)?)?,
+            ItemTree::Process(process) => {
+                let number = templates.len();
+                let shape = shapes.get(number).copied();
+                let shape = shape.unwrap_or(Shape { depth: 0, size: 0 });
+                templates.push(builder.template(small(number), process, shape)?)?;
+            }
+        }
+    }
+    Ok(Compiled { templates, people })
+}
+
+/// What a tree adds to the library, or the first rule from 4 on that it breaks.
+fn compile_tree(
+    alloc: Global,
+    tree: &Tree,
+    earlier: &Catalog,
+) -> Result<Result<Compiled, (u8, u32)>, AllocError> {
+    let scopes = text_scopes(alloc, tree)?;
+    let mut structures = Structures::new(alloc, tree)?;
+    if let Some(fault) = first_names(alloc, tree, &mut structures, &scopes)? {
+        return Ok(Err(fault));
+    }
+    if let Some(fault) = first_connectors(alloc, &scopes)? {
+        return Ok(Err(fault));
+    }
+    judged_and_built(alloc, tree, &structures, &scopes, earlier)
+}
+
+/// What a text adds to the library of the earlier imports.
+///
+/// `Rule` comes exactly where it breaks a rule: the least rule, and then the least place.
+pub fn compile(alloc: Global, text: &[u8], earlier: &Catalog) -> Result<Compiled, ImportFault> {
+    let tree = syntax_tree(alloc, text)?;
+    match compile_tree(alloc, &tree, earlier)? {
+        Ok(compiled) => Ok(compiled),
+        Err((rule, place)) => Err(fault(text, rule, place)),
+    }
+}

@@ -1,0 +1,43 @@
+//! The least of some places.
+use flow_model::NameAt;
+use indexmap::IndexSet;
+use std::alloc::{AllocError, Global};
+
+/// The lesser of two places, where there are any.
+pub fn lesser(first: Option<u32>, second: Option<u32>) -> Option<u32> {
+    match (first, second) {
+        (None, _) => second,
+        (_, None) => first,
+        (Some(a), Some(b)) => Some(a.min(b)),
+    }
+}
+
+/// The names that were met, to find the first that comes again.
+#[derive(Drop)]
+pub struct Repeats<'a> {
+    met: IndexSet<&'a [u8]>,
+    first: Option<u32>,
+}
+
+impl<'a> Repeats<'a> {
+    pub fn new(alloc: Global) -> Repeats<'a> {
+        Repeats {
+            met: IndexSet::new(alloc),
+            first: None,
+        }
+    }
+
+    /// Meets a name; names come in the order of their places.
+    pub fn meet(&mut self, name: &'a NameAt) -> Result<(), AllocError> {
+        let (_place, is_new) = self.met.insert_full(name.name.as_slice())?;
+        if !is_new {
+            self.first = lesser(self.first, Some(name.place));
+        }
+        Ok(())
+    }
+
+    /// The place of the first name that came again.
+    pub fn first(&self) -> Option<u32> {
+        self.first
+    }
+}
