@@ -1,0 +1,4 @@
+pub mod Bytes
+pub mod Gaps
+pub mod Tokens
+pub mod Laws

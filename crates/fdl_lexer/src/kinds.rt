@@ -1,0 +1,62 @@
+//! What a token is, and why a text has none.
+ghost use Rattle.std.specs.Prelude.{◌≡◌};
+ghost use Rattle.fdl_lexer.specs.declared.kinds.LexFault.TheVariants.{NoMemory};
+
+use flow_model::List;
+use std::alloc::AllocError;
+use thiserror::Error;
+
+/// The tokens of a text, in order.
+#[derive(Drop)]
+pub struct Tokens {
+    pub items: List<Token>,
+}
+
+/// A token and where it stands: from the byte `from` up to, but without, the byte `to`.
+#[derive(Clone, Copy, Debug, PartialEq, Eq)]
+pub struct Token {
+    pub what: What,
+    pub from: u32,
+    pub to: u32,
+}
+
+/// What a token is. A name, item or text is read from the bytes where its token stands.
+#[derive(Clone, Copy, Debug, PartialEq, Eq)]
+pub enum What {
+    /// A keyword, with its code in the table of keywords.
+    Word(u8),
+    /// A name in single quotes.
+    Name,
+    /// `'_RC'`.
+    Rc,
+    /// An item in single quotes.
+    Item,
+    /// A number, at most the greatest one.
+    Number(u64),
+    /// A text in double quotes.
+    Text,
+    /// A mark, with its place from 1 in `( ) , ; : . [ ] = <> < <= > >= + -`.
+    Mark(u8),
+}
+
+/// Why a text has no tokens.
+#[derive(Clone, Copy, Debug, PartialEq, Eq, Drop, Error)]
+pub enum LexFault {
+    /// The byte at this place may not stand in a text; those before may.
+    #[error("byte {0} may not stand in a text")]
+    Byte(u32),
+    /// All bytes may stand in a text, and this is the first place where no token begins.
+    #[error("no token begins at byte {0}")]
+    Token(u32),
+    /// There was no memory for the tokens.
+    #[error("no memory")]
+    NoMemory,
+}
+
+impl From<AllocError> for LexFault {
+    ghost from_gives = { λ _ e. e ≡ NoMemory };
+
+    fn from(_fault: AllocError) -> LexFault {
+        LexFault::NoMemory
+    }
+}

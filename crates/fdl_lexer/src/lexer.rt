@@ -1,0 +1,48 @@
+//! The tokens of a whole text.
+ghost use Rattle.std.specs.Prelude.{◌≡◌, ◌≤◌, length, IfOk, IfErr, MatchOption};
+ghost use Rattle.fdl_lexer.specs.Tokens.{AreTokens, Faults, IsFirstBad, AreAllowed};
+
+use crate::bytes::is_allowed;
+use crate::gap::gap_len;
+use crate::scan::first_token;
+use crate::{LexFault, Token, Tokens};
+use flow_model::List;
+use std::alloc::Global;
+
+/// The first byte that may not stand in a text.
+fn first_bad(text: &[u8]) -> Option<usize>
+    ensures { MatchOption result (AreAllowed text.now) (IsFirstBad text.now) }
+{
+    text.iter().position(|byte| !is_allowed(*byte))
+}
+
+/// The tokens of a text, or the first place where it has none.
+///
+/// `Byte` comes exactly where a byte of the text may not stand in one, and `Token` exactly where all
+/// may and behind some tokens, blanks and comments neither a token nor an ended comment begins.
+pub fn lex(alloc: Global, text: &[u8]) -> Result<Tokens, LexFault>
+    requires { length text.now ≤ 1048576 }
+    ensures tokens { IfOk result (λ tokens. AreTokens text.now tokens.items) }
+    ensures fault { IfErr result (Faults text.now) }
+{
+    if let Some(place) = first_bad(text) {
+        return Err(LexFault::Byte(place as u32));
+    }
+    let mut items = List::new(alloc);
+    let mut at = 0;
+    'tokens: loop {
+        let from = at + gap_len(&text[at..]);
+        if from == text.len() {
+            return Ok(Tokens { items });
+        }
+        let Some((what, len)) = first_token(&text[from..]) else {
+            return Err(LexFault::Token(from as u32));
+        };
+        at = from + len;
+        items.push(Token {
+            what,
+            from: from as u32,
+            to: at as u32,
+        })?;
+    }
+}
