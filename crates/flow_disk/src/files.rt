@@ -1,6 +1,8 @@
 //! Two files as a disk. What they hold, and what a crash leaves of them, is not told.
-ghost use Rattle.std.specs.Prelude.{◌≡◌, ◌≤◌, ℕ, [], length, IfOk, Ok};
+ghost use Rattle.std.specs.Prelude.{◌≡◌, ◌≤◌, [], length, true, false, IsSome, IfOk, OnOk, OnErr, Ok};
 ghost use Rattle.flow_disk.specs.Causes.{HasCause};
+ghost use Rattle.flow_disk.specs.Synced.{is_synced, unsynced};
+ghost use Rattle.flow_disk.specs.declared.disk.Slot.{Slot as SlotOf};
 
 use crate::disk::{Disk, Failed, Slot};
 use std::fs::{Files, OpenFile, OpenOptions};
@@ -18,8 +20,8 @@ struct OneFile<F> {
     is_synced: bool,
 }
 
-/// Two files by their paths, of which a contract knows how many calls have failed. That number
-/// stays at `u64::MAX`.
+/// Two files by their paths, of which a contract knows how many calls have failed, and which file
+/// needs no sync. The number of faults stays at `u64::MAX`.
 ///
 /// A sync covers both files, but passes over one that wasn't written since its last successful
 /// sync: a run of writes to one file costs the syncs of that file alone.
@@ -32,15 +34,17 @@ pub struct FileDisk<'a, R: Files> {
 }
 
 impl<'a, R: Files> Model for FileDisk<'a, R> {
-    ghost use Rattle.std.specs.Prelude.{ℕ};
+    ghost use Rattle.flow_disk.specs.Synced.{Known};
 
-    ghost Value = { ℕ };
+    ghost Value = { Known };
 
-    ghost view = { λ d. d.faults };
+    ghost view = { λ d. record { faults = d.faults; a_synced = d.a.is_synced; b_synced = d.b.is_synced } };
 }
 
 impl<F> OneFile<F> {
-    fn new(path: String) -> OneFile<F> {
+    fn new(path: String) -> OneFile<F>
+        ensures { result.is_synced ≡ false }
+    {
         OneFile {
             path,
             file: None,
@@ -49,7 +53,10 @@ impl<F> OneFile<F> {
     }
 }
 
-fn open<R: Files>(rt: &R, one: &mut OneFile<R::File>) -> io::Result<()> {
+fn open<R: Files>(rt: &R, one: &mut OneFile<R::File>) -> io::Result<()>
+    ensures opened { OnOk result (IsSome one.new.file) }
+    ensures synced { one.new.is_synced ≡ one.old.is_synced }
+{
     if one.file.is_none() {
         let file = OpenOptions::new()
             .read(true)
@@ -61,11 +68,13 @@ fn open<R: Files>(rt: &R, one: &mut OneFile<R::File>) -> io::Result<()> {
     Ok(())
 }
 
-fn size_of<R: Files>(rt: &R, one: &mut OneFile<R::File>) -> io::Result<u64> {
+fn size_of<R: Files>(rt: &R, one: &mut OneFile<R::File>) -> io::Result<u64>
+    ensures { one.new.is_synced ≡ one.old.is_synced }
+{
     open(rt, one)?;
     match &one.file {
         Some(file) => Ok(file.metadata()?.len()),
-        None => Ok(0),
+        None => unreachable!(),
     }
 }
 
@@ -75,7 +84,8 @@ fn read_from<R: Files>(
     at: u64,
     buf: &mut [u8],
 ) -> io::Result<usize>
-    ensures { IfOk result (λ n. n ≤ length buf.new) }
+    ensures bound { IfOk result (λ n. n ≤ length buf.new) }
+    ensures synced { one.new.is_synced ≡ one.old.is_synced }
 {
     open(rt, one)?;
     match &mut one.file {
@@ -83,7 +93,7 @@ fn read_from<R: Files>(
             file.seek(SeekFrom::Start(at))?;
             file.read(buf)
         }
-        None => Ok(0),
+        None => unreachable!(),
     }
 }
 
@@ -100,7 +110,9 @@ fn write_whole<W: Write>(file: &mut W, bytes: &[u8]) -> io::Result<()> {
     Ok(())
 }
 
-fn write_to<R: Files>(rt: &R, one: &mut OneFile<R::File>, at: u64, bytes: &[u8]) -> io::Result<()> {
+fn write_to<R: Files>(rt: &R, one: &mut OneFile<R::File>, at: u64, bytes: &[u8]) -> io::Result<()>
+    ensures { one.new.is_synced ≡ false }
+{
     one.is_synced = false;
     open(rt, one)?;
     match &mut one.file {
@@ -108,26 +120,30 @@ fn write_to<R: Files>(rt: &R, one: &mut OneFile<R::File>, at: u64, bytes: &[u8])
             file.seek(SeekFrom::Start(at))?;
             write_whole(file, bytes)
         }
-        None => Ok(()),
+        None => unreachable!(),
     }
 }
 
-fn sync_of<R: Files>(rt: &R, one: &mut OneFile<R::File>) -> io::Result<()> {
+fn sync_of<R: Files>(rt: &R, one: &mut OneFile<R::File>) -> io::Result<()>
+    ensures ok { OnOk result (one.new.is_synced ≡ true) }
+    ensures err { OnErr result (one.new.is_synced ≡ one.old.is_synced) }
+{
     if one.is_synced {
         return Ok(());
     }
     open(rt, one)?;
-    if let Some(file) = &one.file {
-        file.sync_all()?;
-        one.is_synced = true;
+    match &one.file {
+        Some(file) => file.sync_all()?,
+        None => unreachable!(),
     }
+    one.is_synced = true;
     Ok(())
 }
 
 impl<'a, R: Files> FileDisk<'a, R> {
     /// It keeps the runtime that `main` lends, opens no file yet, and has no faults so far.
     pub fn new(rt: &'a R, a: String, b: String) -> FileDisk<'a, R>
-        ensures { result ≡ 0 }
+        ensures { result ≡ record { faults = 0; a_synced = false; b_synced = false } }
     {
         FileDisk {
             rt,
@@ -139,8 +155,9 @@ impl<'a, R: Files> FileDisk<'a, R> {
 
     /// Counts a fault.
     fn counted<T: Drop>(&mut self, outcome: io::Result<T>) -> Result<T, Failed>
-        ensures cause { HasCause self.old self.new result }
+        ensures cause { HasCause self.old.faults self.new.faults result }
         ensures value { IfOk result (λ value. outcome ≡ Ok value) }
+        ensures synced { self.new ≡ record self.old { faults = self.new.faults } }
     {
         match outcome {
             Ok(value) => Ok(value),
@@ -149,6 +166,31 @@ impl<'a, R: Files> FileDisk<'a, R> {
                 Err(Failed)
             }
         }
+    }
+
+    /// Writes to one file, which needs a sync from then on, whether or not the write succeeds.
+    fn write(&mut self, slot: Slot, at: u64, bytes: &[u8]) -> Result<(), Failed>
+        ensures cause { HasCause self.old.faults self.new.faults result }
+        ensures synced { self.new ≡ record (unsynced self.old slot) { faults = self.new.faults } }
+    {
+        let outcome = match slot {
+            Slot::A => write_to(self.rt, &mut self.a, at, bytes),
+            Slot::B => write_to(self.rt, &mut self.b, at, bytes),
+        };
+        self.counted(outcome)
+    }
+
+    /// Syncs each file that was written since its last successful sync.
+    fn sync_files(&mut self) -> Result<(), Failed>
+        ensures cause { HasCause self.old.faults self.new.faults result }
+        ensures both { OnOk result ((slot : SlotOf) → is_synced self.new slot ≡ true) }
+        ensures rises { OnErr result ((slot : SlotOf) → is_synced self.old slot ≡ true → is_synced self.new slot ≡ true) }
+    {
+        let first = sync_of(self.rt, &mut self.a);
+        self.counted(first)?;
+        let second = sync_of(self.rt, &mut self.b);
+        self.counted(second)?;
+        Ok(())
     }
 }
 
@@ -163,7 +205,7 @@ impl<'a, R: Files> Disk for FileDisk<'a, R> {
 
     ghost left_since = { λ _ _ _. ⊥ };
 
-    ghost faults = { λ faults. faults };
+    ghost faults = { λ known. known.faults };
 
     ghost honest = { λ _ none. absurd none };
 
@@ -188,17 +230,10 @@ impl<'a, R: Files> Disk for FileDisk<'a, R> {
     }
 
     fn write_at(&mut self, slot: Slot, at: u64, bytes: &[u8]) -> Result<(), Failed> {
-        let outcome = match slot {
-            Slot::A => write_to(self.rt, &mut self.a, at, bytes),
-            Slot::B => write_to(self.rt, &mut self.b, at, bytes),
-        };
-        self.counted(outcome)
+        self.write(slot, at, bytes)
     }
 
     fn sync(&mut self) -> Result<(), Failed> {
-        let first = sync_of(self.rt, &mut self.a);
-        self.counted(first)?;
-        let second = sync_of(self.rt, &mut self.b);
-        self.counted(second)
+        self.sync_files()
     }
 }
