@@ -1,4 +1,5 @@
--- Read first: Stacks and Sourcing. `order` goes on with Steps and Ends, `reaching` with Spreads.
+-- Read first: Stacks and Sourcing. `order` goes on with Steps and Ends, `reaching` with Spreads,
+-- `components` with Leading and Groups, and then Cyclic.
 -- NoReturn is for callers: what an order excludes.
 pub mod Stacks
 pub mod Sourcing

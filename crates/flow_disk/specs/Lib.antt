@@ -1,0 +1,10 @@
+pub mod Causes
+pub mod Calls
+pub mod Images
+pub mod Moments
+pub mod Replay
+pub mod Crashes
+pub mod Contents
+pub mod Laws
+pub mod Synced
+pub mod InMemory
