@@ -1,6 +1,6 @@
 //! Why a written condition can't be resolved, and how large it is.
-use containers::find_leaf;
-use flow_model::{Cond, Kind, LeafAt, Leaves, NumberAt, OperandTree, Side, TermTree};
+use containers::{find_leaf, number_value};
+use flow_model::{Cond, Kind, LeafAt, Leaves, OperandTree, Side, TermTree};
 
 /// How many operands and nodes a condition has: nodes are comparisons and the words AND, OR and NOT.
 #[derive(Clone, Copy, Debug, PartialEq, Eq)]
@@ -9,24 +9,15 @@ pub struct Size {
     pub nodes: u64,
 }
 
-/// The value of a written number; None exactly where it has no 64 bits.
-pub fn number_value(number: &NumberAt) -> Option<i64> {
-    let size = i128::from(number.size);
-    let value = if number.minus.is_some() { -size } else { size };
-    i64::try_from(value).ok()
-}
-
 /// The kind of the leaf that is written so, if there is one.
-fn leaf_kind(leaves: &Leaves, leaf: &LeafAt) -> Option<Kind>
-{
+fn leaf_kind(leaves: &Leaves, leaf: &LeafAt) -> Option<Kind> {
     let place = find_leaf(leaves, leaf)?;
     let found = leaves.leaves.as_slice().get(place as usize)?;
     Some(found.kind)
 }
 
 /// The place of the first leaf of a side that isn't there.
-fn unknown_in_side(side: &Side, leaves: &Leaves) -> Option<u32>
-{
+fn unknown_in_side(side: &Side, leaves: &Leaves) -> Option<u32> {
     match side {
         Side::Text(_, _) => None,
         Side::Sum(terms) => {
@@ -43,8 +34,7 @@ fn unknown_in_side(side: &Side, leaves: &Leaves) -> Option<u32>
 }
 
 /// The place of the first leaf of a condition that isn't one of these.
-pub fn first_unknown(cond: &Cond, leaves: &Leaves) -> Option<u32>
-{
+pub fn first_unknown(cond: &Cond, leaves: &Leaves) -> Option<u32> {
     match cond {
         Cond::Or(members) => {
             for member in members.as_slice() {
@@ -70,8 +60,7 @@ pub fn first_unknown(cond: &Cond, leaves: &Leaves) -> Option<u32>
 }
 
 /// Whether a term is a text leaf.
-fn is_text_term(term: &TermTree, leaves: &Leaves) -> bool
-{
+fn is_text_term(term: &TermTree, leaves: &Leaves) -> bool {
     match &term.operand {
         OperandTree::Leaf(leaf) => leaf_kind(leaves, leaf) == Some(Kind::Str),
         OperandTree::Number(_) => false,
@@ -79,8 +68,7 @@ fn is_text_term(term: &TermTree, leaves: &Leaves) -> bool
 }
 
 /// The kind of a side; None where a text leaf stands in a sum.
-fn side_kind(side: &Side, leaves: &Leaves) -> Option<Kind>
-{
+fn side_kind(side: &Side, leaves: &Leaves) -> Option<Kind> {
     let Side::Sum(terms) = side else {
         return Some(Kind::Str);
     };
@@ -116,8 +104,7 @@ fn side_place(side: &Side) -> u32 {
 }
 
 /// The place of the first comparison whose sides don't have one kind.
-pub fn first_mismatch(cond: &Cond, leaves: &Leaves) -> Option<u32>
-{
+pub fn first_mismatch(cond: &Cond, leaves: &Leaves) -> Option<u32> {
     match cond {
         Cond::Or(members) => {
             for member in members.as_slice() {

@@ -9,6 +9,6 @@ mod faults;
 mod resolving;
 mod truth;
 
-pub use faults::{Size, first_mismatch, first_number_fault, first_unknown, number_value, size_of};
+pub use faults::{Size, first_mismatch, first_number_fault, first_unknown, size_of};
 pub use resolving::{TypeFault, resolve};
 pub use truth::{holds, value};

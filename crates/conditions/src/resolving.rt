@@ -2,8 +2,8 @@
 ghost use Rattle.std.specs.Prelude.{◌≡◌};
 ghost use Rattle.conditions.specs.declared.resolving.TypeFault.TheVariants.{NoMemory};
 
-use crate::faults::{first_mismatch, first_number_fault, first_unknown, number_value};
-use containers::find_leaf;
+use crate::faults::{first_mismatch, first_number_fault, first_unknown};
+use containers::{find_leaf, number_value};
 use flow_model::{
     Cond, Expr, Kind, Leaves, List, Operand, OperandTree, Operator, Side, Term, TermTree, TextSide,
 };
@@ -36,8 +36,7 @@ impl From<AllocError> for TypeFault {
 }
 
 /// A term whose leaf is a place.
-fn term_of(term: &TermTree, leaves: &Leaves) -> Result<Term, TypeFault>
-{
+fn term_of(term: &TermTree, leaves: &Leaves) -> Result<Term, TypeFault> {
     let operand = match &term.operand {
         OperandTree::Leaf(leaf) => {
             Operand::Leaf(find_leaf(leaves, leaf).ok_or(TypeFault::UnknownMember(leaf.place))?)
@@ -53,8 +52,7 @@ fn term_of(term: &TermTree, leaves: &Leaves) -> Result<Term, TypeFault>
 }
 
 /// The terms of a side of numbers.
-fn sum_of(alloc: Global, side: &Side, leaves: &Leaves) -> Result<List<Term>, TypeFault>
-{
+fn sum_of(alloc: Global, side: &Side, leaves: &Leaves) -> Result<List<Term>, TypeFault> {
     let mut terms = List::new(alloc);
     if let Side::Sum(written) = side {
         for term in written.as_slice() {
@@ -65,8 +63,7 @@ fn sum_of(alloc: Global, side: &Side, leaves: &Leaves) -> Result<List<Term>, Typ
 }
 
 /// The text, or the leaf, of a side of texts.
-fn text_of(alloc: Global, side: &Side, leaves: &Leaves) -> Result<Option<TextSide>, TypeFault>
-{
+fn text_of(alloc: Global, side: &Side, leaves: &Leaves) -> Result<Option<TextSide>, TypeFault> {
     match side {
         Side::Text(text, _) => Ok(Some(TextSide::Text(text.copy(alloc)?))),
         Side::Sum(terms) => match terms.as_slice() {
@@ -96,8 +93,7 @@ fn comparison(
     operator: Operator,
     right: &Side,
     leaves: &Leaves,
-) -> Result<Expr, TypeFault>
-{
+) -> Result<Expr, TypeFault> {
     if let Some(left) = text_of(alloc, left, leaves)? {
         if let Some(right) = text_of(alloc, right, leaves)? {
             return Ok(Expr::Texts(operator, left, right));
@@ -111,8 +107,7 @@ fn comparison(
 }
 
 /// The condition with places for leaves, where nothing stands against it.
-fn expr_of(alloc: Global, cond: &Cond, leaves: &Leaves) -> Result<Expr, TypeFault>
-{
+fn expr_of(alloc: Global, cond: &Cond, leaves: &Leaves) -> Result<Expr, TypeFault> {
     match cond {
         Cond::Or(members) => {
             let mut resolved = List::new(alloc);
@@ -141,8 +136,7 @@ fn expr_of(alloc: Global, cond: &Cond, leaves: &Leaves) -> Result<Expr, TypeFaul
 ///
 /// `UnknownMember` comes where a leaf isn't one of these; else `Mismatch` where a comparison's sides
 /// don't have one kind; else `Number` where a number has no 64 bits; each with the first such place.
-pub fn resolve(alloc: Global, cond: &Cond, leaves: &Leaves) -> Result<Expr, TypeFault>
-{
+pub fn resolve(alloc: Global, cond: &Cond, leaves: &Leaves) -> Result<Expr, TypeFault> {
     if let Some(place) = first_unknown(cond, leaves) {
         return Err(TypeFault::UnknownMember(place));
     }

@@ -6,6 +6,8 @@
 
 mod fill;
 mod find;
+mod settings;
 
 pub use fill::{apply_maps, fresh, set_value, with_return_code};
 pub use find::find_leaf;
+pub use settings::{number_value, settings_of, with_settings};

@@ -1,0 +1,15 @@
+//! Which words does the program know, and what does each print?
+//!
+//! Knows the words of the command line and the order of reading, judging and printing; never graphs,
+//! tokens or gates. Begin with [`run_pure`].
+#![tactic(auto)]
+
+mod check;
+mod completions;
+mod fate;
+mod input;
+mod pure;
+mod status;
+
+pub use pure::run_pure;
+pub use status::Status;

@@ -1,0 +1,65 @@
+//! How a run ends.
+use flow_io::IoStop;
+use std::alloc::{AllocError, AllocFailed};
+
+/// How a run ends. Its number is the exit status of the program.
+#[derive(Clone, Copy, Debug, PartialEq, Eq)]
+pub enum Status {
+    /// The input was read to its end and all was printed.
+    Done,
+    /// The words are none that the program knows.
+    Usage,
+    /// The slots hold no store, or one of another kind.
+    Store,
+    /// The disk failed.
+    StoreFault,
+    /// The source failed.
+    ReadFault,
+    /// The sink failed.
+    WriteFault,
+    /// There was no memory.
+    NoMemory,
+    /// The input is longer than 268,435,456 bytes.
+    ScriptTooLong,
+    /// The input is refused.
+    Refused,
+}
+
+impl Status {
+    /// The exit status.
+    pub fn number(self) -> u8 {
+        match self {
+            Status::Done => 0,
+            Status::Usage => 1,
+            Status::Store => 2,
+            Status::StoreFault => 3,
+            Status::ReadFault => 4,
+            Status::WriteFault => 5,
+            Status::NoMemory => 6,
+            Status::ScriptTooLong => 7,
+            Status::Refused => 8,
+        }
+    }
+}
+
+impl From<AllocError> for Status {
+    fn from(_fault: AllocError) -> Status {
+        Status::NoMemory
+    }
+}
+
+impl<T: Drop> From<AllocFailed<T>> for Status {
+    fn from(_fault: AllocFailed<T>) -> Status {
+        Status::NoMemory
+    }
+}
+
+impl From<IoStop> for Status {
+    fn from(stop: IoStop) -> Status {
+        match stop {
+            IoStop::ReadFault => Status::ReadFault,
+            IoStop::ScriptTooLong => Status::ScriptTooLong,
+            IoStop::NoMemory => Status::NoMemory,
+        }
+    }
+}
