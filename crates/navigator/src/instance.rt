@@ -1,0 +1,294 @@
+//! A root instance.
+use crate::changes::{Context, Effects, Event, messages_of};
+use crate::scopes::{ActivityState, Place, ScopeState, attempt_place, place_of, scope_at};
+use activity_states::ProgramState;
+use blocks_subprocs::graph_of;
+use flow_model::{
+    Activity, Container, Fate, Graph, Hold, Library, List, Message, Mode, Name, Part, Path, Phase,
+};
+use std::alloc::{AllocError, Global};
+
+/// A root instance: its template, who started it with what, and its scopes.
+#[derive(Drop)]
+pub struct Instance {
+    pub root: u64,
+    pub template: u32,
+    pub starter: Name,
+    pub(crate) scope: ScopeState,
+    suspended: bool,
+    terminated: bool,
+}
+
+/// A change of who holds an item.
+#[derive(Drop)]
+pub enum HoldChange {
+    Person(Name),
+    Agent,
+    Nobody,
+}
+
+/// An item of a begun scope: the graph of its scope, its activity and its state.
+#[derive(Clone, Copy)]
+pub struct Item<'a> {
+    pub place: Place<'a>,
+    pub number: usize,
+    pub activity: &'a Activity,
+    pub state: &'a ProgramState,
+    pub attempt: u64,
+}
+
+/// The attempts that a fate counts.
+fn attempts_in(fate: Fate) -> u64 {
+    match fate {
+        Fate::Waiting => 0,
+        Fate::Ready(attempt) => attempt,
+        Fate::Running(attempt) => attempt,
+        Fate::Finished(attempt) => attempt,
+        Fate::Dead => 0,
+    }
+}
+
+impl Instance {
+    /// A root that is started now; the caller puts the BEGIN of its scope.
+    pub fn start(
+        alloc: Global,
+        library: &Library,
+        template: u32,
+        root: u64,
+        starter: Name,
+        input: Container,
+    ) -> Result<Option<Instance>, AllocError> {
+        let Some(known) = library.templates.as_slice().get(template as usize) else {
+            return Ok(None);
+        };
+        Ok(Some(Instance {
+            root,
+            template,
+            starter,
+            scope: ScopeState::new(alloc, &known.graph, input)?,
+            suspended: false,
+            terminated: false,
+        }))
+    }
+
+    /// The graph of the root scope.
+    pub fn graph<'a>(&self, library: &'a Library) -> Option<&'a Graph> {
+        let template = library.templates.as_slice().get(self.template as usize)?;
+        Some(&template.graph)
+    }
+
+    /// The mode.
+    pub fn mode(&self) -> Mode {
+        if self.terminated {
+            Mode::Terminated
+        } else if self.scope.is_complete() {
+            Mode::Done
+        } else if self.suspended {
+            Mode::Suspended
+        } else {
+            Mode::Active
+        }
+    }
+
+    pub fn suspend(&mut self) {
+        self.suspended = true;
+    }
+
+    pub fn resume(&mut self) {
+        self.suspended = false;
+    }
+
+    pub fn terminate(&mut self) {
+        self.terminated = true;
+    }
+
+    /// What an event does to the scope of a path.
+    fn change(
+        &mut self,
+        with: Context<'_>,
+        path: &Path,
+        event: Event<'_>,
+    ) -> Result<(List<Message>, Vec<Path>), AllocError> {
+        let mut effects = Effects::new(with.alloc);
+        if let Some(graph) = self.graph(with.library) {
+            let parts = path.parts.as_slice();
+            self.scope
+                .change(with, graph, path, parts, event, &mut effects)?;
+        }
+        messages_of(with.alloc, effects)
+    }
+
+    /// Takes a message: the messages that the turn puts, and the items that came to be ready.
+    pub fn take_message(
+        &mut self,
+        alloc: Global,
+        library: &Library,
+        clock: u64,
+        message: &Message,
+    ) -> Result<(List<Message>, Vec<Path>), AllocError> {
+        if self.terminated {
+            return Ok((List::new(alloc), Vec::new(alloc)));
+        }
+        let with = Context {
+            alloc,
+            library,
+            clock,
+        };
+        match message {
+            Message::Begin(path) => self.change(with, path, Event::Begin),
+            Message::Signal(path, _, to, value) => {
+                self.change(with, path, Event::Signal(to, *value))
+            }
+            Message::End(path) => match path.parts.as_slice() {
+                [] => Ok((List::new(alloc), Vec::new(alloc))),
+                [parts @ .., last] => {
+                    let scope = path_of_parts(alloc, path.root, parts)?;
+                    self.change(with, &scope, Event::End(&last.name, last.attempt))
+                }
+            },
+        }
+    }
+
+    /// Completes an item: the messages that follow, and the items that came to be ready.
+    pub fn complete_item(
+        &mut self,
+        alloc: Global,
+        library: &Library,
+        clock: u64,
+        item: &Path,
+        output: Container,
+        performer: Option<Name>,
+    ) -> Result<(List<Message>, Vec<Path>), AllocError> {
+        let with = Context {
+            alloc,
+            library,
+            clock,
+        };
+        match item.parts.as_slice() {
+            [] => Ok((List::new(alloc), Vec::new(alloc))),
+            [parts @ .., last] => {
+                let scope = path_of_parts(alloc, item.root, parts)?;
+                let event = Event::Complete(&last.name, output, performer);
+                self.change(with, &scope, event)
+            }
+        }
+    }
+
+    /// The item of a path; None exactly where there is no such item.
+    pub fn item<'a>(&'a self, library: &'a Library, item: &Path) -> Option<Item<'a>> {
+        let [parts @ .., last] = item.parts.as_slice() else {
+            return None;
+        };
+        let place = scope_at(library, self.graph(library)?, &self.scope, parts)?;
+        if !place.scope.begun {
+            return None;
+        }
+        let number = place_of(place.graph, &last.name)?;
+        let activity = place.graph.activities.as_slice().get(number)?;
+        let ActivityState::Program(state) = place.scope.states.get(number)? else {
+            return None;
+        };
+        if last.attempt < 1 || last.attempt > attempts_in(state.fate()) {
+            return None;
+        }
+        Some(Item {
+            place,
+            number,
+            activity,
+            state,
+            attempt: last.attempt,
+        })
+    }
+
+    /// Changes who holds the open attempt of an item's activity; answers the take number of an agent.
+    pub fn change_hold(&mut self, library: &Library, item: &Path, change: HoldChange) -> u64 {
+        let [parts @ .., last] = item.parts.as_slice() else {
+            return 0;
+        };
+        match self.graph(library) {
+            None => 0,
+            Some(graph) => change_hold(library, graph, &mut self.scope, parts, &last.name, change),
+        }
+    }
+}
+
+/// The path of a scope.
+fn path_of_parts(alloc: Global, root: u64, parts: &[Part]) -> Result<Path, AllocError> {
+    let mut copies = List::new(alloc);
+    for part in parts {
+        copies.push(part.copy(alloc)?)?;
+    }
+    Ok(Path {
+        root,
+        parts: copies,
+    })
+}
+
+/// Changes a hold in the scope to which the parts lead.
+fn change_hold(
+    library: &Library,
+    graph: &Graph,
+    scope: &mut ScopeState,
+    parts: &[Part],
+    name: &Name,
+    change: HoldChange,
+) -> u64 {
+    let [part, rest @ ..] = parts else {
+        return change_hold_here(graph, scope, name, change);
+    };
+    let Some(place) = place_of(graph, &part.name) else {
+        return 0;
+    };
+    let Some(activity) = graph.activities.as_slice().get(place) else {
+        return 0;
+    };
+    let Some(inner) = graph_of(library, &activity.work) else {
+        return 0;
+    };
+    let (Some(ActivityState::Nested(state)), Some(attempt)) = (
+        scope.states.get_mut(place),
+        attempt_place(part.attempt),
+    ) else {
+        return 0;
+    };
+    match state.scopes.get_mut(attempt) {
+        None => 0,
+        Some(scope) => change_hold(library, inner, scope, rest, name, change),
+    }
+}
+
+fn change_hold_here(graph: &Graph, scope: &mut ScopeState, name: &Name, change: HoldChange) -> u64 {
+    let Some(place) = place_of(graph, name) else {
+        return 0;
+    };
+    let Some(ActivityState::Program(state)) = scope.states.get_mut(place) else {
+        return 0;
+    };
+    match change {
+        HoldChange::Person(who) => {
+            state.hold_person(who);
+            0
+        }
+        HoldChange::Agent => state.hold_agent(),
+        HoldChange::Nobody => {
+            state.release();
+            0
+        }
+    }
+}
+
+impl<'a> Item<'a> {
+    /// The phase of the item.
+    pub fn phase(&self) -> Phase {
+        match self.state.fate() {
+            Fate::Ready(attempt) if attempt == self.attempt => Phase::Ready,
+            Fate::Running(attempt) if attempt == self.attempt => Phase::Running,
+            _ => Phase::Ended,
+        }
+    }
+
+    /// Who holds the item.
+    pub fn hold(&self) -> &'a Hold {
+        self.state.hold()
+    }
+}

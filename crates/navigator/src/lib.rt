@@ -1,0 +1,15 @@
+//! What does one message, or one completion, change in one instance?
+//!
+//! Knows the scopes of a root with what counts of their messages; never other instances, people's rights
+//! or records. A change touches one scope, and what follows in others is sent to them. Begin with
+//! [`Instance`]; `scopes` has a scope, `changes` what an event does to it.
+#![tactic(auto)]
+
+mod changes;
+mod instance;
+mod scopes;
+mod shown;
+
+pub use changes::Effects;
+pub use instance::{HoldChange, Instance, Item};
+pub use scopes::place_of;

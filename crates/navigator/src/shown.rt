@@ -1,0 +1,109 @@
+//! What an instance shows: its rows, and the containers of items and of the root.
+use crate::changes::path_below;
+use crate::instance::{Instance, Item};
+use crate::scopes::{ActivityState, NestedState, ScopeState};
+use blocks_subprocs::{base_input, graph_of, next_input, output_of};
+use flow_model::{Activity, Container, Fate, FateRow, Graph, Library, List, Name, Path, SourceEnd};
+use std::alloc::{AllocError, Global};
+
+/// Adds the rows of the begun scopes of a block or process activity.
+#[cycle(rows)]
+fn add_inner(
+    alloc: Global,
+    library: &Library,
+    path: &Path,
+    activity: &Activity,
+    state: &NestedState,
+    rows: &mut List<FateRow>,
+) -> Result<(), AllocError> {
+    let Some(graph) = graph_of(library, &activity.work) else {
+        return Ok(());
+    };
+    for (i, scope) in state.scopes.iter().enumerate() {
+        if scope.begun {
+            let attempt = (i as u64).saturating_add(1);
+            let below = path_below(alloc, path, activity, attempt)?;
+            add_rows(alloc, library, graph, scope, &below, rows)?;
+        }
+    }
+    Ok(())
+}
+
+/// Adds the rows of a scope, each activity's before those inside it.
+#[cycle(rows)]
+fn add_rows(
+    alloc: Global,
+    library: &Library,
+    graph: &Graph,
+    scope: &ScopeState,
+    path: &Path,
+    rows: &mut List<FateRow>,
+) -> Result<(), AllocError> {
+    for (activity, state) in graph.activities.as_slice().iter().zip(scope.states.iter()) {
+        rows.push(FateRow {
+            scope: path.copy(alloc)?,
+            name: activity.name.copy(alloc)?,
+            fate: state.fate(),
+        })?;
+        if let ActivityState::Nested(inner) = state {
+            add_inner(alloc, library, path, activity, inner, rows)?;
+        }
+    }
+    Ok(())
+}
+
+impl Instance {
+    /// The view in show order.
+    pub fn rows(&self, alloc: Global, library: &Library) -> Result<List<FateRow>, AllocError> {
+        let mut rows = List::new(alloc);
+        let path = Path {
+            root: self.root,
+            parts: List::new(alloc),
+        };
+        if let Some(graph) = self.graph(library) {
+            add_rows(alloc, library, graph, &self.scope, &path, &mut rows)?;
+        }
+        Ok(rows)
+    }
+
+    /// The output of the root, where its mode is DONE.
+    pub fn output(&self, alloc: Global, library: &Library) -> Result<Container, AllocError> {
+        match self.graph(library) {
+            None => Ok(Container {
+                values: List::new(alloc),
+            }),
+            Some(graph) => output_of(alloc, graph, &self.scope.input, &self.scope.ends),
+        }
+    }
+}
+
+impl<'a> Item<'a> {
+    /// The input of the item: the base input, with the LOOP maps from the output of the attempt before it.
+    pub fn input(&self, alloc: Global) -> Result<Container, AllocError> {
+        let (graph, scope) = (self.place.graph, self.place.scope);
+        let number = u32::try_from(self.number).unwrap_or(u32::MAX);
+        let base = base_input(alloc, graph, number, &scope.input, &scope.ends)?;
+        match self.state.output(self.attempt.saturating_sub(1)) {
+            None => Ok(base),
+            Some(last) => next_input(alloc, graph, number, base, last),
+        }
+    }
+
+    /// The fate of the item's activity.
+    pub fn fate(&self) -> Fate {
+        self.state.fate()
+    }
+
+    /// The person whose DONE gave the final output of the activity at a place of the item's scope.
+    pub fn performer_of(&self, place: u32) -> Option<&'a Name> {
+        let scope = self.place.scope;
+        match scope.ends.get(place as usize)? {
+            SourceEnd::Finished(_) => {}
+            _ => return None,
+        }
+        match scope.states.get(place as usize)? {
+            ActivityState::Program(state) => state.performer(),
+            ActivityState::Nested(_) => None,
+        }
+    }
+}
