@@ -1,9 +1,11 @@
 //! What an event does to the scope that receives it, and what follows from it.
-use crate::scopes::{ActivityState, NestedStage, ScopeState, attempt_place, place_of};
+use crate::scopes::{ActivityState, NestedStage, NestedState, ScopeState, attempt_place, place_of};
 use blocks_subprocs::{Next, base_input, graph_of, next_attempt, next_input, output_of};
 use containers::with_return_code;
 use dead_paths::signals_of;
-use flow_model::{Activity, Container, Graph, Library, List, Message, Name, Part, Path, SourceEnd};
+use flow_model::{
+    Activity, Container, Fate, Graph, Library, List, Message, Name, Part, Path, SourceEnd,
+};
 use std::alloc::{AllocError, Global};
 
 /// What follows from an event: the messages that it puts, and the items that came to be ready.
@@ -63,39 +65,36 @@ pub fn path_below(
 
 impl ScopeState {
     /// Adds the next scope of a block or process activity, whose input this is, and sends its BEGIN.
-    fn begin_attempt(
+    fn begin_attempt<'x>(
         &mut self,
-        with: Context<'_>,
+        with: Context<'x>,
         path: &Path,
         place: usize,
-        activity: &Activity,
+        activity: &'x Activity,
         input: Container,
         effects: &mut Effects,
     ) -> Result<(), AllocError> {
         let Some(graph) = graph_of(with.library, &activity.work) else {
             return Ok(());
         };
-        let Some(ActivityState::Nested(state)) = self.states.get_mut(place) else {
+        let Some(state) = self.states.get_mut(place) else {
             return Ok(());
         };
-        state
-            .scopes
-            .push(ScopeState::new(with.alloc, graph, input)?)?;
-        state.stage = NestedStage::Running;
-        let attempt = state.scopes.len() as u64;
+        let scope = ScopeState::new(with.alloc, graph, input)?;
+        let attempt = state.add_scope(scope)?;
         let below = path_below(with.alloc, path, activity, attempt)?;
         effects.begins.push(Message::Begin(below))?;
         Ok(())
     }
 
     /// The join of the activity at a place is true: its first attempt comes to be.
-    fn open(
+    fn open<'x>(
         &mut self,
-        with: Context<'_>,
-        graph: &Graph,
+        with: Context<'x>,
+        graph: &'x Graph,
         path: &Path,
         place: usize,
-        activity: &Activity,
+        activity: &'x Activity,
         effects: &mut Effects,
     ) -> Result<(), AllocError> {
         if let Some(ActivityState::Program(state)) = self.states.get_mut(place) {
@@ -111,10 +110,10 @@ impl ScopeState {
     }
 
     /// The activity at a place is settled: its signals go out, and the scope's END where it was the last.
-    fn settle(
+    fn settle<'x>(
         &mut self,
-        with: Context<'_>,
-        graph: &Graph,
+        with: Context<'x>,
+        graph: &'x Graph,
         path: &Path,
         place: usize,
         end: SourceEnd,
@@ -136,10 +135,10 @@ impl ScopeState {
     }
 
     /// The join of the activity at a place is false.
-    fn kill(
+    fn kill<'x>(
         &mut self,
-        with: Context<'_>,
-        graph: &Graph,
+        with: Context<'x>,
+        graph: &'x Graph,
         path: &Path,
         place: usize,
         effects: &mut Effects,
@@ -153,10 +152,10 @@ impl ScopeState {
     }
 
     /// Decides the activity at a place, where its join is known.
-    fn decide(
+    fn decide<'x>(
         &mut self,
-        with: Context<'_>,
-        graph: &Graph,
+        with: Context<'x>,
+        graph: &'x Graph,
         path: &Path,
         place: usize,
         effects: &mut Effects,
@@ -175,10 +174,10 @@ impl ScopeState {
     }
 
     /// The BEGIN of the scope is taken: activities without connectors are decided.
-    fn begin(
+    fn begin<'x>(
         &mut self,
-        with: Context<'_>,
-        graph: &Graph,
+        with: Context<'x>,
+        graph: &'x Graph,
         path: &Path,
         effects: &mut Effects,
     ) -> Result<(), AllocError> {
@@ -190,10 +189,10 @@ impl ScopeState {
     }
 
     /// A signal to the activity at a place is taken.
-    fn signal(
+    fn signal<'x>(
         &mut self,
-        with: Context<'_>,
-        graph: &Graph,
+        with: Context<'x>,
+        graph: &'x Graph,
         path: &Path,
         place: usize,
         value: bool,
@@ -206,11 +205,11 @@ impl ScopeState {
     }
 
     /// The output of a scope of the activity at a place, with the return code 0 before it.
-    fn inner_output(
+    fn inner_output<'x>(
         &self,
-        with: Context<'_>,
+        with: Context<'x>,
         place: usize,
-        activity: &Activity,
+        activity: &'x Activity,
         attempt: u64,
     ) -> Result<Option<Container>, AllocError> {
         let Some(graph) = graph_of(with.library, &activity.work) else {
@@ -224,10 +223,10 @@ impl ScopeState {
     }
 
     /// The END of an attempt of the activity at a place is taken.
-    fn end(
+    fn end<'x>(
         &mut self,
-        with: Context<'_>,
-        graph: &Graph,
+        with: Context<'x>,
+        graph: &'x Graph,
         path: &Path,
         place: usize,
         attempt: u64,
@@ -253,10 +252,10 @@ impl ScopeState {
     }
 
     /// The open attempt of the program activity at a place is completed.
-    fn complete(
+    fn complete<'x>(
         &mut self,
-        with: Context<'_>,
-        graph: &Graph,
+        with: Context<'x>,
+        graph: &'x Graph,
         path: &Path,
         place: usize,
         output: Container,
@@ -284,10 +283,10 @@ impl ScopeState {
     }
 
     /// What an event does to this scope.
-    fn receive(
+    fn receive<'x>(
         &mut self,
-        with: Context<'_>,
-        graph: &Graph,
+        with: Context<'x>,
+        graph: &'x Graph,
         path: &Path,
         event: Event<'_>,
         effects: &mut Effects,
@@ -312,36 +311,90 @@ impl ScopeState {
     }
 
     /// What an event does to the scope to which the parts lead; the path is that scope's.
-    pub fn change(
+    #[cycle(change)]
+    pub fn change<'x>(
         &mut self,
-        with: Context<'_>,
-        graph: &Graph,
+        with: Context<'x>,
+        graph: &'x Graph,
         path: &Path,
         parts: &[Part],
         event: Event<'_>,
         effects: &mut Effects,
     ) -> Result<(), AllocError> {
-        let [part, rest @ ..] = parts else {
-            return self.receive(with, graph, path, event, effects);
-        };
+        match parts {
+            [] => self.receive(with, graph, path, event, effects),
+            [part, rest @ ..] => self.change_inside(with, graph, path, part, rest, event, effects),
+        }
+    }
+
+    /// What an event does to a scope inside this one.
+    #[cycle(change)]
+    fn change_inside<'x>(
+        &mut self,
+        with: Context<'x>,
+        graph: &'x Graph,
+        path: &Path,
+        part: &Part,
+        rest: &[Part],
+        event: Event<'_>,
+        effects: &mut Effects,
+    ) -> Result<(), AllocError> {
         let Some(place) = place_of(graph, &part.name) else {
             return Ok(());
         };
         let Some(activity) = graph.activities.as_slice().get(place) else {
             return Ok(());
         };
-        let Some(inner) = graph_of(with.library, &activity.work) else {
-            return Ok(());
-        };
-        let (Some(ActivityState::Nested(state)), Some(attempt)) = (
-            self.states.get_mut(place),
+        let (Some(inner), Some(attempt)) = (
+            graph_of(with.library, &activity.work),
             attempt_place(part.attempt),
         ) else {
             return Ok(());
         };
-        match state.scopes.get_mut(attempt) {
+        match self.states.get_mut(place) {
             None => Ok(()),
-            Some(scope) => scope.change(with, inner, path, rest, event, effects),
+            Some(state) => state.change_inner(attempt, with, inner, path, rest, event, effects),
+        }
+    }
+}
+
+impl ActivityState {
+    /// What an event does to a scope of this activity, or inside it.
+    #[cycle(change)]
+    fn change_inner<'x>(
+        &mut self,
+        attempt: usize,
+        with: Context<'x>,
+        graph: &'x Graph,
+        path: &Path,
+        rest: &[Part],
+        event: Event<'_>,
+        effects: &mut Effects,
+    ) -> Result<(), AllocError> {
+        match self {
+            ActivityState::Program(_) => Ok(()),
+            ActivityState::Nested(state) => {
+                state.change_scope(attempt, with, graph, path, rest, event, effects)
+            }
+        }
+    }
+}
+
+impl NestedState {
+    #[cycle(change)]
+    fn change_scope<'x>(
+        &mut self,
+        attempt: usize,
+        with: Context<'x>,
+        graph: &'x Graph,
+        path: &Path,
+        rest: &[Part],
+        event: Event<'_>,
+        effects: &mut Effects,
+    ) -> Result<(), AllocError> {
+        match self.scopes.get_mut(attempt) {
+            None => Ok(()),
+            Some(scope) => scope.change(with, graph, path, rest, event, effects),
         }
     }
 }

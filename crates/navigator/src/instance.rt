@@ -1,6 +1,8 @@
 //! A root instance.
 use crate::changes::{Context, Effects, Event, messages_of};
-use crate::scopes::{ActivityState, Place, ScopeState, attempt_place, place_of, scope_at};
+use crate::scopes::{
+    ActivityState, NestedState, Place, ScopeState, attempt_place, place_of, scope_at,
+};
 use activity_states::ProgramState;
 use blocks_subprocs::graph_of;
 use flow_model::{
@@ -103,9 +105,9 @@ impl Instance {
     }
 
     /// What an event does to the scope of a path.
-    fn change(
+    fn change<'x>(
         &mut self,
-        with: Context<'_>,
+        with: Context<'x>,
         path: &Path,
         event: Event<'_>,
     ) -> Result<(List<Message>, Vec<Path>), AllocError> {
@@ -207,7 +209,9 @@ impl Instance {
         };
         match self.graph(library) {
             None => 0,
-            Some(graph) => change_hold(library, graph, &mut self.scope, parts, &last.name, change),
+            Some(graph) => self
+                .scope
+                .change_hold(library, graph, parts, &last.name, change),
         }
     }
 }
@@ -224,36 +228,87 @@ fn path_of_parts(alloc: Global, root: u64, parts: &[Part]) -> Result<Path, Alloc
     })
 }
 
-/// Changes a hold in the scope to which the parts lead.
-fn change_hold(
-    library: &Library,
-    graph: &Graph,
-    scope: &mut ScopeState,
-    parts: &[Part],
-    name: &Name,
-    change: HoldChange,
-) -> u64 {
-    let [part, rest @ ..] = parts else {
-        return change_hold_here(graph, scope, name, change);
-    };
-    let Some(place) = place_of(graph, &part.name) else {
-        return 0;
-    };
-    let Some(activity) = graph.activities.as_slice().get(place) else {
-        return 0;
-    };
-    let Some(inner) = graph_of(library, &activity.work) else {
-        return 0;
-    };
-    let (Some(ActivityState::Nested(state)), Some(attempt)) = (
-        scope.states.get_mut(place),
-        attempt_place(part.attempt),
-    ) else {
-        return 0;
-    };
-    match state.scopes.get_mut(attempt) {
-        None => 0,
-        Some(scope) => change_hold(library, inner, scope, rest, name, change),
+impl ScopeState {
+    /// Changes a hold in the scope to which the parts lead.
+    #[cycle(hold)]
+    fn change_hold<'x>(
+        &mut self,
+        library: &'x Library,
+        graph: &'x Graph,
+        parts: &[Part],
+        name: &Name,
+        change: HoldChange,
+    ) -> u64 {
+        match parts {
+            [] => change_hold_here(graph, self, name, change),
+            [part, rest @ ..] => self.change_hold_inside(library, graph, part, rest, name, change),
+        }
+    }
+
+    #[cycle(hold)]
+    fn change_hold_inside<'x>(
+        &mut self,
+        library: &'x Library,
+        graph: &'x Graph,
+        part: &Part,
+        rest: &[Part],
+        name: &Name,
+        change: HoldChange,
+    ) -> u64 {
+        let Some(place) = place_of(graph, &part.name) else {
+            return 0;
+        };
+        let Some(activity) = graph.activities.as_slice().get(place) else {
+            return 0;
+        };
+        let (Some(inner), Some(attempt)) = (
+            graph_of(library, &activity.work),
+            attempt_place(part.attempt),
+        ) else {
+            return 0;
+        };
+        match self.states.get_mut(place) {
+            None => 0,
+            Some(state) => state.change_hold(attempt, library, inner, rest, name, change),
+        }
+    }
+}
+
+impl ActivityState {
+    #[cycle(hold)]
+    fn change_hold<'x>(
+        &mut self,
+        attempt: usize,
+        library: &'x Library,
+        graph: &'x Graph,
+        rest: &[Part],
+        name: &Name,
+        change: HoldChange,
+    ) -> u64 {
+        match self {
+            ActivityState::Program(_) => 0,
+            ActivityState::Nested(state) => {
+                state.change_hold(attempt, library, graph, rest, name, change)
+            }
+        }
+    }
+}
+
+impl NestedState {
+    #[cycle(hold)]
+    fn change_hold<'x>(
+        &mut self,
+        attempt: usize,
+        library: &'x Library,
+        graph: &'x Graph,
+        rest: &[Part],
+        name: &Name,
+        change: HoldChange,
+    ) -> u64 {
+        match self.scopes.get_mut(attempt) {
+            None => 0,
+            Some(scope) => scope.change_hold(library, graph, rest, name, change),
+        }
     }
 }
 

@@ -78,7 +78,24 @@ impl NestedState {
     }
 }
 
+impl NestedState {
+    /// Adds the scope of the next attempt; answers its number.
+    fn add_scope(&mut self, scope: ScopeState) -> Result<u64, AllocError> {
+        self.scopes.push(scope)?;
+        self.stage = NestedStage::Running;
+        Ok(self.scopes.len() as u64)
+    }
+}
+
 impl ActivityState {
+    /// Adds the scope of the next attempt of a block or process activity; answers its number.
+    pub fn add_scope(&mut self, scope: ScopeState) -> Result<u64, AllocError> {
+        match self {
+            ActivityState::Program(_) => Ok(0),
+            ActivityState::Nested(state) => state.add_scope(scope),
+        }
+    }
+
     fn new(alloc: Global, work: &Work) -> ActivityState {
         match work {
             Work::Program(_) => ActivityState::Program(ProgramState::new(alloc)),

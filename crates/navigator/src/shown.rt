@@ -8,12 +8,12 @@ use std::alloc::{AllocError, Global};
 
 /// Adds the rows of the begun scopes of a block or process activity.
 #[cycle(rows)]
-fn add_inner(
+fn add_inner<'x>(
     alloc: Global,
-    library: &Library,
-    path: &Path,
-    activity: &Activity,
     state: &NestedState,
+    library: &'x Library,
+    path: &Path,
+    activity: &'x Activity,
     rows: &mut List<FateRow>,
 ) -> Result<(), AllocError> {
     let Some(graph) = graph_of(library, &activity.work) else {
@@ -23,7 +23,7 @@ fn add_inner(
         if scope.begun {
             let attempt = (i as u64).saturating_add(1);
             let below = path_below(alloc, path, activity, attempt)?;
-            add_rows(alloc, library, graph, scope, &below, rows)?;
+            add_rows(alloc, scope, library, graph, &below, rows)?;
         }
     }
     Ok(())
@@ -31,11 +31,11 @@ fn add_inner(
 
 /// Adds the rows of a scope, each activity's before those inside it.
 #[cycle(rows)]
-fn add_rows(
+fn add_rows<'x>(
     alloc: Global,
-    library: &Library,
-    graph: &Graph,
     scope: &ScopeState,
+    library: &'x Library,
+    graph: &'x Graph,
     path: &Path,
     rows: &mut List<FateRow>,
 ) -> Result<(), AllocError> {
@@ -46,7 +46,7 @@ fn add_rows(
             fate: state.fate(),
         })?;
         if let ActivityState::Nested(inner) = state {
-            add_inner(alloc, library, path, activity, inner, rows)?;
+            add_inner(alloc, inner, library, path, activity, rows)?;
         }
     }
     Ok(())
@@ -61,7 +61,7 @@ impl Instance {
             parts: List::new(alloc),
         };
         if let Some(graph) = self.graph(library) {
-            add_rows(alloc, library, graph, &self.scope, &path, &mut rows)?;
+            add_rows(alloc, &self.scope, library, graph, &path, &mut rows)?;
         }
         Ok(rows)
     }

@@ -1,0 +1,13 @@
+//! Who may do what: who is eligible for an item, and what stands on a person's worklist?
+//!
+//! Knows people with their roles, holds and phases; never how an item came to be ready. Begin with
+//! [`eligible`] and go on to [`Worklists`].
+#![tactic(auto)]
+
+mod rights;
+mod worklists;
+
+pub use rights::{
+    StaffFault, claim_test, done_test, eligible, release_test, take_test, transfer_test,
+};
+pub use worklists::{Rank, Worklists};
