@@ -1,0 +1,14 @@
+//! How is a transaction kept as bytes: [`encode`] writes its record, [`decode`] reads it back.
+//!
+//! Never knows what a transaction does, nor where its record lies. Begin with `specs/Records.antt`,
+//! which says the bytes of each kind, and `specs/Ranges.antt`, which says which transactions have a record.
+#![tactic(auto)]
+
+mod faults;
+mod fields;
+mod reading;
+mod writing;
+
+pub use faults::RecordFault;
+pub use reading::decode;
+pub use writing::encode;
