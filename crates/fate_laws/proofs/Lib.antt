@@ -1,0 +1,9 @@
+-- Read first: Extends, Attempts and Steps (one scope), then Stays (any depth).
+pub mod Extends
+pub mod Lines
+pub mod Rounds
+pub mod Attempts
+pub mod Steps
+pub mod Complete
+pub mod Stays
+pub mod Completions

@@ -1,0 +1,5 @@
+pub mod Walks
+pub mod Orders
+pub mod WellFormed
+pub mod More
+pub mod Stability
