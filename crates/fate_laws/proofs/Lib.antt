@@ -7,3 +7,9 @@ pub mod Steps
 pub mod Complete
 pub mod Stays
 pub mod Completions
+pub mod Forward
+pub mod Wired
+pub mod Connectors
+pub mod JoinRules
+pub mod PlainFates
+pub mod Solutions

@@ -3,3 +3,4 @@ pub mod Orders
 pub mod WellFormed
 pub mod More
 pub mod Stability
+pub mod Equations

@@ -8,8 +8,13 @@
 //! about.
 #![tactic(auto)]
 
+mod equations;
 mod stability;
 
+pub use equations::{
+    connector_values, fates_solve, fed_where_known, joins, only_fates_solve, step_keeps_ends,
+    step_keeps_only_ends,
+};
 pub use stability::{
     completion_keeps_ends, completion_keeps_fates, completion_keeps_output, completions_add,
     ends_stay, fates_stay, outputs_stay,
