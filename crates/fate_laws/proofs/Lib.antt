@@ -6,10 +6,12 @@ pub mod Attempts
 pub mod Steps
 pub mod Complete
 pub mod Stays
-pub mod Completions
+pub mod Later
 pub mod Forward
 pub mod Wired
 pub mod Connectors
 pub mod JoinRules
 pub mod PlainFates
 pub mod Solutions
+pub mod Peopled
+pub mod Items

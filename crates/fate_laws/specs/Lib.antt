@@ -4,3 +4,5 @@ pub mod WellFormed
 pub mod More
 pub mod Stability
 pub mod Equations
+pub mod Causes
+pub mod Completions

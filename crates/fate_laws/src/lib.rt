@@ -8,9 +8,13 @@
 //! about.
 #![tactic(auto)]
 
+mod causes;
+mod completions;
 mod equations;
 mod stability;
 
+pub use causes::{complete_has_fact, complete_has_given, root_has_fact};
+pub use completions::{first_counts, outputs_tell_all};
 pub use equations::{
     connector_values, fates_solve, fed_where_known, joins, only_fates_solve, step_keeps_ends,
     step_keeps_only_ends,

@@ -1,6 +1,6 @@
 use Rattle.std.proofs.Common.{[], ◌∷◌, ◌++◌, arith}
 use Rattle.flow_model.specs.Rows.{by_facts}
-use Rattle.fate_laws.proofs.Completions.{completions_add}
+use Rattle.fate_laws.proofs.Later.{completions_add}
 use Rattle.fate_laws.proofs.Stays.{tree_more}
 use Rattle.fate_laws.proofs.stability.completion_keeps_ends.Goals as goal
 

@@ -1,6 +1,6 @@
 use Rattle.std.proofs.Common.{◌+◌, [], ◌∷◌, ◌++◌, arith}
 use Rattle.flow_model.specs.Rows.{by_facts, deepest}
-use Rattle.fate_laws.proofs.Completions.{completions_add}
+use Rattle.fate_laws.proofs.Later.{completions_add}
 use Rattle.fate_laws.proofs.Stays.{output_more}
 use Rattle.fate_laws.proofs.stability.completion_keeps_output.Goals as goal
 

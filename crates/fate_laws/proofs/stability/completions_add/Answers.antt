@@ -1,4 +1,4 @@
-use Rattle.fate_laws.proofs.Completions.{completions_add}
+use Rattle.fate_laws.proofs.Later.{completions_add}
 use Rattle.fate_laws.proofs.stability.completions_add.Goals as goal
 
 pub returns : goal.returns
