@@ -15,3 +15,4 @@ pub mod PlainFates
 pub mod Solutions
 pub mod Peopled
 pub mod Items
+pub mod Everywhere

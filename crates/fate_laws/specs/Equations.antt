@@ -15,6 +15,7 @@ use Rattle.flow_model.specs.declared.graphs.When.TheVariants.{Always, Cond, Othe
 use Rattle.flow_model.specs.declared.graphs.Work.{Work, Program as RunsProgram}
 use Rattle.flow_model.specs.declared.instances.Fate.{Fate}
 use Rattle.flow_model.specs.declared.instances.Fate.TheVariants.{Waiting, Ready, Running, Finished, Dead}
+use Rattle.flow_model.specs.declared.instances.Part.{Part}
 use Rattle.flow_model.specs.declared.instances.SourceEnd.{SourceEnd}
 use Rattle.flow_model.specs.declared.instances.SourceEnd.TheVariants as end
 use Rattle.flow_model.specs.Conditions.{holds, truth}
@@ -22,6 +23,7 @@ use Rattle.flow_model.specs.Fates.{Ends, connector_value, is_settled, is_yes, jo
 use Rattle.flow_model.specs.ScopeContainers.{base_of}
 use Rattle.flow_model.specs.Scopes.{Known, all_of, output, tree_ends, tree_fate, tries_on, step}
 use Rattle.fate_laws.specs.Orders.{IsFlow}
+use Rattle.fate_laws.specs.StartedScopes.{ScopeFact, AtScope}
 use Rattle.fate_laws.specs.WellFormed.{Well}
 
 -- ---- connectors
@@ -115,6 +117,16 @@ abbrev pub FatesSolve : Type 0
 FatesSolve =
     (ts : List Template) (depth : ℕ) (k : Known) (g : Graph) (input : Container) → Well ts depth g
     → Solves ts depth (all_of k) g input (tree_fate ts depth (all_of k) g input) (tree_ends ts depth (all_of k) g input)
+
+-- in a scope
+abbrev pub IsSolved : List Template → ScopeFact
+IsSolved ts depth k g input = Solves ts depth k g input (tree_fate ts depth k g input) (tree_ends ts depth k g input)
+
+-- so they do in every scope that has started, at every depth
+abbrev pub FatesSolveBelow : Type 0
+FatesSolveBelow =
+    (ts : List Template) (depth : ℕ) (k : Known) (g : Graph) (input : Container) (path : List Part) → Well ts depth g
+    → AtScope (IsSolved ts) ts depth (all_of k) g input path
 
 -- and no others do
 pub record AreFates (ts : List Template) (depth : ℕ) (k : Known) (g : Graph) (input : Container) (fates : ℕ → Fate) (e : Ends) : Type 0 where

@@ -2,6 +2,7 @@ pub mod Walks
 pub mod Orders
 pub mod WellFormed
 pub mod More
+pub mod StartedScopes
 pub mod Stability
 pub mod Equations
 pub mod Causes

@@ -1,4 +1,4 @@
-ghost use Rattle.fate_laws.specs.Equations.{ConnectorValues, Joins, FatesSolve, OnlyFatesSolve, FedWhereKnown, StepKeepsEnds, StepKeepsOnlyEnds};
+ghost use Rattle.fate_laws.specs.Equations.{ConnectorValues, Joins, FatesSolve, FatesSolveBelow, OnlyFatesSolve, FatesSolveBelow, FedWhereKnown, StepKeepsEnds, StepKeepsOnlyEnds};
 
 /// What a connector is worth: unknown while its source is not settled, false where the source is
 /// dead, else its condition on the final output of the source. OTHERWISE is true exactly where the
@@ -17,6 +17,11 @@ pub fn joins()
 /// goes on with its attempts until the exit condition is true on the last output.
 pub fn fates_solve()
     ensures { FatesSolve }
+{}
+
+/// So they do in every scope that has started below a scope, at every depth.
+pub fn fates_solve_below()
+    ensures { FatesSolveBelow }
 {}
 
 /// No other fates and ends satisfy the plain equations.

@@ -16,8 +16,8 @@ mod stability;
 pub use causes::{complete_has_fact, complete_has_given, root_has_fact};
 pub use completions::{first_counts, outputs_tell_all};
 pub use equations::{
-    connector_values, fates_solve, fed_where_known, joins, only_fates_solve, step_keeps_ends,
-    step_keeps_only_ends,
+    connector_values, fates_solve, fates_solve_below, fed_where_known, joins, only_fates_solve,
+    step_keeps_ends, step_keeps_only_ends,
 };
 pub use stability::{
     completion_keeps_ends, completion_keeps_fates, completion_keeps_output, completions_add,
