@@ -10,3 +10,6 @@ pub mod DueOnce
 pub mod Trusting
 pub mod NothingDue
 pub mod WholeRuns
+pub mod ItemsBelow
+pub mod BoundedDue
+pub mod TakenMessages

@@ -194,7 +194,7 @@ module _ (r : Root) (q : Note → ℕ) where
             by (Some w) e h = rw e refl
 
     module _ (h : List Event) (fronts : TakesFronts x h) (nothing : (m : Note) → times x (due r []) m ≡ 0) where
-      put_is_due : (m : Note) → times x (all_put x h) m ≡ times x (due r h) m
+      pub put_is_due : (m : Note) → times x (all_put x h) m ≡ times x (due r h) m
       put_is_due m = put_once x itself one kinds h (stays nothing h) m
 
       taken_is_due : (m : Note) → times x (taken (running h)) m ≤ times x (due r h) m

@@ -3,3 +3,4 @@ pub mod Messages
 pub mod Runs
 pub mod ScopeFacts
 pub mod Laws
+pub mod TurnBound

@@ -1,7 +1,8 @@
--- Messages that are put and taken, for any engine that says which messages are due after a run. A run is the list of its events, the newest first.
+-- Messages that are put and taken, for any engine that says which messages are due after a run; a run is the list of its events, the newest first.
 use Rattle.std.specs.List.{list_any, filter}
 use Rattle.std.specs.Prelude.{◌≡◌, ℕ, ◌+◌, ◌==◌, Bool, not, ◌&&◌, if◌then◌else◌, Option, Some, None, List, [], ◌∷◌, ◌++◌}
 
+-- what is asked of an engine
 pub record Engine (M E : Type 0) : Type 0 where
   -- two messages are one
   pub same : M → M → Bool
@@ -14,6 +15,7 @@ pub record Engine (M E : Type 0) : Type 0 where
   -- the queue in which a message stands
   pub queue_of : M → ℕ
 
+-- whether a message stands in a list
 abbrev pub has : {M E : Type 0} → Engine M E → List M → M → Bool
 has x ms m = list_any (x.same m) ms
 
@@ -22,6 +24,7 @@ abbrev pub times : {M E : Type 0} → Engine M E → List M → M → ℕ
 times x [] m = 0
 times x (n ∷ ms) m = (if x.same m n then 1 else 0) + times x ms m
 
+-- the messages of a kind, and all by their kinds
 abbrev pub of_kind : {M E : Type 0} → Engine M E → ℕ → List M → List M
 of_kind x n ms = filter (λ m. x.kind m == n) ms
 
@@ -46,6 +49,7 @@ abbrev pub spent : {M E : Type 0} → Engine M E → List E → List M
 spent x [] = []
 spent x (e ∷ h) = with_taken (x.turned e) (spent x h)
 
+-- what stands in a queue: what was put and not taken
 abbrev pub queue : {M E : Type 0} → Engine M E → List E → ℕ → List M
 queue x h q = filter (λ m. (x.queue_of m == q) && not (has x (spent x h) m)) (all_put x h)
 

@@ -15,7 +15,7 @@ mod soundness;
 mod stability;
 
 pub use causes::complete_run_has_fact;
-pub use messages::exactly_once;
+pub use messages::{exactly_once, turns_are_bounded};
 pub use quiescence::{order_free, quiet_root, quiet_scopes};
 pub use soundness::{
     root_is_sound, scopes_are_sound, shown_fates_are_right, started_scopes_are_reached,
