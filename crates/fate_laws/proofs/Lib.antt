@@ -16,3 +16,5 @@ pub mod Solutions
 pub mod Peopled
 pub mod Items
 pub mod Everywhere
+pub mod ItemsBelow
+pub mod EnoughAttempts

@@ -7,3 +7,4 @@ pub mod Stability
 pub mod Equations
 pub mod Causes
 pub mod Completions
+pub mod AttemptBounds

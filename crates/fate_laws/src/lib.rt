@@ -8,11 +8,13 @@
 //! about.
 #![tactic(auto)]
 
+mod bounds;
 mod causes;
 mod completions;
 mod equations;
 mod stability;
 
+pub use bounds::{bound_is_free, root_bound_is_free};
 pub use causes::{complete_has_fact, complete_has_given, root_has_fact};
 pub use completions::{first_counts, outputs_tell_all};
 pub use equations::{

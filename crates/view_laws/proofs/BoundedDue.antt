@@ -27,7 +27,7 @@ use Rattle.fate_laws.proofs.Solutions.{order_of, step_keeps_ends}
 use Rattle.fate_laws.proofs.Steps.{closed_of}
 use Rattle.view_laws.specs.Messages.{Note, BeginNote, EndNote, push, note_of, notes, is_given, due_of, due_with, due_at, due_in}
 use Rattle.view_laws.specs.TurnBound.{size_in, sizes, expanded_size}
-use Rattle.view_laws.proofs.ItemsBelow.{Covers, covers_at, strip, count_from, count_at_most, count_split, has_items}
+use Rattle.fate_laws.proofs.ItemsBelow.{Covers, covers_at, strip, count_from, count_at_most, count_split, has_items}
 
 -- ---- attempts
 

@@ -10,6 +10,5 @@ pub mod DueOnce
 pub mod Trusting
 pub mod NothingDue
 pub mod WholeRuns
-pub mod ItemsBelow
 pub mod BoundedDue
 pub mod TakenMessages

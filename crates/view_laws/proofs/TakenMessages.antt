@@ -8,7 +8,7 @@ use Rattle.view_laws.specs.Runs.{Root, Event, running, has_started, facts, seen,
 use Rattle.view_laws.specs.TurnBound.{expanded_size}
 use Rattle.view_laws.proofs.BoundedDue.{bounds}
 use Rattle.view_laws.proofs.Counting.{spent_once, no_longer}
-use Rattle.view_laws.proofs.ItemsBelow.{items_of, facts_cover}
+use Rattle.fate_laws.proofs.ItemsBelow.{items_of, facts_cover}
 use Rattle.view_laws.proofs.NothingDue.{nothing}
 use Rattle.view_laws.proofs.SameNotes.{itself, one}
 use Rattle.view_laws.proofs.WholeRuns.{put_is_due}

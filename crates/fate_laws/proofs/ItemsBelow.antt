@@ -38,10 +38,22 @@ later q (y ∷ ys) p rest h = go (same_part q y) refl
     go true is = rw is (inr h)
     go false is = rw is h
 
-among_strip : (q : Part) (p : List Part) (xs : List (List Part)) → Among (q ∷ p) xs → Among p (strip q xs)
+pub among_strip : (q : Part) (p : List Part) (xs : List (List Part)) → Among (q ∷ p) xs → Among p (strip q xs)
 among_strip q p [] h = absurd h
 among_strip q p (x ∷ xs) (inl is) = rw is (rw (part_itself q) (inl refl))
 among_strip q p (x ∷ xs) (inr h) = later q x p (strip q xs) (among_strip q p xs h)
+
+strip_one : (q : Part) (x : List Part) (rest : List (List Part)) → length (stripped q x rest) ≤ 1 + length rest
+strip_one q [] rest = omega arith
+strip_one q (y ∷ ys) rest = go (same_part q y)
+  where
+    go : (b : Bool) → length (if b then ys ∷ rest else rest) ≤ 1 + length rest
+    go true = omega arith
+    go false = omega arith
+
+pub strip_at_most : (q : Part) (xs : List (List Part)) → length (strip q xs) ≤ length xs
+strip_at_most q [] = omega arith
+strip_at_most q (x ∷ xs) = let here = strip_one q x (strip q xs) in let rest = strip_at_most q xs in omega arith
 
 pub covers_at : (k : Known) (items : List (List Part)) (q : Part) → Covers k items → Covers (at q k) (strip q items)
 covers_at k items q covers = λ p o h. among_strip q p items (covers (q ∷ p) o h)
@@ -130,7 +142,7 @@ facts_cover (f ∷ fs) p o h = go (same_parts f.item.parts p) refl (facts_cover 
     go true is rest = inl (parts_one f.item.parts p is)
     go false is rest = inr (rest (rw is at h))
 
-some_item : (p : List Part) (items : List (List Part)) → Among p items → 0 < length items
+pub some_item : (p : List Part) (items : List (List Part)) → Among p items → 0 < length items
 some_item p [] h = absurd h
 some_item p (x ∷ xs) h = omega arith
 
