@@ -62,7 +62,7 @@ given_by (f ∷ fs) p out h = go (same_parts f.item.parts p) refl (given_by fs p
     go true is rest = (f, (0, omega arith, refl), parts_one f.item.parts p is)
     go false is rest = let r = rest (rw is at h) in let there = r.1 in (r.0, (suc there.0, omega (arith, there.1), there.2), r.2)
 
-path_given : (path : List Part) (k : Known) (p : List Part) → (at_path path k).given p ≡ k.given (path ++ p)
+pub path_given : (path : List Part) (k : Known) (p : List Part) → (at_path path k).given p ≡ k.given (path ++ p)
 path_given [] k p = refl
 path_given (q ∷ path) k p = path_given path (at q k) p
 

@@ -18,3 +18,4 @@ pub mod Items
 pub mod Everywhere
 pub mod ItemsBelow
 pub mod EnoughAttempts
+pub mod ReadyItems

@@ -8,3 +8,4 @@ pub mod Equations
 pub mod Causes
 pub mod Completions
 pub mod AttemptBounds
+pub mod Readiness

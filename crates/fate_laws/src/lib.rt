@@ -12,6 +12,7 @@ mod bounds;
 mod causes;
 mod completions;
 mod equations;
+mod readiness;
 mod stability;
 
 pub use bounds::{bound_is_free, root_bound_is_free};
@@ -21,6 +22,7 @@ pub use equations::{
     connector_values, fates_solve, fates_solve_below, fed_where_known, joins, only_fates_solve,
     step_keeps_ends, step_keeps_only_ends,
 };
+pub use readiness::{ready_counts, ready_is_new};
 pub use stability::{
     completion_keeps_ends, completion_keeps_fates, completion_keeps_output, completions_add,
     ends_stay, fates_stay, outputs_stay,
