@@ -1,0 +1,11 @@
+pub mod Walks
+pub mod Orders
+pub mod WellFormed
+pub mod More
+pub mod StartedScopes
+pub mod Stability
+pub mod Equations
+pub mod Causes
+pub mod Completions
+pub mod AttemptBounds
+pub mod Readiness

@@ -1,0 +1,14 @@
+-- Read first: Counting (queues), then SoundScopes and QuietScopes (one scope and any depth), MoreDue and DueOnce (what is due), Trusting and WholeRuns.
+pub mod Honest
+pub mod Counting
+pub mod SameNotes
+pub mod SoundScopes
+pub mod QuietScopes
+pub mod ShownFates
+pub mod MoreDue
+pub mod DueOnce
+pub mod Trusting
+pub mod NothingDue
+pub mod WholeRuns
+pub mod BoundedDue
+pub mod TakenMessages

@@ -1,0 +1,6 @@
+pub mod Queues
+pub mod Messages
+pub mod Runs
+pub mod ScopeFacts
+pub mod Laws
+pub mod TurnBound

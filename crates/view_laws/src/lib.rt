@@ -1,0 +1,23 @@
+//! Which laws hold of the run of a root: of its messages, its queues and what its view shows?
+//!
+//! Each function here is a law: it takes nothing, does nothing, and its `ensures` is a statement
+//! about the definitions, which is proved. Nothing here knows how a run is kept, served or shown,
+//! nor which queue a message stands in: the laws hold for any rule.
+//!
+//! Begin with `specs/Messages.antt` and `specs/Runs.antt`, which say what is due after a run; then
+//! `specs/Laws.antt`.
+#![tactic(auto)]
+
+mod causes;
+mod messages;
+mod quiescence;
+mod soundness;
+mod stability;
+
+pub use causes::complete_run_has_fact;
+pub use messages::{exactly_once, turns_are_bounded};
+pub use quiescence::{order_free, quiet_root, quiet_scopes};
+pub use soundness::{
+    root_is_sound, scopes_are_sound, shown_fates_are_right, started_scopes_are_reached,
+};
+pub use stability::{due_stays, view_stays};
