@@ -22,6 +22,12 @@ short_unmade bytes le =
     let test : is_unmade (take 42 bytes) ≡ true = short_test (take 42 bytes) (omega (arith, length-take 42 bytes)) in
     rw test refl
 
+-- what isn't unmade has a byte
+pub not_short : (head : List ℕ) → is_unmade head ≡ false → 1 ≤ length head
+unfolding is_unmade
+not_short [] is = absurd (cc)
+not_short (byte ∷ head) is = omega arith
+
 state_unmade : (u m : Bool) (f : Option ℕ) (h : Header) (l : Listed) → state_of u m f h l ≡ Unmade → u ≡ true
 state_unmade true m f h l is = refl
 state_unmade false false f h l is = absurd (cc)

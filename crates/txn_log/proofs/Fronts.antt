@@ -62,7 +62,9 @@ made_header gate h r = λ i. record {
 faultless : (h : Header) → InRange h → header_fault 42 h ≡ None
 unfolding header_fault
 faultless h r =
-    rw (le-leb 1 h.generation r.generation_low, le-leb h.generation (2 ^ 62) r.generation_high, le-leb 1 h.queues r.queues_low, le-leb h.queues 16 r.queues_high, le-leb 1 h.limit r.limit_low, le-leb h.limit 10000000 r.limit_high, le-leb h.transactions h.limit r.transactions_high, le-leb h.roots h.transactions r.roots_high) refl
+    let transactions : nat_le 0 h.transactions ≡ true = le-leb 0 h.transactions (omega arith) in
+    let roots : nat_le 0 h.roots ≡ true = le-leb 0 h.roots (omega arith) in
+    rw (le-leb 1 h.generation r.generation_low, le-leb h.generation (2 ^ 62) r.generation_high, le-leb 1 h.queues r.queues_low, le-leb h.queues 16 r.queues_high, le-leb 1 h.limit r.limit_low, le-leb h.limit 10000000 r.limit_high, transactions, le-leb h.transactions h.limit r.transactions_high, roots, le-leb h.roots h.transactions r.roots_high) refl
 
 pub made_unmade : (gate : ℕ) (h : Header) (rest : List ℕ) → gate ≢ 1 → slot_state ((gate ∷ header_text h) ++ rest) ≡ Unmade
 made_unmade gate h rest shut =
@@ -77,6 +79,5 @@ made_good h rest ps e range lists =
     let opened : is_unmade (1 ∷ header_text h) ≡ false = made_open h in
     let magic : has_magic (1 ∷ header_text h) ≡ true = made_magic 1 h in
     let head : header_of (1 ∷ header_text h) ≡ h = made_header 1 h range in
-    let long : length (1 ∷ header_text h) ≡ 42 = header_long 1 h in
-    let none : header_fault 42 h ≡ None = faultless h range in
-    rw (first, second, opened, magic, head, long, none, lists) refl
+    let none : header_fault (length (take 42 ((1 ∷ header_text h) ++ rest))) h ≡ None = ap (λ (n : ℕ). header_fault n h) (ap length first ∙ header_long 1 h) ∙ faultless h range in
+    rw (first, second, opened, magic, head, none, lists) refl

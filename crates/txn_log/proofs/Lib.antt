@@ -6,3 +6,6 @@ pub mod Fronts
 pub mod Made
 pub mod Blocks
 pub mod Closing
+pub mod Placed
+pub mod Numbers
+pub mod StoreStates

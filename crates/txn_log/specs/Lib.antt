@@ -5,3 +5,4 @@ pub mod Stores
 pub mod Causes
 pub mod Opening
 pub mod Steps
+pub mod Standing

@@ -5,7 +5,7 @@ use Rattle.flow_disk.specs.declared.disk.Slot.TheVariants.{A}
 use Rattle.flow_disk.specs.Images.{Image}
 use Rattle.txn_log.specs.declared.chosen.Chosen.{Chosen}
 use Rattle.txn_log.specs.declared.header.Header.{Header}
-use Rattle.txn_log.specs.declared.log.Opened.{Opened}
+use Rattle.txn_log.specs.declared.opening.Opened.{Opened}
 use Rattle.txn_log.specs.declared.stops.LogStop.{LogStop}
 use Rattle.txn_log.specs.declared.stops.LogStop.TheVariants.{Unmade, Made, Foreign, Damaged, StoreFault, NoMemory}
 use Rattle.txn_log.specs.Records.{payloads_of, places_of, gates}
@@ -60,6 +60,13 @@ MayBeNew queues limit image = (store_of image ≡ NoStore) ⊎ (store_of image �
 abbrev pub MayBeMade : ℕ → ℕ → Image → Image → Type 0
 MayBeMade queues limit old image = (image ≡ old) ⊎ ((store_of old ≡ NoStore) × MayBeNew queues limit image)
 
--- an image opened: the slot that counts is the log's, with the header and the records that are handed out, each with the place of its gate
-pub record IsOpened (image : Image) (opened : Opened) : Type 0 where
-  pub counts : store_of image ≡ Counts opened.log.slot opened.header (payloads_of opened.records) opened.log.end
+-- the slot that counts is the log's, with the header and the payloads that are handed out
+abbrev pub IsOpened : Image → Opened → Type 0
+IsOpened image opened = store_of image ≡ Counts opened.log.slot opened.header (payloads_of opened.records) opened.log.end
+
+-- the log has the generation of the header and the number of the records, and each record the place of its gate
+pub record HasRecords (opened : Opened) : Type 0 where
+  pub generation : opened.log.generation ≡ opened.header.generation
+  pub count : opened.log.records ≡ length opened.records
+  pub alive : opened.log.failed ≡ false
+  pub places : places_of opened.records ≡ gates 42 (payloads_of opened.records)

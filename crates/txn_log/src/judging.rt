@@ -8,12 +8,14 @@ use crate::judged::{Body, Found, Judged, Record};
 use flow_model::{Bytes, List};
 use std::alloc::{AllocError, Global};
 
+#[tactic(auto, unfolding(crate::specs::Stored::is_unmade))]
 fn is_unmade(head: &[u8]) -> bool
     ensures { result ≡ unmade_test head.now }
 {
     head.len() <= 1 || head[0] == 0 || head[1..].starts_with(b"FLOWSTR".as_slice()) && head[0] != 1
 }
 
+#[tactic(auto, unfolding(crate::specs::Stored::has_magic))]
 fn has_magic(head: &[u8]) -> bool
     requires { 1 ≤ length head.now }
     ensures { result ≡ magic_test head.now }
@@ -46,6 +48,7 @@ fn number_at(head: &[u8], at: usize) -> u64
     ])
 }
 
+#[tactic(auto, unfolding(crate::specs::Stored::header_of))]
 fn header_of(head: &[u8]) -> Header
     ensures { result ≡ spelled_header head.now }
 {
@@ -66,6 +69,7 @@ fn is_field(size: usize, end: usize, low: u64, number: u64, high: u64) -> bool
 }
 
 /// The place of the first field that isn't whole or isn't in its range.
+#[tactic(auto, unfolding(crate::specs::Stored::header_fault))]
 fn header_fault(size: usize, header: &Header) -> Option<u64>
     ensures { result ≡ fault_of size header.now }
 {

@@ -17,6 +17,7 @@ mod header;
 mod judged;
 mod judging;
 mod log;
+mod opening;
 mod reading;
 mod steps;
 mod stops;
@@ -25,6 +26,7 @@ mod tests;
 
 pub use header::{Header, header_bytes};
 pub use judged::Record;
-pub use log::{Log, Opened};
+pub use log::Log;
+pub use opening::Opened;
 pub use steps::{MAX_PAYLOAD, open_body, other_slot, shut};
 pub use stops::{LogStop, StoreFault};

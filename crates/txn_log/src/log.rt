@@ -1,22 +1,16 @@
-//! The log.
-ghost use Rattle.std.specs.Prelude.{◌≡◌, ℕ, ◌+◌, ◌*◌, ◌<◌, ◌≤◌, ◌^◌, List, [], ◌∷◌, ◌++◌, length, OnOk, OnErr, IsErr, IsTrue, true, false, ◌↔◌};
-ghost use Rattle.flow_disk.specs.Causes.{HasCause, Rose};
-ghost use Rattle.flow_disk.specs.Moments.{Only, LeavesOnly};
+//! A log on one of two slots.
+ghost use Rattle.std.specs.Prelude.{◌≡◌, ℕ, ◌+◌, ◌*◌, ◌<◌, ◌≤◌, ◌^◌, length, OnOk, IsErr, IsTrue, true, false, ◌↔◌};
+ghost use Rattle.flow_disk.specs.Causes.{HasCause};
+ghost use Rattle.flow_disk.specs.Images.{Image, opposite};
+ghost use Rattle.flow_disk.specs.Moments.{LeavesOnly, Only};
 
-use crate::choosing::choose;
-use crate::chosen::Chosen;
 use crate::header::Header;
-use crate::judged::{Judged, Record};
-use crate::judging::judge;
-use crate::reading::read_slot;
-use crate::steps::{add, fill, other_slot, shut};
-use crate::stops::{LogStop, StoreFault};
-use flow_disk::{Disk, Failed, Slot};
-use flow_model::List;
-use std::alloc::Global;
+use crate::steps::{add, other_slot};
+use crate::stops::StoreFault;
+use flow_disk::{Disk, Slot};
 
-/// The slot that a log stands on, its generation, the number of its records and the place of its
-/// closed gate. Where the disk failed, the log isn't used from then on.
+/// A log: the slot that it stands on, its generation, the number of its records and the place of
+/// its closed gate. After a fault of the disk it isn't used.
 #[derive(Debug, Drop)]
 pub struct Log {
     slot: Slot,
@@ -27,83 +21,29 @@ pub struct Log {
     ghost bounded: { end ≤ 42 + 2097157 * records },
 }
 
-/// A store that is opened: its log, the header of the slot that counts, and its records in order.
-#[derive(Drop)]
-pub struct Opened {
-    pub log: Log,
-    pub header: Header,
-    pub records: List<Record>,
-}
-
-/// The judgement of a slot, as read.
-fn judge_slot<D: Disk>(alloc: Global, disk: &mut D, slot: Slot) -> Result<Judged, LogStop> {
-    let bytes = read_slot(alloc, disk, slot)?;
-    let judged = judge(alloc, &bytes)?;
-    Ok(judged)
-}
-
-/// Makes slot A into a store without records.
-fn found<D: Disk>(disk: &mut D, header: &Header) -> Result<(), Failed> {
-    let from = shut(disk, Slot::A)?;
-    fill(disk, Slot::A, from, header)
-}
-
 impl Log {
-    ghost use Rattle.txn_log.specs.Steps.{StandsOn, With, WithOrWithout};
+    ghost use Rattle.txn_log.specs.Standing.{IsAt, StandsOn, HasRecord, MayHaveRecord, HasTakenOver};
 
-    /// Opens a store that a crash may have left, after a sync.
-    pub fn reopen<D: Disk>(alloc: Global, disk: &mut D) -> Result<Opened, LogStop> {
-        disk.sync()?;
-        let a = judge_slot(alloc, disk, Slot::A)?;
-        let b = judge_slot(alloc, disk, Slot::B)?;
-        let Chosen { slot, body } = choose(a, b)?;
-        let log = Log {
+    /// A log on a slot of so many records, which end at the closed gate `end`.
+    pub(crate) fn on(slot: Slot, generation: u64, records: u64, end: u64) -> Log
+        requires { end ≤ 42 + 2097157 * records }
+        ensures { IsAt slot generation records end result }
+    {
+        Log {
             slot,
-            generation: body.header.generation,
-            records: body.records.len() as u64,
-            end: body.end,
+            generation,
+            records,
+            end,
             failed: false,
-        };
-        Ok(Opened {
-            log,
-            header: body.header,
-            records: body.records,
-        })
-    }
-
-    /// Makes a store where both slots are unmade, after a sync.
-    pub fn make<D: Disk>(
-        alloc: Global,
-        disk: &mut D,
-        queues: u8,
-        limit: u64,
-    ) -> Result<Log, LogStop> {
-        match Log::reopen(alloc, disk) {
-            Ok(_) => Err(LogStop::Made),
-            Err(LogStop::Unmade) => Log::make_in_a(disk, queues, limit),
-            Err(stop) => Err(stop),
         }
     }
 
-    fn make_in_a<D: Disk>(disk: &mut D, queues: u8, limit: u64) -> Result<Log, LogStop> {
-        let header = Header {
-            generation: 1,
-            queues,
-            limit,
-            transactions: 0,
-            roots: 0,
-        };
-        found(disk, &header)?;
-        Ok(Log {
-            slot: Slot::A,
-            generation: 1,
-            records: 0,
-            end: 42,
-            failed: false,
-        })
-    }
 
-    /// Adds a record. At Ok every image has it. After a fault the log isn't used.
+    /// Adds a record behind the others.
+    ///
+    /// At every moment of the call a crash leaves the records before, with the new one or without.
+    /// At Ok a crash leaves it. `StoreFault` comes exactly where the disk's count of faults rose;
+    /// then the log has failed and isn't used.
     pub fn append<D: Disk>(&mut self, disk: &mut D, payload: &[u8]) -> Result<(), StoreFault>
         requires some { 0 < length payload.now }
         requires size { length payload.now ≤ 2097152 }
@@ -111,11 +51,11 @@ impl Log {
         requires room { self.old.records < 2 ^ 32 }
         requires stands { D.tells → StandsOn self.old (D.seen disk.old) }
         ensures stands { OnOk result (D.tells → StandsOn self.new (D.seen disk.new)) }
-        ensures added { OnOk result (D.tells → With self.old.slot payload.now (D.seen disk.old) (D.seen disk.new)) }
+        ensures added { OnOk result (D.tells → HasRecord payload.now (D.seen disk.old) (D.seen disk.new)) }
         ensures durable { OnOk result (Only (D.seen disk.new) (D.images disk.new)) }
         ensures any_moment { D.tells → Only (D.seen disk.old) (D.images disk.old)
-            → LeavesOnly D.moment D.left_since disk.old disk.new (WithOrWithout self.old.slot payload.now (D.seen disk.old)) }
-        ensures read { D.tells → Only (D.seen disk.old) (D.images disk.old) → WithOrWithout self.old.slot payload.now (D.seen disk.old) (D.seen disk.new) }
+            → LeavesOnly D.moment D.left_since disk.old disk.new (MayHaveRecord payload.now (D.seen disk.old)) }
+        ensures read { D.tells → Only (D.seen disk.old) (D.images disk.old) → MayHaveRecord payload.now (D.seen disk.old) (D.seen disk.new) }
         ensures cause { HasCause (D.faults disk.old) (D.faults disk.new) result }
         ensures failed { IsTrue self.new.failed ↔ IsErr result }
         ensures same { (self.new.slot ≡ self.old.slot) × (self.new.generation ≡ self.old.generation) }
@@ -150,16 +90,23 @@ impl Log {
 
     /// Marks the log as one that isn't used any more, since the disk failed.
     pub fn fail(&mut self)
-        ensures { self.new.failed ≡ true }
+        ensures failed { self.new.failed ≡ true }
+        ensures same { (self.new.slot ≡ self.old.slot) × (self.new.generation ≡ self.old.generation) × (self.new.records ≡ self.old.records) × (self.new.end ≡ self.old.end) }
     {
         self.failed = true;
     }
 
-    /// Lets the log stand on the other slot, which has a whole body with this header, so many
+    /// Lets the log stand on the other slot, which counts on this disk with this header, so many
     /// records, and its closed gate at `end`.
-    pub fn take_over<D: Disk>(&mut self, _disk: &D, header: &Header, records: u64, end: u64)
+    pub fn take_over<D: Disk>(&mut self, disk: &D, header: &Header, records: u64, end: u64)
+        requires alive { self.old.failed ≡ false }
         requires end { end ≤ 42 + 2097157 * records }
+        requires later { self.old.generation < header.now.generation }
+        requires counts { D.tells → (c : Image) → D.images disk.now c → HasTakenOver self.old header.now records end c }
+        ensures log { IsAt (opposite self.old.slot) header.now.generation records end self.new }
+        ensures stands { D.tells → StandsOn self.new (D.seen disk.now) }
     {
+        let _disk = disk;
         self.slot = other_slot(self.slot);
         self.generation = header.generation;
         self.records = records;

@@ -2,7 +2,7 @@
 ghost use Rattle.std.specs.Prelude.{◌≢◌, MatchOption, IfOk, slice_index, ◌≡◌, ◌⊎◌, ℕ, ◌+◌, ◌<◌, ◌≤◌, ◌^◌, List, [], ◌∷◌, ◌++◌, length, take, OnOk, OnErr};
 ghost use Rattle.flow_disk.specs.Causes.{HasCause};
 ghost use Rattle.flow_disk.specs.Images.{Image, bytes_in, put_in, opposite, spliced};
-ghost use Rattle.flow_disk.specs.Moments.{Only, LeavesOnly};
+ghost use Rattle.flow_disk.specs.Moments.{Only, LeavesOnly, Within};
 ghost use Rattle.txn_log.specs.Steps.{Begins, IsStaged, GateDiffers, WithOrWithout, With, IsGoodTo, IsShut, HasBody, Stands, StandsOrUnmade, IsOurs};
 ghost use Rattle.txn_log.specs.Stored.{Unmade, Good, InRange, slot_state};
 
@@ -131,11 +131,12 @@ fn as_it_stands(size: u64, first: u8) -> Option<u64>
 }
 
 /// Closes the gate of a slot by its size and first byte, or leaves it as it stands, and answers from which byte on the slot is to be written.
-pub fn shut_gate<D: Disk>(disk: &mut D, slot: Slot, size: u64, first: u8) -> Result<u64, Failed>
+fn shut_gate<D: Disk>(disk: &mut D, slot: Slot, size: u64, first: u8) -> Result<u64, Failed>
     requires size { D.tells → size ≡ length (bytes_in (D.seen disk.old) slot) }
     requires first { D.tells → 1 < size → first ≡ slice_index (bytes_in (D.seen disk.old) slot) 0 }
     requires ours { D.tells → IsOurs (slot_state (bytes_in (D.seen disk.old) slot)) }
     ensures shut { IfOk result (λ from. D.tells → IsShut slot from (D.seen disk.new)) }
+    ensures from { IfOk result (λ from. (from ≡ 1) ⊎ (from ≡ 8)) }
     ensures other { OnOk result (D.tells → bytes_in (D.seen disk.new) (opposite slot) ≡ bytes_in (D.seen disk.old) (opposite slot)) }
     ensures durable { OnOk result (Only (D.seen disk.old) (D.images disk.old) → Only (D.seen disk.new) (D.images disk.new)) }
     ensures any_moment { D.tells → Only (D.seen disk.old) (D.images disk.old)
@@ -160,19 +161,38 @@ pub fn other_slot(slot: Slot) -> Slot
     }
 }
 
-/// The size of a slot and its first byte, or 0 where there is none or it is the only one.
-fn front<D: Disk>(disk: &mut D, slot: Slot) -> Result<(u64, u8), Failed> {
+/// The size of a slot, and its first byte where it has more than one.
+fn front<D: Disk>(disk: &mut D, slot: Slot) -> Result<(u64, u8), Failed>
+    ensures size { IfOk result (λ front. D.tells → front.0 ≡ length (bytes_in (D.seen disk.old) slot)) }
+    ensures first { IfOk result (λ front. D.tells → 1 < front.0 → front.1 ≡ slice_index (bytes_in (D.seen disk.old) slot) 0) }
+    ensures seen { D.seen disk.new ≡ D.seen disk.old }
+    ensures crash { Within (D.images disk.old) (D.images disk.new) }
+    ensures any_moment { LeavesOnly D.moment D.left_since disk.old disk.new (D.images disk.old) }
+    ensures cause { HasCause (D.faults disk.old) (D.faults disk.new) result }
+{
     let size = disk.size(slot)?;
     let mut first = [0];
-    if size > 1 {
-        disk.read_at(slot, 0, &mut first)?;
+    if size <= 1 {
+        return Ok((size, 0));
     }
+    disk.read_at(slot, 0, &mut first)?;
     Ok((size, first[0]))
 }
 
-/// Closes the gate of a slot, or leaves it as it stands where it is closed, and answers from which
-/// byte on the slot is to be written.
-pub fn shut<D: Disk>(disk: &mut D, slot: Slot) -> Result<u64, Failed> {
+/// Closes the gate of a slot that is unmade or good, or leaves it as it stands where it can be
+/// used so, and answers from which byte on the slot is to be written. Call it where a sync was the
+/// last that was done to the slot.
+pub fn shut<D: Disk>(disk: &mut D, slot: Slot) -> Result<u64, Failed>
+    requires ours { D.tells → IsOurs (slot_state (bytes_in (D.seen disk.old) slot)) }
+    ensures shut { IfOk result (λ from. D.tells → IsShut slot from (D.seen disk.new)) }
+    ensures from { IfOk result (λ from. (from ≡ 1) ⊎ (from ≡ 8)) }
+    ensures other { OnOk result (D.tells → bytes_in (D.seen disk.new) (opposite slot) ≡ bytes_in (D.seen disk.old) (opposite slot)) }
+    ensures durable { OnOk result (Only (D.seen disk.old) (D.images disk.old) → Only (D.seen disk.new) (D.images disk.new)) }
+    ensures any_moment { D.tells → Only (D.seen disk.old) (D.images disk.old)
+        → LeavesOnly D.moment D.left_since disk.old disk.new (StandsOrUnmade slot (slot_state (bytes_in (D.seen disk.old) slot)) (bytes_in (D.seen disk.old) (opposite slot))) }
+    ensures cause { HasCause (D.faults disk.old) (D.faults disk.new) result }
+{
     let (size, first) = front(disk, slot)?;
-    shut_gate(disk, slot, size, first)
+    let from = shut_gate(disk, slot, size, first)?;
+    Ok(from)
 }

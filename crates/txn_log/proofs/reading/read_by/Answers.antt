@@ -1,7 +1,7 @@
 use Rattle.std.proofs.Common.{◌≡◌, ◌∙◌, ◌++◌, ap, sym, subst, ◌≤◌, length, take, drop, List, ℕ, rules}
 use Rattle.flow_disk.specs.Images.{Image, bytes_in}
 use Rattle.txn_log.proofs.Blocks.{elapses_more, read_more}
-use Rattle.txn_log.proofs.reading.read_slot.Goals as goal
+use Rattle.txn_log.proofs.reading.read_by.Goals as goal
 
 pub blocks_left-preserved : goal.blocks_left-preserved
 blocks_left-preserved g c =
