@@ -9,3 +9,5 @@ pub mod Closing
 pub mod Placed
 pub mod Numbers
 pub mod StoreStates
+pub mod Openings
+pub mod Appended

@@ -13,3 +13,9 @@ IsCause before now result = now ≡ before
 abbrev pub UnlessFault : {T : Type 0} → Result T LogStop → Type 0 → Type 0
 UnlessFault (Err StoreFault) P = Unit {0}
 UnlessFault result P = P
+
+-- a cause outside of the store
+abbrev pub IsOutside : LogStop → Type 0
+IsOutside StoreFault = Unit {0}
+IsOutside NoMemory = Unit {0}
+IsOutside stop = ⊥

@@ -38,7 +38,6 @@ impl Log {
         }
     }
 
-
     /// Adds a record behind the others.
     ///
     /// At every moment of the call a crash leaves the records before, with the new one or without.

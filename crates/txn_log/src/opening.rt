@@ -3,7 +3,7 @@ ghost use Rattle.std.specs.Prelude.{◌≡◌, ℕ, ◌<◌, ◌≤◌, [], OnOk
 ghost use Rattle.flow_disk.specs.Causes.{HasCause};
 ghost use Rattle.flow_disk.specs.Images.{Image, bytes_in, opposite};
 ghost use Rattle.flow_disk.specs.Moments.{LeavesOnly, Only, Within};
-ghost use Rattle.txn_log.specs.Causes.{IsCause, UnlessFault};
+ghost use Rattle.txn_log.specs.Causes.{IsCause, IsOutside, UnlessFault};
 ghost use Rattle.txn_log.specs.Judging.{state_in};
 ghost use Rattle.txn_log.specs.Opening.{HasRecords, IsChoice, IsMakeRefusal, IsOpened, IsRefusal, IsStanding, MayBeMade, MayBeNew, first_header};
 ghost use Rattle.txn_log.specs.Standing.{IsAt};
@@ -12,8 +12,8 @@ ghost use Rattle.txn_log.specs.Stored.{Good, InRange, Unmade, slot_state};
 ghost use Rattle.txn_log.specs.Stores.{Counts, NoStore, store_of};
 ghost use Rattle.txn_log.specs.declared.stops.LogStop.TheVariants.{StoreFault};
 
-use crate::chosen::Chosen;
 use crate::choosing::choose;
+use crate::chosen::Chosen;
 use crate::header::Header;
 use crate::judged::{Judged, Record};
 use crate::judging::judge;
@@ -35,6 +35,7 @@ pub struct Opened {
 
 /// The judgement of a slot, as read.
 fn judge_slot<D: Disk>(alloc: Global, disk: &mut D, slot: Slot) -> Result<Judged, LogStop>
+    ensures outside { IfErr result IsOutside }
     ensures judged { IfOk result (λ judged. D.tells → state_in judged ≡ slot_state (bytes_in (D.seen disk.old) slot)) }
     ensures seen { D.seen disk.new ≡ D.seen disk.old }
     ensures crash { Within (D.images disk.old) (D.images disk.new) }
@@ -63,10 +64,10 @@ fn chosen<D: Disk>(alloc: Global, disk: &mut D) -> Result<Chosen, LogStop>
 /// How the store stands before one is made.
 fn standing<D: Disk>(alloc: Global, disk: &mut D) -> LogStop
     ensures stands { D.tells → IsStanding result (store_of (D.seen disk.new)) }
-    ensures seen { UnlessFault (Err result) (D.seen disk.new ≡ D.seen disk.old) }
-    ensures durable { UnlessFault (Err result) (Only (D.seen disk.new) (D.images disk.new)) }
+    ensures seen { UnlessFault {T = Unit {0}} (Err result) (D.seen disk.new ≡ D.seen disk.old) }
+    ensures durable { UnlessFault {T = Unit {0}} (Err result) (Only (D.seen disk.new) (D.images disk.new)) }
     ensures any_moment { LeavesOnly D.moment D.left_since disk.old disk.new (D.images disk.old) }
-    ensures cause { IsCause (D.faults disk.old) (D.faults disk.new) (Err result) }
+    ensures cause { IsCause {T = Unit {0}} (D.faults disk.old) (D.faults disk.new) (Err result) }
 {
     match Log::reopen(alloc, disk) {
         Ok(_) => LogStop::Made,

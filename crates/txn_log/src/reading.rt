@@ -2,7 +2,7 @@
 ghost use Rattle.std.specs.Prelude.{◌≡◌, ℕ, ◌+◌, ◌<◌, ◌≤◌, List, [], ◌∷◌, ◌++◌, length, take, drop, IfOk, OnOk, IfErr, vec_len};
 ghost use Rattle.flow_disk.specs.Images.{bytes_in};
 ghost use Rattle.flow_disk.specs.Moments.{Within, Elapses};
-ghost use Rattle.txn_log.specs.Causes.{IsCause};
+ghost use Rattle.txn_log.specs.Causes.{IsCause, IsOutside};
 
 use crate::stops::LogStop;
 use flow_disk::{Disk, Slot};
@@ -20,6 +20,7 @@ fn new_block(alloc: Global) -> Result<Vec<u8>, AllocError>
 
 /// All bytes of a slot.
 pub fn read_slot<D: Disk>(alloc: Global, disk: &mut D, slot: Slot) -> Result<Vec<u8>, LogStop>
+    ensures outside { IfErr result IsOutside }
     ensures bytes { IfOk result (λ v. D.tells → v.items ≡ bytes_in (D.seen disk.old) slot) }
     ensures seen { D.seen disk.new ≡ D.seen disk.old }
     ensures crash { Within (D.images disk.old) (D.images disk.new) }
@@ -38,6 +39,7 @@ fn read_by<D: Disk>(
     block: &mut [u8],
 ) -> Result<Vec<u8>, LogStop>
     requires { 0 < length block.old }
+    ensures outside { IfErr result IsOutside }
     ensures bytes { IfOk result (λ v. D.tells → v.items ≡ bytes_in (D.seen disk.old) slot) }
     ensures seen { D.seen disk.new ≡ D.seen disk.old }
     ensures crash { Within (D.images disk.old) (D.images disk.new) }
