@@ -1,0 +1,13 @@
+pub mod Begin
+pub mod Records
+pub mod Slots
+pub mod Staged
+pub mod Fronts
+pub mod Made
+pub mod Blocks
+pub mod Closing
+pub mod Placed
+pub mod Numbers
+pub mod StoreStates
+pub mod Openings
+pub mod Appended

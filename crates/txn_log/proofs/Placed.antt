@@ -1,0 +1,16 @@
+-- The places of the gates of records, one record at a time.
+use Rattle.std.proofs.Common.{◌≡◌, ℕ, ◌+◌, List, [], ◌∷◌, ◌++◌, length, refl, ap}
+use Rattle.txn_log.specs.Records.{gates}
+
+-- the place behind records with these payloads
+abbrev pub reach : ℕ → List (List ℕ) → ℕ
+reach place [] = place
+reach place (payload ∷ payloads) = reach (place + 5 + length payload) payloads
+
+pub reach-push : (place : ℕ) (ps : List (List ℕ)) (p : List ℕ) → reach place (ps ++ p ∷ []) ≡ reach place ps + 5 + length p
+reach-push place [] p = refl
+reach-push place (q ∷ ps) p = reach-push (place + 5 + length q) ps p
+
+pub gates-push : (place : ℕ) (ps : List (List ℕ)) (p : List ℕ) → gates place (ps ++ p ∷ []) ≡ gates place ps ++ reach place ps ∷ []
+gates-push place [] p = refl
+gates-push place (q ∷ ps) p = ap (λ (l : List ℕ). place ∷ l) (gates-push (place + 5 + length q) ps p)

@@ -1,0 +1,6 @@
+use Rattle.std.proofs.Common.{◌≡◌, ◌∙◌, rules}
+use Rattle.txn_log.proofs.Numbers.{eight_bytes}
+use Rattle.txn_log.proofs.judging.number_at.Goals as goal
+
+pub returns : goal.returns
+returns c = c.from_be_bytes.ensures ∙ rw (c.byte_at.ensures, c.byte_at-2.ensures, c.byte_at-3.ensures, c.byte_at-4.ensures, c.byte_at-5.ensures, c.byte_at-6.ensures, c.byte_at-7.ensures, c.byte_at-8.ensures) (eight_bytes c.args.head.now c.args.at)

@@ -1,0 +1,16 @@
+-- Records as the code keeps them: their payloads, and the places of their gates.
+use Rattle.std.specs.Prelude.{ℕ, ◌+◌, List, [], ◌∷◌, length, map}
+use Rattle.txn_log.specs.declared.judged.Record.{Record}
+
+-- the payloads of records, in order
+abbrev pub payloads_of : List Record → List (List ℕ)
+payloads_of records = map (λ r. r.payload) records
+
+-- the places of records, in order
+abbrev pub places_of : List Record → List ℕ
+places_of records = map (λ r. r.place) records
+
+-- the places of the gates of records with these payloads, from a place on
+abbrev pub gates : ℕ → List (List ℕ) → List ℕ
+gates place [] = []
+gates place (payload ∷ payloads) = place ∷ gates (place + 5 + length payload) payloads

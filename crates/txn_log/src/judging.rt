@@ -1,0 +1,189 @@
+//! What the bytes of a slot are: of no store, of another, damaged, or a header with records.
+ghost use Rattle.std.specs.Prelude.{◌≡◌, ℕ, ◌+◌, ◌<◌, ◌≤◌, ◌^◌, List, [], ◌∷◌, ◌++◌, length, take, drop, slice_index, IfOk, OnOk, None, true, false};
+ghost use Rattle.txn_log.specs.Judging.{IsPlaced, listed_of, state_in};
+ghost use Rattle.txn_log.specs.Stored.{has_magic as magic_test, header_fault as fault_of, header_of as spelled_header, is_field as field_test, is_unmade as unmade_test, is_whole, length_at, listed, with_header, number_at as spelled_number, slot_state};
+
+use crate::header::Header;
+use crate::judged::{Body, Found, Judged, Record};
+use flow_model::{Bytes, List};
+use std::alloc::{AllocError, Global};
+
+#[tactic(auto, unfolding(crate::specs::Stored::is_unmade))]
+fn is_unmade(head: &[u8]) -> bool
+    ensures { result ≡ unmade_test head.now }
+{
+    head.len() <= 1 || head[0] == 0 || head[1..].starts_with(b"FLOWSTR".as_slice()) && head[0] != 1
+}
+
+#[tactic(auto, unfolding(crate::specs::Stored::has_magic))]
+fn has_magic(head: &[u8]) -> bool
+    requires { 1 ≤ length head.now }
+    ensures { result ≡ magic_test head.now }
+{
+    let rest = &head[1..];
+    rest.starts_with(b"FLOWSTR1".as_slice()) || rest.starts_with(b"FLOWSTR2".as_slice())
+}
+
+/// The byte at a place, or 0 behind the end.
+fn byte_at(head: &[u8], at: usize) -> u8
+    ensures { result ≡ slice_index head.now at }
+{
+    if at < head.len() { head[at] } else { 0 }
+}
+
+/// The eight bytes from a place on as a number, with 0 for each that isn't there.
+fn number_at(head: &[u8], at: usize) -> u64
+    requires { at < 1000 }
+    ensures { result ≡ spelled_number head.now at }
+{
+    u64::from_be_bytes([
+        byte_at(head, at),
+        byte_at(head, at + 1),
+        byte_at(head, at + 2),
+        byte_at(head, at + 3),
+        byte_at(head, at + 4),
+        byte_at(head, at + 5),
+        byte_at(head, at + 6),
+        byte_at(head, at + 7),
+    ])
+}
+
+#[tactic(auto, unfolding(crate::specs::Stored::header_of))]
+fn header_of(head: &[u8]) -> Header
+    ensures { result ≡ spelled_header head.now }
+{
+    Header {
+        generation: number_at(head, 9),
+        queues: byte_at(head, 17),
+        limit: number_at(head, 18),
+        transactions: number_at(head, 26),
+        roots: number_at(head, 34),
+    }
+}
+
+/// Whether a field that ends at `end` is whole, and its number in its range.
+fn is_field(size: usize, end: usize, low: u64, number: u64, high: u64) -> bool
+    ensures { result ≡ field_test size end low number high }
+{
+    end <= size && low <= number && number <= high
+}
+
+/// The place of the first field that isn't whole or isn't in its range.
+#[tactic(auto, unfolding(crate::specs::Stored::header_fault))]
+fn header_fault(size: usize, header: &Header) -> Option<u64>
+    ensures { result ≡ fault_of size header.now }
+{
+    if !is_field(size, 17, 1, header.generation, 1 << 62) {
+        Some(9)
+    } else if !is_field(size, 18, 1, header.queues as u64, 16) {
+        Some(17)
+    } else if !is_field(size, 26, 1, header.limit, 10_000_000) {
+        Some(18)
+    } else if !is_field(size, 34, 0, header.transactions, header.limit) {
+        Some(26)
+    } else if !is_field(size, 42, 0, header.roots, header.transactions) {
+        Some(34)
+    } else {
+        None
+    }
+}
+
+/// The length that stands in the first four bytes.
+fn len_at(rest: &[u8]) -> usize
+    requires { 4 ≤ length rest.now }
+    ensures { result ≡ length_at rest.now }
+{
+    u32::from_be_bytes([rest[0], rest[1], rest[2], rest[3]]) as usize
+}
+
+/// The length of the whole record behind a gate, or 0.
+fn whole_len(rest: &[u8]) -> usize
+    ensures some { 0 < result → (is_whole rest.now ≡ true) × (result ≡ length_at rest.now) × (4 + result < length rest.now) }
+    ensures none { result ≡ 0 → is_whole rest.now ≡ false }
+    ensures most { result ≤ 2097152 }
+{
+    if rest.len() < 4 {
+        return 0;
+    }
+    let size = len_at(rest);
+    if size > 2_097_152 {
+        return 0;
+    }
+    if size >= rest.len() - 4 {
+        return 0;
+    }
+    size
+}
+
+/// The records from byte 42 on.
+fn list(alloc: Global, bytes: &[u8]) -> Result<Found, AllocError>
+    requires { length bytes.now < 2 ^ 63 }
+    ensures listed { IfOk result (λ found. listed_of found ≡ listed 0 42 (drop 42 bytes.now)) }
+    ensures placed { IfOk result IsPlaced }
+{
+    let mut records = Vec::new(alloc);
+    let mut at = 42;
+    'gates: while at < bytes.len() {
+        if bytes[at] != 1 {
+            return Ok(Found::Ends(records, at as u64));
+        }
+        let len = whole_len(&bytes[at + 1..]);
+        if len == 0 {
+            return Ok(Found::Breaks(at as u64));
+        }
+        let payload = Bytes::new(alloc, &bytes[at + 5..at + 5 + len])?;
+        let record = Record {
+            place: at as u64,
+            payload,
+        };
+        records.push(record)?;
+        at += 5 + len;
+    }
+    Ok(Found::Breaks(at as u64))
+}
+
+/// The first 42 bytes.
+fn head_of(bytes: &[u8]) -> &[u8]
+    ensures { result.now ≡ take 42 bytes.now }
+{
+    if bytes.len() < 42 {
+        bytes
+    } else {
+        &bytes[..42]
+    }
+}
+
+/// The judgement of a slot with this header by what is listed.
+fn judged_of(header: Header, found: Found) -> Judged
+    requires { IsPlaced found }
+    ensures { state_in result ≡ with_header None header (listed_of found) }
+{
+    match found {
+        Found::Ends(records, end) => Judged::Good(Body {
+            header,
+            records: List::from_vec(records),
+            end,
+        }),
+        Found::Breaks(place) => Judged::Damaged(place),
+    }
+}
+
+/// The judgement of a slot by its bytes.
+pub fn judge(alloc: Global, bytes: &[u8]) -> Result<Judged, AllocError>
+    requires { length bytes.now < 2 ^ 63 }
+    ensures { IfOk result (λ judged. state_in judged ≡ slot_state bytes.now) }
+{
+    let head = head_of(bytes);
+    if is_unmade(head) {
+        return Ok(Judged::Unmade);
+    }
+    if !has_magic(head) {
+        return Ok(Judged::Foreign);
+    }
+    let header = header_of(head);
+    if let Some(place) = header_fault(head.len(), &header) {
+        return Ok(Judged::Damaged(place));
+    }
+    let found = list(alloc, bytes)?;
+    Ok(judged_of(header, found))
+}

@@ -1,0 +1,170 @@
+//! A store opened and made.
+ghost use Rattle.std.specs.Prelude.{◌≡◌, ℕ, ◌<◌, ◌≤◌, [], OnOk, IfOk, IfErr, Ok, Err};
+ghost use Rattle.flow_disk.specs.Causes.{HasCause};
+ghost use Rattle.flow_disk.specs.Images.{Image, bytes_in, opposite};
+ghost use Rattle.flow_disk.specs.Moments.{LeavesOnly, Only, Within};
+ghost use Rattle.txn_log.specs.Causes.{IsCause, IsOutside, UnlessFault};
+ghost use Rattle.txn_log.specs.Judging.{state_in};
+ghost use Rattle.txn_log.specs.Opening.{HasRecords, IsChoice, IsMakeRefusal, IsOpened, IsRefusal, IsStanding, MayBeMade, MayBeNew, first_header};
+ghost use Rattle.txn_log.specs.Standing.{IsAt};
+ghost use Rattle.txn_log.specs.Steps.{Stands, StandsOrUnmade};
+ghost use Rattle.txn_log.specs.Stored.{Good, InRange, Unmade, slot_state};
+ghost use Rattle.txn_log.specs.Stores.{Counts, NoStore, store_of};
+ghost use Rattle.txn_log.specs.declared.stops.LogStop.TheVariants.{StoreFault};
+
+use crate::choosing::choose;
+use crate::chosen::Chosen;
+use crate::header::Header;
+use crate::judged::{Judged, Record};
+use crate::judging::judge;
+use crate::log::Log;
+use crate::reading::read_slot;
+use crate::steps::{fill, shut};
+use crate::stops::LogStop;
+use flow_disk::{Disk, Failed, Slot};
+use flow_model::List;
+use std::alloc::Global;
+
+/// A store that is opened: its log, the header of the slot that counts, and its records in order.
+#[derive(Drop)]
+pub struct Opened {
+    pub log: Log,
+    pub header: Header,
+    pub records: List<Record>,
+}
+
+/// The judgement of a slot, as read.
+fn judge_slot<D: Disk>(alloc: Global, disk: &mut D, slot: Slot) -> Result<Judged, LogStop>
+    ensures outside { IfErr result IsOutside }
+    ensures judged { IfOk result (λ judged. D.tells → state_in judged ≡ slot_state (bytes_in (D.seen disk.old) slot)) }
+    ensures seen { D.seen disk.new ≡ D.seen disk.old }
+    ensures crash { Within (D.images disk.old) (D.images disk.new) }
+    ensures any_moment { LeavesOnly D.moment D.left_since disk.old disk.new (D.images disk.old) }
+    ensures cause { IsCause (D.faults disk.old) (D.faults disk.new) result }
+{
+    let bytes = read_slot(alloc, disk, slot)?;
+    let judged = judge(alloc, &bytes)?;
+    Ok(judged)
+}
+
+/// The slot that counts, as read.
+fn chosen<D: Disk>(alloc: Global, disk: &mut D) -> Result<Chosen, LogStop>
+    ensures chosen { IfOk result (λ chosen. D.tells → IsChoice (Ok chosen) (store_of (D.seen disk.old))) }
+    ensures refused { IfErr result (λ stop. D.tells → IsRefusal stop (store_of (D.seen disk.old))) }
+    ensures seen { D.seen disk.new ≡ D.seen disk.old }
+    ensures crash { Within (D.images disk.old) (D.images disk.new) }
+    ensures any_moment { LeavesOnly D.moment D.left_since disk.old disk.new (D.images disk.old) }
+    ensures cause { IsCause (D.faults disk.old) (D.faults disk.new) result }
+{
+    let a = judge_slot(alloc, disk, Slot::A)?;
+    let b = judge_slot(alloc, disk, Slot::B)?;
+    choose(a, b)
+}
+
+/// How the store stands before one is made.
+fn standing<D: Disk>(alloc: Global, disk: &mut D) -> LogStop
+    ensures stands { D.tells → IsStanding result (store_of (D.seen disk.new)) }
+    ensures seen { UnlessFault {T = Unit {0}} (Err result) (D.seen disk.new ≡ D.seen disk.old) }
+    ensures durable { UnlessFault {T = Unit {0}} (Err result) (Only (D.seen disk.new) (D.images disk.new)) }
+    ensures any_moment { LeavesOnly D.moment D.left_since disk.old disk.new (D.images disk.old) }
+    ensures cause { IsCause {T = Unit {0}} (D.faults disk.old) (D.faults disk.new) (Err result) }
+{
+    match Log::reopen(alloc, disk) {
+        Ok(_) => LogStop::Made,
+        Err(stop) => stop,
+    }
+}
+
+/// Makes slot A, which is unmade, into a store without records.
+fn fill_a<D: Disk>(disk: &mut D, header: &Header) -> Result<(), Failed>
+    requires range { InRange header.now }
+    requires unmade { D.tells → slot_state (D.seen disk.old).a ≡ Unmade }
+    ensures made { OnOk result (D.tells → Stands Slot.A (Good header.now [] 42) (D.seen disk.old).b (D.seen disk.new)) }
+    ensures durable { OnOk result (Only (D.seen disk.new) (D.images disk.new)) }
+    ensures any_moment { D.tells → Only (D.seen disk.old) (D.images disk.old)
+        → LeavesOnly D.moment D.left_since disk.old disk.new (StandsOrUnmade Slot.A (Good header.now [] 42) (D.seen disk.old).b) }
+    ensures cause { HasCause (D.faults disk.old) (D.faults disk.new) result }
+{
+    let from = shut(disk, Slot::A)?;
+    fill(disk, Slot::A, from, header)?;
+    Ok(())
+}
+
+/// Makes a store where there is none.
+fn make_new<D: Disk>(disk: &mut D, queues: u8, limit: u64) -> Result<Log, LogStop>
+    requires queues { (1 ≤ queues) × (queues ≤ 16) }
+    requires limit { (1 ≤ limit) × (limit ≤ 10000000) }
+    requires none { D.tells → store_of (D.seen disk.old) ≡ NoStore }
+    ensures made { IfOk result (λ log. D.tells → store_of (D.seen disk.new) ≡ Counts Slot.A (first_header queues limit) [] 42) }
+    ensures log { IfOk result (IsAt Slot.A 1 0 42) }
+    ensures only_fault { IfErr result (λ stop. stop ≡ StoreFault) }
+    ensures durable { OnOk result (Only (D.seen disk.new) (D.images disk.new)) }
+    ensures any_moment { D.tells → Only (D.seen disk.old) (D.images disk.old)
+        → LeavesOnly D.moment D.left_since disk.old disk.new (MayBeNew queues limit) }
+    ensures cause { IsCause (D.faults disk.old) (D.faults disk.new) result }
+{
+    let header = Header {
+        generation: 1,
+        queues,
+        limit,
+        transactions: 0,
+        roots: 0,
+    };
+    fill_a(disk, &header)?;
+    Ok(Log::on(Slot::A, 1, 0, 42))
+}
+
+impl Log {
+    /// Opens a store that a crash may have left, after a sync, and answers the slot that counts.
+    ///
+    /// `Unmade`, `Foreign` and `Damaged` come exactly where both slots say so, `Made` never,
+    /// `StoreFault` exactly where the disk's count of faults rose, and `NoMemory` for want of
+    /// memory. The disk isn't written.
+    pub fn reopen<D: Disk>(alloc: Global, disk: &mut D) -> Result<Opened, LogStop>
+        ensures opened { IfOk result (λ opened. D.tells → IsOpened (D.seen disk.new) opened) }
+        ensures records { IfOk result HasRecords }
+        ensures refused { IfErr result (λ stop. D.tells → IsRefusal stop (store_of (D.seen disk.new))) }
+        ensures seen { UnlessFault result (D.seen disk.new ≡ D.seen disk.old) }
+        ensures durable { UnlessFault result (Only (D.seen disk.new) (D.images disk.new)) }
+        ensures any_moment { LeavesOnly D.moment D.left_since disk.old disk.new (D.images disk.old) }
+        ensures cause { IsCause (D.faults disk.old) (D.faults disk.new) result }
+    {
+        disk.sync()?;
+        let Chosen { slot, body } = chosen(alloc, disk)?;
+        let records = body.records.len() as u64;
+        let log = Log::on(slot, body.header.generation, records, body.end);
+        Ok(Opened {
+            log,
+            header: body.header,
+            records: body.records,
+        })
+    }
+
+    /// Makes a store where both slots are unmade, after a sync.
+    ///
+    /// `Made` comes exactly where a slot counts, `Foreign` and `Damaged` where both slots say so,
+    /// `Unmade` never, `StoreFault` exactly where the disk's count of faults rose, and `NoMemory`
+    /// for want of memory. Where a store stands or the slots are damaged, the disk isn't written.
+    pub fn make<D: Disk>(
+        alloc: Global,
+        disk: &mut D,
+        queues: u8,
+        limit: u64,
+    ) -> Result<Log, LogStop>
+        requires queues { (1 ≤ queues) × (queues ≤ 16) }
+        requires limit { (1 ≤ limit) × (limit ≤ 10000000) }
+        ensures was { OnOk result (D.tells → store_of (D.seen disk.old) ≡ NoStore) }
+        ensures made { IfOk result (λ log. D.tells → store_of (D.seen disk.new) ≡ Counts Slot.A (first_header queues limit) [] 42) }
+        ensures log { IfOk result (IsAt Slot.A 1 0 42) }
+        ensures refused { IfErr result (λ stop. D.tells → IsMakeRefusal stop (store_of (D.seen disk.old))) }
+        ensures durable { OnOk result (Only (D.seen disk.new) (D.images disk.new)) }
+        ensures any_moment { D.tells → Only (D.seen disk.old) (D.images disk.old)
+            → LeavesOnly D.moment D.left_since disk.old disk.new (MayBeMade queues limit (D.seen disk.old)) }
+        ensures cause { IsCause (D.faults disk.old) (D.faults disk.new) result }
+    {
+        match standing(alloc, disk) {
+            LogStop::Unmade => make_new(disk, queues, limit),
+            stop => Err(stop),
+        }
+    }
+}

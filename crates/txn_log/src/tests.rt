@@ -1,0 +1,166 @@
+//! A store byte by byte, what a stop at each call leaves, and stores that are cut or altered.
+use crate::{Log, LogStop};
+use flow_disk::{Disk, MemDisk, Slot};
+use std::test::Fail;
+
+const MADE: [u8; 43] = [
+    1, 0x46, 0x4c, 0x4f, 0x57, 0x53, 0x54, 0x52, 0x32, 0, 0, 0, 0, 0, 0, 0, 1, 1, 0, 0, 0, 0, 0,
+    0x0f, 0x42, 0x40, 0, 0, 0, 0, 0, 0, 0, 0, 0, 0, 0, 0, 0, 0, 0, 0, 0,
+];
+
+const CLOCK: [u8; 17] = [0, 0, 0, 0, 0, 0, 0, 1, 0x0f, 0, 0, 0, 0, 0, 0, 0, 5];
+
+fn records_of(rt: &HostRuntime, disk: &mut MemDisk) -> Result<usize, Fail> {
+    Ok(Log::reopen(rt.alloc(), disk)?.records.len())
+}
+
+fn with_a(rt: &HostRuntime, bytes: &[u8]) -> Result<MemDisk, Fail> {
+    Ok(MemDisk::with(rt.alloc(), bytes, &[], &[])?)
+}
+
+fn stop_of(rt: &HostRuntime, bytes: &[u8]) -> Result<Option<LogStop>, Fail> {
+    let mut disk = with_a(rt, bytes)?;
+    Ok(Log::reopen(rt.alloc(), &mut disk).err())
+}
+
+fn clocked(rt: &HostRuntime) -> Result<MemDisk, Fail> {
+    let alloc = rt.alloc();
+    let mut disk = MemDisk::new(alloc, &[])?;
+    let mut log = Log::make(alloc, &mut disk, 1, 1_000_000)?;
+    log.append(&mut disk, &CLOCK)?;
+    Ok(disk)
+}
+
+#[test]
+fn a_store_byte_by_byte(rt: HostRuntime) -> Result<(), Fail> {
+    let alloc = rt.alloc();
+    let mut disk = MemDisk::new(alloc, &[])?;
+    let mut log = Log::make(alloc, &mut disk, 1, 1_000_000)?;
+    assert_eq!(rt; disk.bytes(Slot::A), MADE.as_slice());
+    assert_eq!(rt; disk.bytes(Slot::B).len(), 0);
+    let before = disk.calls();
+    log.append(&mut disk, &CLOCK)?;
+    assert_eq!(rt; disk.calls() - before, 6);
+    let bytes = disk.bytes(Slot::A);
+    assert_eq!(rt; bytes.len(), 65);
+    assert_eq!(rt; &bytes[42..47], [1, 0, 0, 0, 0x11].as_slice());
+    assert_eq!(rt; &bytes[47..64], CLOCK.as_slice());
+    assert_eq!(rt; bytes[64], 0);
+    assert_eq!(rt; disk.starved(), 0);
+    let opened = Log::reopen(alloc, &mut disk)?;
+    assert_eq!(rt; opened.records.len(), 1);
+    assert_eq!(rt; opened.records.as_slice()[0].place, 42);
+    assert_eq!(rt;
+        opened.records.as_slice()[0].payload.as_slice(),
+        CLOCK.as_slice()
+    );
+    assert_eq!(rt; opened.header.limit, 1_000_000);
+    Ok(())
+}
+
+#[test]
+fn a_stop_at_each_call_of_an_append(rt: HostRuntime) -> Result<(), Fail> {
+    let alloc = rt.alloc();
+    for stop in 1..8 {
+        for choice in [0, 1, 215, 221] {
+            let mut made = with_a(&rt, &MADE)?;
+            let log = Log::reopen(alloc, &mut made)?.log;
+            let mut log = log;
+            let mut disk = MemDisk::stopping(alloc, &MADE, &[], stop)?;
+            let done = log.append(&mut disk, &CLOCK);
+            assert_eq!(rt; done.is_ok(), stop > 6);
+            let mut left = disk.crash(choice)?;
+            let records = records_of(&rt, &mut left)?;
+            let wanted = stop > 6 || stop == 6 && (choice == 1 || choice == 215);
+            assert_eq!(rt; records == 1, wanted);
+        }
+    }
+    Ok(())
+}
+
+#[test]
+fn stores_that_are_refused(rt: HostRuntime) -> Result<(), Fail> {
+    let alloc = rt.alloc();
+    assert_eq!(rt; stop_of(&rt, &[])?, Some(LogStop::Unmade));
+    assert_eq!(rt;
+        stop_of(&rt, b"hello".as_slice())?,
+        Some(LogStop::Foreign(Slot::A))
+    );
+    let mut again = clocked(&rt)?;
+    assert_eq!(rt;
+        Log::make(alloc, &mut again, 1, 1_000_000).err(),
+        Some(LogStop::Made)
+    );
+    let mut equal = MemDisk::with(alloc, &MADE, &MADE, &[])?;
+    let both = Some(LogStop::Damaged(Slot::B, 9));
+    assert_eq!(rt; Log::reopen(alloc, &mut equal).err(), both);
+    assert_eq!(rt; Log::make(alloc, &mut equal, 1, 1_000_000).err(), both);
+    Ok(())
+}
+
+#[test]
+fn cut_and_altered(rt: HostRuntime) -> Result<(), Fail> {
+    let alloc = rt.alloc();
+    let made = clocked(&rt)?;
+    assert_eq!(rt; made.bytes(Slot::A).len(), 65);
+    for n in 0..65_usize {
+        let wanted = match n {
+            0..=1 => LogStop::Unmade,
+            2..=8 => LogStop::Foreign(Slot::A),
+            9..=16 => LogStop::Damaged(Slot::A, 9),
+            17 => LogStop::Damaged(Slot::A, 17),
+            18..=25 => LogStop::Damaged(Slot::A, 18),
+            26..=33 => LogStop::Damaged(Slot::A, 26),
+            34..=41 => LogStop::Damaged(Slot::A, 34),
+            _ => LogStop::Damaged(Slot::A, 42),
+        };
+        assert_eq!(rt; stop_of(&rt, &made.bytes(Slot::A)[..n])?, Some(wanted));
+    }
+    for (at, byte, place) in [
+        (9, 128, 9),
+        (17, 0, 17),
+        (18, 1, 18),
+        (41, 1, 34),
+        (46, 0, 42),
+    ] {
+        let mut bytes = made.bytes(Slot::A).to_vec(alloc)?;
+        assert_eq!(rt; bytes.len(), 65);
+        bytes[at] = byte;
+        assert_eq!(rt;
+            stop_of(&rt, &bytes)?,
+            Some(LogStop::Damaged(Slot::A, place))
+        );
+    }
+    for (at, byte, wanted) in [(42, 7, 0), (46, 16, 1)] {
+        let mut bytes = made.bytes(Slot::A).to_vec(alloc)?;
+        assert_eq!(rt; bytes.len(), 65);
+        bytes[at] = byte;
+        let mut altered = with_a(&rt, &bytes)?;
+        assert_eq!(rt; records_of(&rt, &mut altered)?, wanted);
+    }
+    Ok(())
+}
+
+// A gate that is neither 0 nor 1 over the magic of the older format: the slot is written from byte 8
+// on, and a stop at any call leaves it unmade or made.
+#[test]
+fn an_older_slot_is_made(rt: HostRuntime) -> Result<(), Fail> {
+    let alloc = rt.alloc();
+    let mut old = MADE.to_vec(alloc)?;
+    assert_eq!(rt; old.len(), 43);
+    old[0] = 7;
+    old[8] = 0x31;
+    let mut disk = with_a(&rt, &old)?;
+    let _log = Log::make(alloc, &mut disk, 1, 1_000_000)?;
+    for stop in 1..20 {
+        for choice in [0, 1, 215, 221] {
+            let mut stopped = MemDisk::stopping(alloc, &old, &[], stop)?;
+            let is_made = Log::make(alloc, &mut stopped, 1, 1_000_000).is_ok();
+            let mut left = stopped.crash(choice)?;
+            let found = Log::reopen(alloc, &mut left);
+            assert!(rt; found.is_ok() || !is_made && found.err() == Some(LogStop::Unmade));
+        }
+    }
+    assert_eq!(rt; disk.bytes(Slot::A), MADE.as_slice());
+    Ok(())
+}
