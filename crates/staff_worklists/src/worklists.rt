@@ -106,6 +106,22 @@ impl Worklists {
         }
     }
 
+    /// Takes all items of a root off their shelves.
+    pub fn drop_root(&mut self, root: u64) -> Result<(), AllocError> {
+        let mut ranks = Vec::new(self.alloc);
+        let from = vec![in self.alloc; root]?;
+        for (rank, _shelf) in self.places.range(from..) {
+            if rank.first().copied() != Some(root) {
+                break;
+            }
+            ranks.push(rank.clone()?)?;
+        }
+        for rank in &ranks {
+            self.drop_item(rank);
+        }
+        Ok(())
+    }
+
     /// Adds the items of a shelf.
     fn add_shelf<'a>(
         &'a self,

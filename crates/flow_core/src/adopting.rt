@@ -1,0 +1,233 @@
+//! Records of a store: which are allowed, and the state after them.
+ghost use Rattle.std.specs.Prelude.{◌≡◌};
+ghost use Rattle.flow_core.specs.declared.adopting.AdoptFault.TheVariants.{NoMemory};
+
+use crate::items::{Known, settings_fit};
+use crate::paths::same_message;
+use crate::refusals::Stop;
+use crate::state::Core;
+use flow_model::{Message, Name, Path, Setting, Transaction, Who};
+use std::alloc::AllocError;
+use template_check::ImportFault;
+use thiserror::Error;
+
+/// Why a record isn't adopted.
+#[derive(Clone, Copy, Debug, PartialEq, Eq, Drop, Error)]
+pub enum AdoptFault {
+    /// The record isn't allowed there; the state is unchanged.
+    #[error("NotAllowed")]
+    NotAllowed,
+    /// There was no memory for it.
+    #[error("NoMemory")]
+    NoMemory,
+}
+
+impl From<AllocError> for AdoptFault {
+    ghost from_gives = { λ _ e. e ≡ NoMemory };
+
+    fn from(_fault: AllocError) -> AdoptFault {
+        AdoptFault::NoMemory
+    }
+}
+
+/// A test of a command, as a test of its record.
+fn passes(test: Result<(), Stop>) -> Result<bool, AllocError> {
+    match test {
+        Ok(()) => Ok(true),
+        Err(Stop::Refused(_)) => Ok(false),
+        Err(Stop::NoMemory) => Err(AllocError),
+    }
+}
+
+impl Core {
+    fn allows_import(&self, text: &[u8]) -> Result<bool, AllocError> {
+        match self.store.check(self.alloc, text) {
+            Ok(_) => Ok(true),
+            Err(ImportFault::Rule(_)) => Ok(false),
+            Err(ImportFault::NoMemory) => Err(AllocError),
+        }
+    }
+
+    /// A START carries the newest version, a key that no live root has, and settings that fit.
+    fn allows_start(
+        &self,
+        process: &Name,
+        version: u32,
+        starter: &Name,
+        key: Option<&Name>,
+        settings: &[Setting],
+    ) -> bool {
+        let Some(place) = self.store.newest(process) else {
+            return false;
+        };
+        let Some(template) = self.store.template(place) else {
+            return false;
+        };
+        let is_new = match key {
+            None => true,
+            Some(key) => !self.keys.contains_key(key.as_slice()),
+        };
+        is_new
+            && template.version == version
+            && self.store.person(starter).is_some()
+            && settings_fit(&template.graph.input, settings)
+    }
+
+    fn allows_turn(&self, queue: u8, message: &Message) -> bool {
+        if queue < 1 || queue > self.queues.count() {
+            return false;
+        }
+        match self.queues.front(queue) {
+            None => false,
+            Some(front) => same_message(front, message),
+        }
+    }
+
+    fn allows_claim(&self, known: &Known<'_>, who: &Name) -> Result<bool, AllocError> {
+        match self.store.person(who) {
+            None => Ok(false),
+            Some(person) => passes(self.may_claim(known, person)),
+        }
+    }
+
+    fn allows_transfer(
+        &self,
+        known: &Known<'_>,
+        from: &Name,
+        to: &Name,
+    ) -> Result<bool, AllocError> {
+        match self.store.person(to) {
+            None => Ok(false),
+            Some(person) => Ok(
+                self.store.person(from).is_some()
+                    && passes(self.may_transfer(known, from, person))?,
+            ),
+        }
+    }
+
+    fn allows_done(
+        &self,
+        known: &Known<'_>,
+        who: &Who,
+        settings: &[Setting],
+    ) -> Result<bool, AllocError> {
+        let is_known = match who {
+            Who::Person(name) => self.store.person(name).is_some(),
+            Who::Agent(_) => true,
+        };
+        Ok(
+            is_known
+                && passes(self.may_complete(known, who))?
+                && settings_fit(&known.item.activity.output, settings),
+        )
+    }
+
+    /// Whether a record on an item is allowed, where its item is there.
+    fn allows_on(&self, known: &Known<'_>, t: &Transaction) -> Result<bool, AllocError> {
+        match t {
+            Transaction::Claim(_, who) => self.allows_claim(known, who),
+            Transaction::Release(_, who) => Ok(
+                self.store.person(who).is_some() && passes(self.may_release(known, who))?,
+            ),
+            Transaction::Transfer(_, from, to) => self.allows_transfer(known, from, to),
+            Transaction::Take(_, take) => {
+                Ok(passes(self.may_take(known))? && known.item.state.next_take() == *take)
+            }
+            Transaction::Done(_, who, settings) => {
+                self.allows_done(known, who, settings.as_slice())
+            }
+            Transaction::Force(_, settings) => Ok(
+                passes(self.may_force(known))?
+                    && settings_fit(&known.item.activity.output, settings.as_slice()),
+            ),
+            Transaction::Restart(_) => passes(self.may_restart(known)),
+            _ => Ok(false),
+        }
+    }
+
+    fn allows_item(&self, item: &Path, t: &Transaction) -> Result<bool, AllocError> {
+        match self.known(item) {
+            None => Ok(false),
+            Some(known) => self.allows_on(&known, t),
+        }
+    }
+
+    /// Whether the tests of a record's command give it now, number and root aside.
+    fn allows(&self, t: &Transaction) -> Result<bool, AllocError> {
+        match t {
+            Transaction::Import(text) => self.allows_import(text.as_slice()),
+            Transaction::Start(_, process, version, starter, key, settings) => Ok(
+                self.allows_start(
+                    process,
+                    *version,
+                    starter,
+                    key.as_ref(),
+                    settings.as_slice(),
+                ),
+            ),
+            Transaction::Turn(queue, message) => Ok(self.allows_turn(*queue, message)),
+            Transaction::Claim(item, _) => self.allows_item(item, t),
+            Transaction::Release(item, _) => self.allows_item(item, t),
+            Transaction::Transfer(item, _, _) => self.allows_item(item, t),
+            Transaction::Take(item, _) => self.allows_item(item, t),
+            Transaction::Done(item, _, _) => self.allows_item(item, t),
+            Transaction::Force(item, _) => self.allows_item(item, t),
+            Transaction::Restart(item) => self.allows_item(item, t),
+            _ => self.allows_root(t),
+        }
+    }
+
+    fn allows_root(&self, t: &Transaction) -> Result<bool, AllocError> {
+        match t {
+            Transaction::Suspend(root) => passes(self.may_suspend(*root)),
+            Transaction::Resume(root) => passes(self.may_resume(*root)),
+            Transaction::Terminate(root) => passes(self.may_terminate(*root)),
+            Transaction::Delete(root) => passes(self.may_delete(*root)),
+            Transaction::Clock(minutes) => {
+                Ok(*minutes <= 2_147_483_647 && passes(self.may_set_clock(*minutes))?)
+            }
+            _ => Ok(false),
+        }
+    }
+
+    /// Whether the number of a record is allowed: above that of the kept one before, or the next one.
+    fn allows_number(&self, number: u64) -> bool {
+        if number <= self.kept {
+            number > self.kept_number && self.number == self.kept
+        } else {
+            number == self.number.saturating_add(1) && number <= self.limit
+        }
+    }
+
+    /// Whether the root of a Start, and a Delete, are allowed under a number.
+    fn allows_root_number(&self, number: u64, t: &Transaction) -> bool {
+        match t {
+            Transaction::Start(root, _, _, _, _, _) if number <= self.kept => {
+                *root > self.kept_root && *root <= self.roots
+            }
+            Transaction::Start(root, _, _, _, _, _) => *root == self.roots.saturating_add(1),
+            Transaction::Delete(_) => number > self.kept,
+            _ => true,
+        }
+    }
+
+    /// Adopts a record of a store, in the order of the records.
+    pub fn adopt(&mut self, number: u64, t: Transaction) -> Result<(), AdoptFault> {
+        if !self.allows_number(number)
+            || !self.allows_root_number(number, &t)
+            || !self.allows(&t)?
+        {
+            return Err(AdoptFault::NotAllowed);
+        }
+        if number <= self.kept {
+            self.kept_number = number;
+            if let Transaction::Start(root, _, _, _, _, _) = &t {
+                self.kept_root = *root;
+            }
+        } else {
+            self.number = number;
+        }
+        let _ = self.apply_as(number, t)?;
+        Ok(())
+    }
+}

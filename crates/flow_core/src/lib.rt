@@ -1,0 +1,22 @@
+//! Is a command allowed now, and what is the state after it?
+//!
+//! Knows the library, the roots, the queues and the worklists, and the live transactions; never bytes on
+//! a disk. [`Core::judge`] reads and never writes, and what it gives [`Core::apply`] can't refuse. Begin with
+//! `state`, and go on to `judging`, `applying` and `answering`.
+#![tactic(auto)]
+
+mod adopting;
+mod answering;
+mod applying;
+mod items;
+mod judging;
+mod paths;
+mod refusals;
+mod state;
+
+pub use adopting::AdoptFault;
+pub use answering::write_applied;
+pub use applying::{Applied, Note};
+pub use judging::Verdict;
+pub use refusals::{Refusal, write_refusal};
+pub use state::Core;

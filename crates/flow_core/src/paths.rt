@@ -1,0 +1,127 @@
+//! Paths: the queue of a message, the rank of an item, and equal messages.
+use blocks_subprocs::graph_of;
+use flow_model::{Graph, Library, Message, Part, Path, Work};
+use navigator::place_of;
+use staff_worklists::Rank;
+use std::alloc::{AllocError, Global};
+
+/// The number of process activities on the way along these parts.
+fn process_count(library: &Library, graph: &Graph, parts: &[Part]) -> u64 {
+    let mut graph = graph;
+    let mut count = 0u64;
+    for part in parts {
+        let Some(place) = place_of(graph, &part.name) else {
+            return count;
+        };
+        let Some(activity) = graph.activities.as_slice().get(place) else {
+            return count;
+        };
+        if let Work::Process(_) = &activity.work {
+            count = count.saturating_add(1);
+        }
+        match graph_of(library, &activity.work) {
+            None => return count,
+            Some(inner) => graph = inner,
+        }
+    }
+    count
+}
+
+/// The root and the parts of the scope that receives a message.
+fn receiver(message: &Message) -> (u64, &[Part]) {
+    match message {
+        Message::Begin(path) => (path.root, path.parts.as_slice()),
+        Message::Signal(path, _, _, _) => (path.root, path.parts.as_slice()),
+        Message::End(path) => match path.parts.as_slice() {
+            [] => (path.root, &[]),
+            [parts @ .., _last] => (path.root, parts),
+        },
+    }
+}
+
+/// The queue of a message: 1 and the remainder of the root's number and the process activities on the
+/// way to the scope that receives it, by the number of queues.
+pub fn queue_of(library: &Library, graph: &Graph, queues: u8, message: &Message) -> u8 {
+    let (root, parts) = receiver(message);
+    let count = u128::from(root) + u128::from(process_count(library, graph, parts));
+    let queues = u128::from(queues.max(1));
+    u8::try_from(count % queues + 1).unwrap_or(1)
+}
+
+/// The root of a message.
+pub fn root_of(message: &Message) -> u64 {
+    receiver(message).0
+}
+
+/// Where an item stands in show order: its root, then the place and the attempt of each part.
+pub fn rank_of(
+    alloc: Global,
+    library: &Library,
+    graph: &Graph,
+    item: &Path,
+) -> Result<Rank, AllocError> {
+    let mut graph = graph;
+    let mut rank = Vec::new(alloc);
+    rank.push(item.root)?;
+    for part in item.parts.as_slice() {
+        let Some(place) = place_of(graph, &part.name) else {
+            return Ok(rank);
+        };
+        rank.push(place as u64)?;
+        rank.push(part.attempt)?;
+        if let Some(activity) = graph.activities.as_slice().get(place) {
+            if let Some(inner) = graph_of(library, &activity.work) {
+                graph = inner;
+            }
+        }
+    }
+    Ok(rank)
+}
+
+fn same_part(first: &Part, second: &Part) -> bool {
+    first.attempt == second.attempt && first.name.as_slice() == second.name.as_slice()
+}
+
+fn same_path(first: &Path, second: &Path) -> bool {
+    let (a, b) = (first.parts.as_slice(), second.parts.as_slice());
+    first.root == second.root
+        && a.len() == b.len()
+        && a.iter().zip(b.iter()).all(|(x, y)| same_part(x, y))
+}
+
+/// Whether two messages are one.
+pub fn same_message(first: &Message, second: &Message) -> bool {
+    match (first, second) {
+        (Message::Begin(a), Message::Begin(b)) => same_path(a, b),
+        (Message::End(a), Message::End(b)) => same_path(a, b),
+        (Message::Signal(a, from, to, value), Message::Signal(b, source, target, truth)) => {
+            same_path(a, b)
+                && from.as_slice() == source.as_slice()
+                && to.as_slice() == target.as_slice()
+                && value == truth
+        }
+        _ => false,
+    }
+}
+
+/// An equal message.
+pub fn copy_message(alloc: Global, message: &Message) -> Result<Message, AllocError> {
+    match message {
+        Message::Begin(path) => Ok(Message::Begin(path.copy(alloc)?)),
+        Message::End(path) => Ok(Message::End(path.copy(alloc)?)),
+        Message::Signal(path, from, to, value) => Ok(Message::Signal(
+            path.copy(alloc)?,
+            from.copy(alloc)?,
+            to.copy(alloc)?,
+            *value,
+        )),
+    }
+}
+
+/// The bytes of an item token between its quotes.
+pub fn unquoted(token: &[u8]) -> &[u8] {
+    match token {
+        [_, inner @ .., _] => inner,
+        _ => token,
+    }
+}

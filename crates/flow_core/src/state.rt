@@ -1,0 +1,142 @@
+//! The state: what the transactions so far come to.
+use flow_model::{Graph, Library, Mode, Name, Numbered};
+use indexmap::IndexMap;
+use navigator::Instance;
+use recover_queue::Queues;
+use staff_worklists::Worklists;
+use std::alloc::{AllocError, Global};
+use std::collections::BTreeMap;
+use template_store::TemplateStore;
+
+/// A live root with its key, if it has one.
+#[derive(Drop)]
+pub struct Root {
+    pub instance: Instance,
+    pub key: Option<Name>,
+}
+
+/// The state after the transactions so far.
+#[derive(Drop)]
+pub struct Core {
+    pub(crate) alloc: Global,
+    pub(crate) limit: u64,
+    /// The number of transactions so far.
+    pub(crate) number: u64,
+    /// The number of roots so far.
+    pub(crate) roots: u64,
+    pub(crate) clock: u64,
+    pub(crate) queues: Queues,
+    pub(crate) store: TemplateStore,
+    pub(crate) live_roots: BTreeMap<u64, Root>,
+    pub(crate) keys: IndexMap<Vec<u8>, u64>,
+    pub(crate) worklists: Worklists,
+    pub(crate) live: Vec<Numbered>,
+    /// The transactions that were so far when the state was resumed: records up to there are kept ones.
+    pub(crate) kept: u64,
+    /// The number of the last kept record that was adopted.
+    pub(crate) kept_number: u64,
+    /// The root of the last kept Start that was adopted.
+    pub(crate) kept_root: u64,
+}
+
+impl Core {
+    /// A state with these counts so far and no live transaction.
+    pub fn resume(
+        alloc: Global,
+        queues: u8,
+        limit: u64,
+        transactions: u64,
+        roots: u64,
+    ) -> Result<Core, AllocError> {
+        Ok(Core {
+            alloc,
+            limit,
+            number: transactions,
+            roots,
+            clock: 0,
+            queues: Queues::new(alloc, queues)?,
+            store: TemplateStore::new(alloc),
+            live_roots: BTreeMap::new(alloc),
+            keys: IndexMap::new(alloc),
+            worklists: Worklists::new(alloc),
+            live: Vec::new(alloc),
+            kept: transactions,
+            kept_number: 0,
+            kept_root: 0,
+        })
+    }
+
+    /// The state before any transaction.
+    pub fn new(alloc: Global, queues: u8, limit: u64) -> Result<Core, AllocError> {
+        Core::resume(alloc, queues, limit, 0, 0)
+    }
+
+    /// The number of transactions so far.
+    pub fn number(&self) -> u64 {
+        self.number
+    }
+
+    /// The number of roots so far.
+    pub fn roots(&self) -> u64 {
+        self.roots
+    }
+
+    /// The greatest number of transactions.
+    pub fn limit(&self) -> u64 {
+        self.limit
+    }
+
+    /// The number of queues.
+    pub fn queue_count(&self) -> u8 {
+        self.queues.count()
+    }
+
+    /// The live transactions.
+    pub fn live(&self) -> &[Numbered] {
+        &self.live
+    }
+
+    /// Whether all queues are empty.
+    pub fn is_quiet(&self) -> bool {
+        self.queues.is_quiet()
+    }
+
+    /// Whether the number of transactions is the limit.
+    pub fn is_full(&self) -> bool {
+        self.number >= self.limit
+    }
+
+    /// The library of the imports so far.
+    pub fn library(&self) -> &Library {
+        self.store.library()
+    }
+
+    /// The instance of a live root.
+    pub(crate) fn instance(&self, root: u64) -> Option<&Instance> {
+        match self.live_roots.get(&root) {
+            None => None,
+            Some(found) => Some(&found.instance),
+        }
+    }
+
+    /// The graph of a live root.
+    pub(crate) fn root_graph(&self, root: u64) -> Option<&Graph> {
+        self.instance(root)?.graph(self.library())
+    }
+
+    /// Whether the queue of this number has a message; false where there is none of that number.
+    pub fn has_message(&self, queue: u8) -> bool {
+        1 <= queue && queue <= self.queues.count() && self.queues.front(queue).is_some()
+    }
+
+    /// The number of live roots that are done.
+    pub fn done_count(&self) -> u64 {
+        let mut count = 0u64;
+        for (_number, root) in self.live_roots.iter() {
+            if root.instance.mode() == Mode::Done {
+                count = count.saturating_add(1);
+            }
+        }
+        count
+    }
+}
