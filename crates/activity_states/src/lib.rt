@@ -1,9 +1,12 @@
-//! What has become of one program activity of one scope?
+//! What has one program activity come to: its completions, its fate, and who holds its next attempt.
 //!
-//! Knows the attempts of an activity with their outputs, and who holds the open one; never connectors,
-//! other activities or who may hold what. Begin with [`ProgramState`].
+//! Never knows other activities, conditions or people's roles. Begin with `specs/States.antt`, which says
+//! what a state is and what each call makes of it.
 #![tactic(auto)]
 
-mod state;
+mod states;
 
-pub use state::ProgramState;
+pub use states::ProgramState;
+
+#[cfg(test)]
+mod tests;

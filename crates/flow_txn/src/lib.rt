@@ -12,3 +12,6 @@ mod writing;
 pub use faults::RecordFault;
 pub use reading::decode;
 pub use writing::encode;
+
+#[cfg(test)]
+mod tests;

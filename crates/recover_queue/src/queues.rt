@@ -15,12 +15,14 @@ pub struct Queues {
 }
 
 impl Model for Queues {
-    ghost use Rattle.std.specs.Prelude.{List as Seq};
+    ghost use Rattle.std.specs.Prelude.{◌<◌, length, List as Seq};
     ghost use Rattle.flow_model.specs.declared.instances.Message.{Message as Told};
 
     ghost Value = { Seq (Seq Told) };
 
     ghost view = { λ q. q.queues.items };
+
+    ghost invariant = { λ q. length q.queues.items < 256 };
 }
 
 impl Queues {
@@ -36,10 +38,10 @@ impl Queues {
     }
 
     /// The number of queues.
-    pub fn count(&self) -> usize
+    pub fn count(&self) -> u8
         ensures { result ≡ length self.now }
     {
-        self.queues.len()
+        self.queues.len() as u8
     }
 
     /// Puts a message at the back of queue `q`; without memory all queues stay as they were.
