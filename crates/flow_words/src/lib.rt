@@ -8,7 +8,10 @@ mod check;
 mod completions;
 mod fate;
 mod input;
+mod load;
+mod numbers;
 mod pure;
+mod script;
 mod status;
 
 pub use pure::run_pure;

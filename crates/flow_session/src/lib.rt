@@ -1,0 +1,11 @@
+//! One line in, one reply out, in the right order with the journal.
+//!
+//! Knows lines, commands and replies, and that each transaction is kept before it is answered; never
+//! graphs, tokens or gates. Begin with [`Session`].
+#![tactic(auto)]
+
+mod journal;
+mod serving;
+
+pub use journal::{Journal, NoJournal};
+pub use serving::{Input, Session, Stop};

@@ -1,0 +1,283 @@
+//! A session: the state, and the text of an IMPORT that isn't ended yet.
+ghost use Rattle.std.specs.Prelude.{◌≡◌};
+ghost use Rattle.flow_session.specs.declared.serving.Stop.TheVariants.{NoMemory};
+
+use crate::journal::Journal;
+use command_lang::{CommandFault, read_command};
+use flow_core::{Core, Verdict, write_applied, write_refusal};
+use flow_model::{Bytes, Command, Transaction};
+use flow_text::decimal;
+use std::alloc::{AllocError, AllocFailed, Global};
+use thiserror::Error;
+
+/// A text is judged up to so many bytes; a longer one breaks the same rule, however it goes on.
+const MOST_TEXT: usize = 1_048_576;
+
+/// A line has at most so many bytes.
+const MOST_LINE: usize = 65_536;
+
+/// One input of a session.
+#[derive(Clone, Copy)]
+pub enum Input<'a> {
+    /// A line of at most 65,536 bytes, without its line feed.
+    Text(&'a [u8]),
+    TooLong,
+    Ended,
+}
+
+/// Why a session stops. It isn't used any more then.
+#[derive(Clone, Copy, Debug, PartialEq, Eq, Drop, Error)]
+pub enum Stop {
+    /// The disk failed.
+    #[error("StoreFault")]
+    StoreFault,
+    /// There was no memory.
+    #[error("NoMemory")]
+    NoMemory,
+}
+
+impl From<AllocError> for Stop {
+    ghost from_gives = { λ _ e. e ≡ NoMemory };
+
+    fn from(_fault: AllocError) -> Stop {
+        Stop::NoMemory
+    }
+}
+
+impl<T: Drop> From<AllocFailed<T>> for Stop {
+    fn from(_fault: AllocFailed<T>) -> Stop {
+        Stop::NoMemory
+    }
+}
+
+/// The lines of an IMPORT so far.
+#[derive(Drop)]
+struct Gathered {
+    text: Vec<u8>,
+    has_long: bool,
+}
+
+/// A state that is served.
+#[derive(Drop)]
+pub struct Session {
+    alloc: Global,
+    core: Core,
+    gathered: Option<Gathered>,
+}
+
+/// A reply of words alone.
+fn words(alloc: Global, text: &[u8]) -> Result<Vec<u8>, Stop> {
+    Ok(Vec::from_slice(alloc, text)?)
+}
+
+/// A reply of words, a number and a line feed.
+fn numbered(alloc: Global, text: &[u8], number: u64) -> Result<Vec<u8>, Stop> {
+    let mut out = Vec::from_slice(alloc, text)?;
+    decimal(&mut out, number)?;
+    out.push(b'\n')?;
+    Ok(out)
+}
+
+/// Whether a line ends an IMPORT: `.`, or `.` and a carriage return.
+fn ends_import(line: &[u8]) -> bool {
+    line == b".".as_slice() || line == b".\r".as_slice()
+}
+
+impl Gathered {
+    /// Adds a line, as far as the text is judged.
+    fn add(&mut self, line: &[u8]) -> Result<(), AllocError> {
+        if self.text.len() <= MOST_TEXT {
+            self.text.extend_from_slice(line)?;
+            self.text.push(b'\n')?;
+        }
+        Ok(())
+    }
+}
+
+impl Session {
+    /// A session over the empty history.
+    pub fn fresh(alloc: Global, queues: u8, limit: u64) -> Result<Session, AllocError> {
+        Ok(Session {
+            alloc,
+            core: Core::new(alloc, queues, limit)?,
+            gathered: None,
+        })
+    }
+
+    /// A session over a state.
+    pub fn over(alloc: Global, core: Core) -> Session {
+        Session {
+            alloc,
+            core,
+            gathered: None,
+        }
+    }
+
+    /// The state.
+    pub fn core(&self) -> &Core {
+        &self.core
+    }
+
+    /// Makes a transaction: it is applied in memory, and kept.
+    fn make<J: Journal>(
+        &mut self,
+        journal: &mut J,
+        t: Transaction,
+        out: &mut Vec<u8>,
+    ) -> Result<(), Stop> {
+        journal.keep(self.core.number().saturating_add(1), &t)?;
+        let applied = self.core.apply(t)?;
+        write_applied(out, &applied)?;
+        Ok(())
+    }
+
+    /// Judges a command, and makes its transaction where it is allowed.
+    fn obey<J: Journal>(&mut self, journal: &mut J, command: &Command) -> Result<Vec<u8>, Stop> {
+        let mut out = Vec::new(self.alloc);
+        match self.core.judge(command)? {
+            Verdict::Do(t) => self.make(journal, t, &mut out)?,
+            Verdict::Same(root) => return numbered(self.alloc, b"ok SAME ", root),
+            Verdict::Refused(refusal) => write_refusal(&mut out, &refusal)?,
+        }
+        Ok(out)
+    }
+
+    /// Takes the front message of a queue; whether there was one.
+    fn turn<J: Journal>(&mut self, journal: &mut J, queue: u8) -> Result<bool, Stop> {
+        if !self.core.has_message(queue) {
+            return Ok(false);
+        }
+        match self.core.judge(&Command::Turn(u64::from(queue)))? {
+            Verdict::Do(t) => {
+                let mut out = Vec::new(self.alloc);
+                self.make(journal, t, &mut out)?;
+                Ok(true)
+            }
+            _ => Ok(false),
+        }
+    }
+
+    /// The reply of a DRAIN that made so many turns.
+    fn drained(&self, turns: u64) -> Result<Vec<u8>, Stop> {
+        if self.core.is_quiet() {
+            return numbered(self.alloc, b"ok TURNS ", turns);
+        }
+        let mut out = Vec::from_slice(self.alloc, b"no FULL ")?;
+        decimal(&mut out, self.core.limit())?;
+        out.extend_from_slice(b" TURNS ")?;
+        decimal(&mut out, turns)?;
+        out.push(b'\n')?;
+        Ok(out)
+    }
+
+    /// Turns on the queues one after the other, until all are empty or the limit is met.
+    fn drain<J: Journal>(&mut self, journal: &mut J) -> Result<Vec<u8>, Stop> {
+        let mut turns = 0u64;
+        let mut queue = 1u8;
+        for _ in 0..u64::MAX {
+            if self.core.is_quiet() || self.core.is_full() {
+                break;
+            }
+            if self.turn(journal, queue)? {
+                turns = turns.saturating_add(1);
+            }
+            queue = if queue >= self.core.queue_count() {
+                1
+            } else {
+                queue.saturating_add(1)
+            };
+        }
+        self.drained(turns)
+    }
+
+    fn checkpoint<J: Journal>(&mut self, journal: &mut J) -> Result<Vec<u8>, Stop> {
+        journal.checkpoint(&self.core)?;
+        numbered(self.alloc, b"ok CHECKPOINT ", self.core.live().len() as u64)
+    }
+
+    /// The reply to a command.
+    fn command<J: Journal>(&mut self, journal: &mut J, command: &Command) -> Result<Vec<u8>, Stop> {
+        match command {
+            Command::Import(_) => {
+                self.gathered = Some(Gathered {
+                    text: Vec::new(self.alloc),
+                    has_long: false,
+                });
+                Ok(Vec::new(self.alloc))
+            }
+            Command::Drain => self.drain(journal),
+            Command::Checkpoint => self.checkpoint(journal),
+            Command::Ask(query) => Ok(self.core.answer(query)?),
+            _ => self.obey(journal, command),
+        }
+    }
+
+    /// The reply to a line outside an IMPORT.
+    fn line<J: Journal>(&mut self, journal: &mut J, line: &[u8]) -> Result<Vec<u8>, Stop> {
+        if line.len() > MOST_LINE {
+            return words(self.alloc, b"no LINE\n");
+        }
+        match read_command(self.alloc, line) {
+            Ok(None) => Ok(Vec::new(self.alloc)),
+            Ok(Some(command)) => self.command(journal, &command),
+            Err(CommandFault::Word(place)) => {
+                numbered(self.alloc, b"no WORD ", u64::from(place))
+            }
+            Err(CommandFault::NoMemory) => Err(Stop::NoMemory),
+        }
+    }
+
+    /// The reply to an IMPORT that is ended.
+    fn imported<J: Journal>(
+        &mut self,
+        journal: &mut J,
+        gathered: Gathered,
+    ) -> Result<Vec<u8>, Stop> {
+        let Gathered { text, has_long } = gathered;
+        if has_long {
+            return words(self.alloc, b"no LINE\n");
+        }
+        let command = Command::Import(Bytes::from_vec(text));
+        self.obey(journal, &command)
+    }
+
+    /// The reply to an input inside an IMPORT; it is empty until the IMPORT is ended.
+    fn gather<J: Journal>(
+        &mut self,
+        journal: &mut J,
+        gathered: Gathered,
+        input: Input<'_>,
+    ) -> Result<Vec<u8>, Stop> {
+        let mut gathered = gathered;
+        match input {
+            Input::Text(line) if ends_import(line) => return self.imported(journal, gathered),
+            Input::Text(line) => gathered.add(line)?,
+            Input::TooLong => gathered.has_long = true,
+            Input::Ended => {
+                return if gathered.has_long {
+                    words(self.alloc, b"no LINE\n")
+                } else {
+                    words(self.alloc, b"no UNENDED\n")
+                };
+            }
+        }
+        self.gathered = Some(gathered);
+        Ok(Vec::new(self.alloc))
+    }
+
+    /// The reply to an input: empty for a line of blanks and comments, inside an IMPORT, and at the end.
+    pub fn serve<J: Journal>(
+        &mut self,
+        journal: &mut J,
+        input: Input<'_>,
+    ) -> Result<Vec<u8>, Stop> {
+        if let Some(gathered) = self.gathered.take() {
+            return self.gather(journal, gathered, input);
+        }
+        match input {
+            Input::Text(line) => self.line(journal, line),
+            Input::TooLong => words(self.alloc, b"no LINE\n"),
+            Input::Ended => Ok(Vec::new(self.alloc)),
+        }
+    }
+}
