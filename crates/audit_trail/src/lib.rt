@@ -8,3 +8,6 @@
 mod lines;
 
 pub use lines::{audit, write_message};
+
+#[cfg(test)]
+mod tests;

@@ -1,6 +1,6 @@
 -- The bytes of a transaction, kind by kind. Numbers are big-endian. A count that is too great for its bytes is
 -- written as the greatest one, which no part in range needs.
-use Rattle.std.specs.Prelude.{ℕ, ◌-◌, ◌^◌, min, ℤ, pos, negsuc, nat_lt, Bool, true, false, if◌then◌else◌, Option, Some, None, List, [], ◌∷◌, ◌++◌, length}
+use Rattle.std.specs.Prelude.{ℕ, ◌-◌, ◌^◌, min, ℤ, pos, negsuc, nat_lt, Bool, true, false, if◌then◌else◌, Option, Some, None, List, [], ◌∷◌, ◌++◌, length, ◌+◌, sum_by}
 use Rattle.std.specs.List.{flat_map}
 use Rattle.std.specs.Int.{w16, w32, w64, to_be_bytes, cast_unsigned}
 use Rattle.flow_model.specs.declared.graphs.Value.{Value}
@@ -110,3 +110,31 @@ body (Clock minutes) = u64_bytes minutes
 -- the number of the transaction, its kind, and what belongs to the kind
 abbrev pub record_bytes : ℕ → Transaction → List ℕ
 record_bytes number t = u64_bytes number ++ (kind t ∷ body t)
+
+-- ---- how long a record may be
+
+abbrev pub text_room : Value → ℕ
+text_room (Whole n) = 0
+text_room (Text text) = length text
+
+-- twelve bytes a setting, and its text
+abbrev pub settings_room : List Setting → ℕ
+settings_room ss = sum_by (λ s. 12 + text_room s.value) ss
+
+-- what the text of an import and the settings add to the length of a record
+abbrev pub room : Transaction → ℕ
+room (Import text) = length text
+room (Start root process version starter key settings) = settings_room settings
+room (Turn queue message) = 0
+room (Claim item who) = 0
+room (Release item who) = 0
+room (Transfer item who to) = 0
+room (Take item take) = 0
+room (Done item who settings) = settings_room settings
+room (Force item settings) = settings_room settings
+room (Restart item) = 0
+room (Suspend root) = 0
+room (Resume root) = 0
+room (Terminate root) = 0
+room (Delete root) = 0
+room (Clock minutes) = 0

@@ -1,7 +1,8 @@
 //! The record of a transaction.
-ghost use Rattle.std.specs.Prelude.{◌≡◌, ◌-◌, ◌^◌, ◌∷◌, ◌++◌, length, min, OnOk, IfOk};
+ghost use Rattle.std.specs.Prelude.{◌≡◌, ◌+◌, ◌-◌, ◌^◌, ◌≤◌, ◌∷◌, ◌++◌, length, min, OnOk, IfOk};
 ghost use Rattle.std.specs.Int.{w16, w32, to_be_bytes};
-ghost use Rattle.flow_txn.specs.Records.{u64_bytes, short_bytes, import_bytes, part_bytes, path_bytes, is_small as small_test, value_bytes, setting_bytes, settings_bytes, key_bytes, truth_byte, message_bytes, who_bytes, kind, body, record_bytes};
+ghost use Rattle.flow_txn.specs.Records.{u64_bytes, short_bytes, import_bytes, part_bytes, path_bytes, is_small as small_test, value_bytes, setting_bytes, settings_bytes, key_bytes, truth_byte, message_bytes, who_bytes, kind, body, record_bytes, room};
+ghost use Rattle.flow_txn.specs.Ranges.{IsInRange};
 
 use flow_model::{Message, Name, Part, Path, Setting, Transaction, Value, Who};
 use std::alloc::{AllocError, Global};
@@ -241,9 +242,8 @@ fn put_body(out: &mut Vec<u8>, t: &Transaction) -> Result<(), AllocError>
     }
 }
 
-/// The record of a transaction with its number. Where all parts are in range, [`crate::decode`] gives them
-/// back; elsewhere a count that is too great for its bytes is written as the greatest one.
-pub fn encode(alloc: Global, number: u64, t: &Transaction) -> Result<Vec<u8>, AllocError>
+/// The bytes of a transaction with its number.
+fn record_of(alloc: Global, number: u64, t: &Transaction) -> Result<Vec<u8>, AllocError>
     ensures { IfOk result (λ payload. payload.items ≡ record_bytes number t.now) }
 {
     let mut out = Vec::new(alloc);
@@ -251,4 +251,14 @@ pub fn encode(alloc: Global, number: u64, t: &Transaction) -> Result<Vec<u8>, Al
     out.push(kind_of(t))?;
     put_body(&mut out, t)?;
     Ok(out)
+}
+
+/// The record of a transaction with its number. Where all parts are in range, [`crate::decode`] gives them
+/// back; elsewhere a count that is too great for its bytes is written as the greatest one.
+pub fn encode(alloc: Global, number: u64, t: &Transaction) -> Result<Vec<u8>, AllocError>
+    ensures bytes { IfOk result (λ payload. payload.items ≡ record_bytes number t.now) }
+    // How long it may be.
+    ensures size { IsInRange number t.now → IfOk result (λ payload. length payload.items ≤ 16384 + room t.now) }
+{
+    record_of(alloc, number, t)
 }
