@@ -12,3 +12,4 @@ pub mod NothingDue
 pub mod WholeRuns
 pub mod BoundedDue
 pub mod TakenMessages
+mod Example
