@@ -19,3 +19,4 @@ pub mod Everywhere
 pub mod ItemsBelow
 pub mod EnoughAttempts
 pub mod ReadyItems
+pub mod WalkOrders
