@@ -1,4 +1,4 @@
--- Read first: Extends, Attempts and Steps (one scope), then Stays (any depth).
+-- Read first: Extends, Attempts and Steps (one scope), then Stays (any depth). The equations: Forward, Wired, PlainFates, Solutions. Causes: Peopled. Counting items: ItemsBelow, EnoughAttempts, ReadyItems.
 pub mod Extends
 pub mod Lines
 pub mod Rounds
@@ -19,3 +19,4 @@ pub mod Everywhere
 pub mod ItemsBelow
 pub mod EnoughAttempts
 pub mod ReadyItems
+pub mod WalkOrders

@@ -6,7 +6,7 @@ use Rattle.flow_model.specs.declared.graphs.Control.{Control}
 use Rattle.flow_model.specs.declared.graphs.Graph.{Graph, out-Graph}
 use Rattle.flow_model.specs.declared.graphs.Template.{Template}
 use Rattle.flow_model.specs.ScopeContainers.{graph_in}
-use Rattle.fate_laws.specs.Orders.{IsFlow}
+use Rattle.fate_laws.specs.Orders.{IsOrder, IsFlow}
 use Rattle.fate_laws.specs.Walks.{IsWired}
 
 -- no two connectors have the same ends
@@ -29,3 +29,7 @@ pub record IsWell (ts : List Template) (g : Graph) (inner : Graph → Type 0) : 
 abbrev pub Well : List Template → ℕ → Graph → Type 0
 Well ts zero g = IsWell ts g (λ h. Unit {0})
 Well ts (suc depth) g = IsWell ts g (Well ts depth)
+
+-- an order in which the connectors lead forward is one of the data lines too, where those go along walks of connectors
+abbrev pub OrderIsFlow : Type 0
+OrderIsFlow = (g : Graph) (order : List ℕ) → IsOrder g order → IsWired g → IsFlow g order

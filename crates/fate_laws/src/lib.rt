@@ -14,6 +14,7 @@ mod completions;
 mod equations;
 mod readiness;
 mod stability;
+mod wiring;
 
 pub use bounds::{bound_is_free, root_bound_is_free};
 pub use causes::{complete_has_fact, complete_has_given, root_has_fact};
@@ -27,3 +28,4 @@ pub use stability::{
     completion_keeps_ends, completion_keeps_fates, completion_keeps_output, completions_add,
     ends_stay, fates_stay, outputs_stay,
 };
+pub use wiring::order_is_flow;

@@ -1,4 +1,4 @@
--- Read first: Counting (queues), then SoundScopes and QuietScopes (one scope and any depth), MoreDue and DueOnce (what is due), Trusting and WholeRuns.
+-- Read first: Counting (queues), then SoundScopes and QuietScopes (one scope and any depth), MoreDue and DueOnce (what is due), Trusting, WholeRuns. The bound of turns: BoundedDue, TakenMessages. Example: a run computed.
 pub mod Honest
 pub mod Counting
 pub mod SameNotes
@@ -12,3 +12,4 @@ pub mod NothingDue
 pub mod WholeRuns
 pub mod BoundedDue
 pub mod TakenMessages
+mod Example

@@ -48,7 +48,7 @@ told_more (m ∷ ms) ns p a b h = go (told_more ms ns p a b) (told_by m p a b) r
     go rest None is = rw is (rest (rw is at h))
     go rest (Some v) is = rw is refl
 
-more_itself : (ms : List Note) (fs : List Fact) → More (known ms fs) (known ms fs)
+pub more_itself : (ms : List Note) (fs : List Fact) → More (known ms fs) (known ms fs)
 more_itself ms fs = record {
   most = omega arith;
   begun = λ p h. h;

@@ -1,17 +1,18 @@
 -- The laws of the run of a root.
 use Rattle.fate_laws.proofs.Extends.{Extends, and_true}
 use Rattle.fate_laws.proofs.Items.{eqb_itself, eqb_one, parts_itself, parts_one}
-use Rattle.fate_laws.proofs.Stays.{tree_more}
+use Rattle.fate_laws.proofs.Stays.{tree_more, fates_stay}
 use Rattle.fate_laws.specs.StartedScopes.{AtScope}
 use Rattle.fate_laws.specs.WellFormed.{Well}
 use Rattle.flow_model.specs.Rows.{same_parts}
-use Rattle.flow_model.specs.Scopes.{all_of, tree_ends}
+use Rattle.flow_model.specs.Fates.{is_settled}
+use Rattle.flow_model.specs.Scopes.{all_of, tree_ends, tree_fate}
 use Rattle.flow_model.specs.declared.instances.Part.{Part}
 use Rattle.std.proofs.Common.{◌≡◌, ℕ, ◌+◌, ◌≤◌, ◌<◌, ◌==◌, Bool, true, false, not, ◌&&◌, if◌then◌else◌, List, [], ◌∷◌, refl, ap, ◌∙◌, Option, Some, None, arith}
 use Rattle.std.specs.Prelude.{is_none}
 use Rattle.view_laws.proofs.Counting.{times_filter_yes, times_filter_no, has_none, times-append, times_has, Stays, has_times, put_once, spent_once}
 use Rattle.view_laws.proofs.Honest.{Full}
-use Rattle.view_laws.proofs.MoreDue.{seen_more, due_more}
+use Rattle.view_laws.proofs.MoreDue.{more_itself, seen_more, due_more}
 use Rattle.view_laws.proofs.QuietScopes.{tree_quiet, tree_quiet_fate}
 use Rattle.view_laws.proofs.SameNotes.{itself, one}
 use Rattle.view_laws.proofs.ShownFates.{tree_right, tree_reached}
@@ -20,7 +21,7 @@ use Rattle.view_laws.proofs.Trusting.{all_by, all_sound, all_exact, tree_honest,
 use Rattle.view_laws.specs.Laws.{IsNoteOnce, IsQuietView}
 use Rattle.view_laws.specs.Messages.{Note, BeginNote, SignalNote, EndNote, due_in, same_note}
 use Rattle.view_laws.specs.Queues.{Engine, has, times, all_put, spent, queue, TakesFronts}
-use Rattle.view_laws.specs.Runs.{kind, Root, Event, Started, Turned, Completed, Held, Stopped, is_stopped, running, has_started, taken, told_by, told, seen, due_now, due, engine}
+use Rattle.view_laws.specs.Runs.{kind, facts, Root, Event, Started, Turned, Completed, Held, Stopped, is_stopped, running, has_started, taken, told_by, told, seen, due_now, due, engine}
 use Rattle.view_laws.specs.ScopeFacts.{IsSound, IsExact, IsRight, IsReached}
 
 -- ---- one more event
@@ -40,6 +41,16 @@ view_stays r e h = go (is_stopped h) refl
     go : (b : Bool) → is_stopped h ≡ b → Extends (tree_ends r.templates r.depth (seen (running h)) r.graph r.input) (tree_ends r.templates r.depth (seen (running (e ∷ h))) r.graph r.input)
     go true is = rw is (record { kept = λ a s. refl })
     go false is = rw (is, running_is h is) (tree_more r.templates r.depth (seen h) (seen (e ∷ h)) (seen_more e h) r.graph r.input)
+
+pub view_fates_stay : (r : Root) (e : Event) (h : List Event) (a : ℕ) → is_settled (tree_ends r.templates r.depth (seen (running h)) r.graph r.input a) ≡ true
+    → tree_fate r.templates r.depth (seen (running (e ∷ h))) r.graph r.input a ≡ tree_fate r.templates r.depth (seen (running h)) r.graph r.input a
+view_fates_stay r e h a settled = go (is_stopped h) refl
+  where
+    go : (b : Bool) → is_stopped h ≡ b → tree_fate r.templates r.depth (seen (running (e ∷ h))) r.graph r.input a ≡ tree_fate r.templates r.depth (seen (running h)) r.graph r.input a
+    go true is = rw is refl
+    go false is =
+        rw (is, running_is h is)
+        (fates_stay r.templates r.depth (seen h) (seen (e ∷ h)) (more_itself (taken h) (facts h)) (seen_more e h) r.graph r.input a (rw (running_is h is) at settled))
 
 module _ (r : Root) (q : Note → ℕ) where
   abbrev x : Engine Note Event

@@ -21,6 +21,12 @@ ViewStays =
     (r : Root) (e : Event) (h : List Event) (a : ℕ) → IsTrue (is_settled (tree_ends r.templates r.depth (seen (running h)) r.graph r.input a))
     → tree_ends r.templates r.depth (seen (running (e ∷ h))) r.graph r.input a ≡ tree_ends r.templates r.depth (seen (running h)) r.graph r.input a
 
+-- and so does its fate
+abbrev pub ViewFatesStay : Type 0
+ViewFatesStay =
+    (r : Root) (e : Event) (h : List Event) (a : ℕ) → IsTrue (is_settled (tree_ends r.templates r.depth (seen (running h)) r.graph r.input a))
+    → tree_fate r.templates r.depth (seen (running (e ∷ h))) r.graph r.input a ≡ tree_fate r.templates r.depth (seen (running h)) r.graph r.input a
+
 -- what is due stays due
 abbrev pub DueStays : Type 0
 DueStays =
