@@ -25,12 +25,12 @@ fn write_generation<D: Disk>(
     requires kept { All IsPayload kept.now }
     requires range { InRange header.now }
     requires ours { D.tells → IsOurs (slot_state (bytes_in (D.seen disk.old) slot)) }
-    requires durable { Only (D.seen disk.old) (D.images disk.old) }
     ensures end { IfOk result (λ end. end ≡ reach 42 kept.now) }
     ensures small { IfOk result (λ end. end ≤ 42 + 2097157 * length kept.now) }
     ensures made { OnOk result (D.tells → Stands slot (Good header.now kept.now (reach 42 kept.now)) (bytes_in (D.seen disk.old) (opposite slot)) (D.seen disk.new)) }
     ensures durable { OnOk result (Only (D.seen disk.new) (D.images disk.new)) }
-    ensures any_moment { D.tells → LeavesOnly D.moment D.left_since disk.old disk.new
+    ensures any_moment { D.tells → Only (D.seen disk.old) (D.images disk.old)
+        → LeavesOnly D.moment D.left_since disk.old disk.new
         (Turns slot (slot_state (bytes_in (D.seen disk.old) slot)) (Good header.now kept.now (reach 42 kept.now)) (bytes_in (D.seen disk.old) (opposite slot))) }
     ensures cause { HasCause (D.faults disk.old) (D.faults disk.new) result }
 {
@@ -58,12 +58,12 @@ pub fn compact<D: Disk>(
     requires range { InRange header.now }
     requires next { header.now.generation ≡ log.old.generation + 1 }
     requires stands { D.tells → StandsOn log.old (D.seen disk.old) }
-    requires durable { Only (D.seen disk.old) (D.images disk.old) }
     ensures stands { OnOk result (D.tells → StandsOn log.new (D.seen disk.new)) }
     ensures compacted { OnOk result (D.tells → IsCompacted (opposite log.old.slot) header.now kept.now (D.seen disk.new)) }
     ensures durable { OnOk result (Only (D.seen disk.new) (D.images disk.new)) }
-    ensures any_moment { D.tells → LeavesOnly D.moment D.left_since disk.old disk.new (MayBeCompacted (opposite log.old.slot) header.now kept.now (D.seen disk.old)) }
-    ensures read { D.tells → MayBeCompacted (opposite log.old.slot) header.now kept.now (D.seen disk.old) (D.seen disk.new) }
+    ensures any_moment { D.tells → Only (D.seen disk.old) (D.images disk.old)
+        → LeavesOnly D.moment D.left_since disk.old disk.new (MayBeCompacted (opposite log.old.slot) header.now kept.now (D.seen disk.old)) }
+    ensures read { D.tells → Only (D.seen disk.old) (D.images disk.old) → MayBeCompacted (opposite log.old.slot) header.now kept.now (D.seen disk.old) (D.seen disk.new) }
     ensures cause { HasCause (D.faults disk.old) (D.faults disk.new) result }
     ensures failed { IsTrue log.new.failed ↔ IsErr result }
     ensures log { OnOk result (IsAt (opposite log.old.slot) header.now.generation (length kept.now) (reach 42 kept.now) log.new) }

@@ -13,12 +13,7 @@ use flow_model::{Bytes, List};
 use txn_log::{Header, header_bytes};
 
 /// Writes the header, from one of its first bytes on.
-fn write_header<D: Disk>(
-    disk: &mut D,
-    slot: Slot,
-    from: u64,
-    header: &Header,
-) -> Result<(), Failed>
+fn write_header<D: Disk>(disk: &mut D, slot: Slot, from: u64, header: &Header) -> Result<(), Failed>
     requires from { (from ≡ 1) ⊎ (from ≡ 8) }
     requires within { D.tells → from ≤ length (bytes_in (D.seen disk.old) slot) }
     ensures adds { OnOk result (D.tells → Adds slot from (drop (from - 1) (header_text header.now)) (D.seen disk.old) (D.seen disk.new)) }
