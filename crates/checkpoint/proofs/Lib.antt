@@ -1,0 +1,4 @@
+-- Writes is on single writes and how they follow each other, Bodies on a whole body, Moves on the store.
+pub mod Writes
+pub mod Bodies
+pub mod Moves

@@ -1,11 +1,6 @@
 -- The places of the gates of records, one record at a time.
 use Rattle.std.proofs.Common.{◌≡◌, ℕ, ◌+◌, List, [], ◌∷◌, ◌++◌, length, refl, ap}
-use Rattle.txn_log.specs.Records.{gates}
-
--- the place behind records with these payloads
-abbrev pub reach : ℕ → List (List ℕ) → ℕ
-reach place [] = place
-reach place (payload ∷ payloads) = reach (place + 5 + length payload) payloads
+use Rattle.txn_log.specs.Records.{gates, reach}
 
 pub reach-push : (place : ℕ) (ps : List (List ℕ)) (p : List ℕ) → reach place (ps ++ p ∷ []) ≡ reach place ps + 5 + length p
 reach-push place [] p = refl

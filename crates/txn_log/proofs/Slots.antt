@@ -9,7 +9,7 @@ use Rattle.txn_log.specs.Stored.{Listed, Ends, Breaks, length_at, listed, SlotSt
 use Rattle.txn_log.specs.Steps.{record_bytes}
 use Rattle.txn_log.proofs.Records.{Spells, Nothing, One, spells-append, listed-closed, Parts, parts}
 
-length_is : (n : ℕ) → n < 2 ^ 32 → length_at (to_be_bytes w32 n) ≡ n
+pub length_is : (n : ℕ) → n < 2 ^ 32 → length_at (to_be_bytes w32 n) ≡ n
 unfolding length_at
 length_is n lt = from_be_bytes-to_be_bytes_4 n lt
 

@@ -1,6 +1,8 @@
 -- What a store stands for, when one of its slots changes.
 use Rattle.std.proofs.Common.{◌≡◌, ◌≢◌, ◌⊎◌, inl, inr, ⊎_elim, ℕ, ◌+◌, ◌<◌, Bool, true, false, ◌==◌, nat_lt, List, [], ◌∷◌, ◌++◌, length, refl, sym, ap, subst, ◌∙◌, arith}
 use Rattle.std.proofs.lemmas.Bool.{ne_eqb, lt-ltb}
+use Rattle.std.proofs.lemmas.Bool.Decides.{nat_tests}
+use Rattle.txn_log.specs.Steps.{IsOurs}
 use Rattle.flow_disk.specs.declared.disk.Slot.{Slot}
 use Rattle.flow_disk.specs.declared.disk.Slot.TheVariants.{A, B}
 use Rattle.flow_disk.specs.Images.{Image, bytes_in, opposite}
@@ -116,3 +118,51 @@ a_unmade image a b = rw (a, b) refl
 
 pub a_counts : (image : Image) (h : Header) (ps : List (List ℕ)) (e : ℕ) → slot_state image.a ≡ Good h ps e → slot_state image.b ≡ Unmade → store_of image ≡ Counts A h ps e
 a_counts image h ps e a b = rw (a, b) refl
+
+beside_a : (a b : SlotState) (g : Header) (rs : List (List ℕ)) (d : ℕ) → judged_store a b ≡ Counts A g rs d → IsOurs b
+beside_a Foreign b g rs d is = absurd (cc)
+beside_a Unmade Foreign g rs d is = absurd (cc)
+beside_a Unmade (Damaged p) g rs d is = absurd (cc)
+beside_a Unmade Unmade g rs d is = absurd (cc)
+beside_a Unmade (Good k qs f) g rs d is = absurd (cc)
+beside_a (Damaged p) Foreign g rs d is = absurd (cc)
+beside_a (Damaged p) (Damaged q) g rs d is = absurd (cc)
+beside_a (Damaged p) Unmade g rs d is = absurd (cc)
+beside_a (Damaged p) (Good k qs f) g rs d is = absurd (cc)
+beside_a (Good h ps e) Foreign g rs d is = absurd (cc)
+beside_a (Good h ps e) (Damaged p) g rs d is = absurd (cc)
+beside_a (Good h ps e) Unmade g rs d is = inl refl
+beside_a (Good h ps e) (Good k qs f) g rs d is = inr (k, qs, f, refl)
+
+beside_b : (a b : SlotState) (g : Header) (rs : List (List ℕ)) (d : ℕ) → judged_store a b ≡ Counts B g rs d → IsOurs a
+beside_b Foreign b g rs d is = absurd (cc)
+beside_b Unmade b g rs d is = inl refl
+beside_b (Damaged p) Foreign g rs d is = absurd (cc)
+beside_b (Damaged p) (Damaged q) g rs d is = absurd (cc)
+beside_b (Damaged p) Unmade g rs d is = absurd (cc)
+beside_b (Damaged p) (Good k qs f) g rs d is = absurd (cc)
+beside_b (Good h ps e) b g rs d is = inr (h, ps, e, refl)
+
+-- the slot beside the one that counts is unmade or good
+pub counts_beside : (slot : Slot) (image : Image) (g : Header) (rs : List (List ℕ)) (d : ℕ) → store_of image ≡ Counts slot g rs d → IsOurs (slot_state (bytes_in image (opposite slot)))
+counts_beside A image g rs d is = beside_a (slot_state image.a) (slot_state image.b) g rs d is
+counts_beside B image g rs d is = beside_b (slot_state image.a) (slot_state image.b) g rs d is
+
+-- a good slot counts beside one that is unmade
+pub counts_alone : (slot : Slot) (image : Image) (g : Header) (rs : List (List ℕ)) (d : ℕ) → slot_state (bytes_in image slot) ≡ Good g rs d → slot_state (bytes_in image (opposite slot)) ≡ Unmade → store_of image ≡ Counts slot g rs d
+counts_alone A image g rs d here other = rw (here, other) refl
+counts_alone B image g rs d here other = rw (here, other) refl
+
+-- a good slot counts beside an older one
+pub counts_newer : (slot : Slot) (image : Image) (g k : Header) (rs qs : List (List ℕ)) (d f : ℕ) → k.generation < g.generation → slot_state (bytes_in image slot) ≡ Good g rs d → slot_state (bytes_in image (opposite slot)) ≡ Good k qs f → store_of image ≡ Counts slot g rs d
+counts_newer A image g k rs qs d f lt here other =
+    let differ : (g.generation == k.generation) ≡ false = ne_eqb g.generation k.generation (λ same. absurd (omega (arith, same, lt))) in
+    let later : nat_lt k.generation g.generation ≡ true = lt-ltb k.generation g.generation lt in
+    rw (here, other) (rw (differ, later) refl)
+counts_newer B image g k rs qs d f lt here other =
+    let differ : (k.generation == g.generation) ≡ false = ne_eqb k.generation g.generation (λ same. absurd (omega (arith, same, lt))) in
+    let later : nat_lt g.generation k.generation ≡ false = not_later in
+    rw (here, other) (rw (differ, later) refl)
+  where
+    not_later : nat_lt g.generation k.generation ≡ false
+    not_later = grind (arith, nat_tests)

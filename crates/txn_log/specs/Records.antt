@@ -1,5 +1,5 @@
 -- Records as the code keeps them: their payloads, and the places of their gates.
-use Rattle.std.specs.Prelude.{ℕ, ◌+◌, List, [], ◌∷◌, length, map}
+use Rattle.std.specs.Prelude.{ℕ, ◌+◌, ◌<◌, ◌≤◌, List, [], ◌∷◌, length, map}
 use Rattle.txn_log.specs.declared.judged.Record.{Record}
 
 -- the payloads of records, in order
@@ -14,3 +14,12 @@ places_of records = map (λ r. r.place) records
 abbrev pub gates : ℕ → List (List ℕ) → List ℕ
 gates place [] = []
 gates place (payload ∷ payloads) = place ∷ gates (place + 5 + length payload) payloads
+
+-- the place behind records with these payloads, from a place on
+abbrev pub reach : ℕ → List (List ℕ) → ℕ
+reach place [] = place
+reach place (payload ∷ payloads) = reach (place + 5 + length payload) payloads
+
+-- a payload has 1 to 2,097,152 bytes
+abbrev pub IsPayload : List ℕ → Type 0
+IsPayload payload = (0 < length payload) × (length payload ≤ 2097152)

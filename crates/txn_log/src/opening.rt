@@ -6,7 +6,7 @@ ghost use Rattle.flow_disk.specs.Moments.{LeavesOnly, Only, Within};
 ghost use Rattle.txn_log.specs.Causes.{IsCause, IsOutside, UnlessFault};
 ghost use Rattle.txn_log.specs.Judging.{state_in};
 ghost use Rattle.txn_log.specs.Opening.{HasRecords, IsChoice, IsMakeRefusal, IsOpened, IsRefusal, IsStanding, MayBeMade, MayBeNew, first_header};
-ghost use Rattle.txn_log.specs.Standing.{IsAt};
+ghost use Rattle.txn_log.specs.Standing.{IsAt, StandsOn};
 ghost use Rattle.txn_log.specs.Steps.{Stands, StandsOrUnmade};
 ghost use Rattle.txn_log.specs.Stored.{Good, InRange, Unmade, slot_state};
 ghost use Rattle.txn_log.specs.Stores.{Counts, NoStore, store_of};
@@ -96,6 +96,7 @@ fn make_new<D: Disk>(disk: &mut D, queues: u8, limit: u64) -> Result<Log, LogSto
     requires limit { (1 ≤ limit) × (limit ≤ 10000000) }
     requires none { D.tells → store_of (D.seen disk.old) ≡ NoStore }
     ensures made { IfOk result (λ log. D.tells → store_of (D.seen disk.new) ≡ Counts Slot.A (first_header queues limit) [] 42) }
+    ensures stands { IfOk result (λ log. D.tells → StandsOn log (D.seen disk.new)) }
     ensures log { IfOk result (IsAt Slot.A 1 0 42) }
     ensures only_fault { IfErr result (λ stop. stop ≡ StoreFault) }
     ensures durable { OnOk result (Only (D.seen disk.new) (D.images disk.new)) }
@@ -122,6 +123,7 @@ impl Log {
     /// memory. The disk isn't written.
     pub fn reopen<D: Disk>(alloc: Global, disk: &mut D) -> Result<Opened, LogStop>
         ensures opened { IfOk result (λ opened. D.tells → IsOpened (D.seen disk.new) opened) }
+        ensures stands { IfOk result (λ opened. D.tells → StandsOn opened.log (D.seen disk.new)) }
         ensures records { IfOk result HasRecords }
         ensures refused { IfErr result (λ stop. D.tells → IsRefusal stop (store_of (D.seen disk.new))) }
         ensures seen { UnlessFault result (D.seen disk.new ≡ D.seen disk.old) }
@@ -153,6 +155,7 @@ impl Log {
     ) -> Result<Log, LogStop>
         requires queues { (1 ≤ queues) × (queues ≤ 16) }
         requires limit { (1 ≤ limit) × (limit ≤ 10000000) }
+        ensures stands { IfOk result (λ log. D.tells → StandsOn log (D.seen disk.new)) }
         ensures was { OnOk result (D.tells → store_of (D.seen disk.old) ≡ NoStore) }
         ensures made { IfOk result (λ log. D.tells → store_of (D.seen disk.new) ≡ Counts Slot.A (first_header queues limit) [] 42) }
         ensures log { IfOk result (IsAt Slot.A 1 0 42) }

@@ -1,9 +1,9 @@
 use Rattle.std.proofs.Common.{◌≡◌, ◌+◌, ◌<◌, ◌≤◌, ◌*◌, ◌++◌, ◌∷◌, [], length, take, drop, arith, sym, ap, ◌∙◌, rules, map, ◌-◌, subst, List, ℕ, true, false, length-append, length-drop}
 use Rattle.std.proofs.lemmas.List.{map-append, length-take-le}
 use Rattle.txn_log.specs.Stored.{is_whole, length_at, listed}
-use Rattle.txn_log.specs.Records.{payloads_of, places_of, gates}
+use Rattle.txn_log.specs.Records.{payloads_of, places_of, gates, reach}
 use Rattle.txn_log.proofs.Records.{led_all, behind_is, list_ended, list_broken, list_step, list_short}
-use Rattle.txn_log.proofs.Placed.{reach, gates-push, reach-push}
+use Rattle.txn_log.proofs.Placed.{gates-push, reach-push}
 use Rattle.txn_log.proofs.judging.list.Goals as goal
 
 pub returns-then-bytes-at-ne1-clause-listed : goal.returns-then-bytes-at-ne1-clause-listed

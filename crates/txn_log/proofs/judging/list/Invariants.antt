@@ -1,8 +1,7 @@
 use Rattle.std.proofs.Common.{◌≡◌, ℕ, ◌+◌, ◌-◌, ◌*◌, ◌≤◌, length, drop}
 use Rattle.txn_log.specs.Stored.{listed}
-use Rattle.txn_log.specs.Records.{payloads_of, places_of, gates}
+use Rattle.txn_log.specs.Records.{payloads_of, places_of, gates, reach}
 use Rattle.txn_log.proofs.Records.{led_all}
-use Rattle.txn_log.proofs.Placed.{reach}
 use Rattle.txn_log.proofs.judging.list.Given as goal
 
 abbrev pub invariant-gates : goal.invariant-gates
