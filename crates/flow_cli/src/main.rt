@@ -1,8 +1,9 @@
-//! The program `flow`: the words of its command line over standard input and output.
+//! The program `flow`: the words of its command line over standard input and output and two files.
 #![tactic(auto)]
 
+use flow_disk::FileDisk;
 use flow_io::{StdSink, StdSource};
-use flow_words::{Status, run_pure};
+use flow_words::{Status, run};
 use std::alloc::AllocError;
 use std::env::{self, Env};
 use std::process::ExitCode;
@@ -21,12 +22,24 @@ fn words_of<R: Env + AllocGlobal>(rt: &R) -> Result<Vec<String>, AllocError> {
     Ok(words)
 }
 
+/// The paths of a store's files: the second and the third word, where there are three.
+fn paths_of<R: AllocGlobal>(rt: &R, words: &[String]) -> Result<(String, String), AllocError> {
+    match words {
+        [_, a, b, ..] => Ok((a.clone()?, b.clone()?)),
+        _ => Ok((String::new(rt.alloc()), String::new(rt.alloc()))),
+    }
+}
+
 fn main(rt: HostRuntime) -> ExitCode {
     let Ok(words) = words_of(&rt) else {
         return ExitCode::from(Status::NoMemory.number());
     };
+    let Ok((a, b)) = paths_of(&rt, &words) else {
+        return ExitCode::from(Status::NoMemory.number());
+    };
+    let mut disk = FileDisk::new(&rt, a, b);
     let mut source = StdSource::new(&rt);
     let mut sink = StdSink::new(&rt);
-    let status = run_pure(rt.alloc(), &words, &mut source, &mut sink);
+    let status = run(rt.alloc(), &words, &mut source, &mut sink, &mut disk);
     ExitCode::from(status.number())
 }

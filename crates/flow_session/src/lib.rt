@@ -6,6 +6,8 @@
 
 mod journal;
 mod serving;
+mod store;
 
 pub use journal::{Journal, NoJournal};
 pub use serving::{Input, Session, Stop};
+pub use store::{Stored, reopen};

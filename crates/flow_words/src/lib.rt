@@ -13,6 +13,8 @@ mod numbers;
 mod pure;
 mod script;
 mod status;
+mod stored;
 
 pub use pure::run_pure;
 pub use status::Status;
+pub use stored::run;

@@ -80,6 +80,20 @@ impl Log {
         self.slot
     }
 
+    /// The generation of the slot.
+    pub fn generation(&self) -> u64
+        ensures { result ≡ self.now.generation }
+    {
+        self.generation
+    }
+
+    /// The number of records.
+    pub fn records(&self) -> u64
+        ensures { result ≡ self.now.records }
+    {
+        self.records
+    }
+
     /// Whether the disk failed under the log, which isn't used then.
     pub fn has_failed(&self) -> bool
         ensures { result ≡ self.now.failed }

@@ -1,0 +1,135 @@
+//! The words over a store in two files: `new` and `run`.
+use crate::numbers::{Settings, settings_of};
+use crate::pure::run_pure;
+use crate::script::serve_all;
+use crate::status::Status;
+use flow_disk::{FileDisk, Slot};
+use flow_io::{Sink, Source, put_all};
+use flow_session::{Stored, reopen};
+use flow_text::decimal;
+use std::alloc::{AllocError, Global};
+use std::rt::Files;
+use txn_log::{Log, LogStop};
+
+/// A word over a store.
+#[derive(Clone, Copy, Debug, PartialEq, Eq)]
+enum Word {
+    New(Settings),
+    Run,
+}
+
+/// The word over a store that these words say; its two files are two different words.
+fn word_of(words: &[String]) -> Option<Word> {
+    match words {
+        [word, a, b] if word.as_str() == "run" && a.as_str() != b.as_str() => Some(Word::Run),
+        [word, a, b, rest @ ..] if word.as_str() == "new" && a.as_str() != b.as_str() => {
+            Some(Word::New(settings_of(rest)?))
+        }
+        _ => None,
+    }
+}
+
+fn slot_name(slot: Slot) -> &'static [u8] {
+    match slot {
+        Slot::A => b"A",
+        Slot::B => b"B",
+    }
+}
+
+/// What is printed of a store that isn't opened; None where nothing is.
+fn stop_text(alloc: Global, stop: &LogStop) -> Result<Option<Vec<u8>>, AllocError> {
+    let mut text = Vec::from_slice(alloc, b"no STORE ")?;
+    match stop {
+        LogStop::Unmade => text.extend_from_slice(b"UNMADE")?,
+        LogStop::Made => text.extend_from_slice(b"MADE")?,
+        LogStop::Foreign(slot) => {
+            text.extend_from_slice(b"FOREIGN ")?;
+            text.extend_from_slice(slot_name(*slot))?;
+        }
+        LogStop::Damaged(slot, place) => {
+            text.extend_from_slice(b"DAMAGED ")?;
+            text.extend_from_slice(slot_name(*slot))?;
+            text.push(b' ')?;
+            decimal(&mut text, *place)?;
+        }
+        LogStop::StoreFault => return Ok(None),
+        LogStop::NoMemory => return Ok(None),
+    }
+    text.push(b'\n')?;
+    Ok(Some(text))
+}
+
+/// Prints why a store isn't opened.
+fn refuse<K: Sink>(alloc: Global, out: &mut K, stop: &LogStop) -> Result<Status, Status> {
+    match stop_text(alloc, stop)? {
+        Some(text) => {
+            if put_all(out, &text).is_err() {
+                return Err(Status::WriteFault);
+            }
+            Ok(Status::Store)
+        }
+        None => match stop {
+            LogStop::StoreFault => Err(Status::StoreFault),
+            _ => Err(Status::NoMemory),
+        },
+    }
+}
+
+/// Makes a store.
+fn make<K: Sink, R: Files>(
+    alloc: Global,
+    settings: Settings,
+    out: &mut K,
+    disk: &mut FileDisk<'_, R>,
+) -> Result<Status, Status> {
+    let (queues, limit) = (settings.queues, settings.limit);
+    if queues < 1 || queues > 16 || limit < 1 || limit > 10_000_000 {
+        return Err(Status::Usage);
+    }
+    match Log::make(alloc, disk, queues, limit) {
+        Err(stop) => refuse(alloc, out, &stop),
+        Ok(_log) => {
+            if put_all(out, b"ok NEW\n").is_err() {
+                return Err(Status::WriteFault);
+            }
+            Ok(Status::Done)
+        }
+    }
+}
+
+/// Opens a store and serves a script over it.
+fn run_script<S: Source, K: Sink, R: Files>(
+    alloc: Global,
+    src: &mut S,
+    out: &mut K,
+    disk: &mut FileDisk<'_, R>,
+) -> Result<Status, Status> {
+    match reopen(alloc, disk) {
+        Err(stop) => refuse(alloc, out, &stop),
+        Ok((session, log)) => {
+            let mut session = session;
+            let mut journal = Stored::new(alloc, log, disk);
+            serve_all(alloc, &mut session, &mut journal, src, out)?;
+            Ok(Status::Done)
+        }
+    }
+}
+
+/// Does what the words say: all that the program does.
+pub fn run<S: Source, K: Sink, R: Files>(
+    alloc: Global,
+    words: &[String],
+    src: &mut S,
+    out: &mut K,
+    disk: &mut FileDisk<'_, R>,
+) -> Status {
+    let done = match word_of(words) {
+        None => return run_pure(alloc, words, src, out),
+        Some(Word::New(settings)) => make(alloc, settings, out, disk),
+        Some(Word::Run) => run_script(alloc, src, out, disk),
+    };
+    match done {
+        Ok(status) => status,
+        Err(status) => status,
+    }
+}
