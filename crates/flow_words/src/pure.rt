@@ -72,6 +72,7 @@ fn end_with<K: Sink>(out: &mut K, answer: Result<Answer, AllocError>) -> Status
 }
 
 /// Reads an input, and prints the answer to it.
+#[tactic(auto, using(crate::proofs::EndingLemmas::run_stops, crate::proofs::EndingLemmas::run_prints))]
 fn answer_input<S: Source, K: Sink>(
     alloc: Global,
     is_fate: bool,
@@ -117,6 +118,7 @@ fn print_load<K: Sink>(alloc: Global, seed: u64, roots: u64, out: &mut K) -> Sta
     }
 }
 
+#[tactic(auto, using(crate::proofs::EndingLemmas::run_prints))]
 fn obey<S: Source, K: Sink>(alloc: Global, word: Word, src: &mut S, out: &mut K) -> Status
     ensures { RunCause (S.faults src.old) (S.faults src.new) (K.faults out.old) (K.faults out.new) result }
 {
@@ -128,7 +130,10 @@ fn obey<S: Source, K: Sink>(alloc: Global, word: Word, src: &mut S, out: &mut K)
     }
 }
 
-fn print_usage<K: Sink>(out: &mut K) -> Status {
+#[tactic(auto, using(crate::proofs::EndingLemmas::ends_print))]
+fn print_usage<K: Sink>(out: &mut K) -> Status
+    ensures { (read now : ℕ) → EndCause read now (K.faults out.old) (K.faults out.new) result }
+{
     match print(out, b"no USAGE\n") {
         Ok(()) => Status::Usage,
         Err(status) => status,
@@ -139,6 +144,7 @@ fn print_usage<K: Sink>(out: &mut K) -> Status {
 ///
 /// `ReadFault` comes only where the source's count of faults rose, and `WriteFault` only where the
 /// sink's did; `Store` never.
+#[tactic(auto, using(crate::proofs::EndingLemmas::ends_run))]
 pub fn run_pure<S: Source, K: Sink>(
     alloc: Global,
     words: &[String],

@@ -75,11 +75,11 @@ fn refuse<K: Sink>(alloc: Global, out: &mut K, stop: &LogStop) -> Result<Status,
 }
 
 /// Makes a store.
-fn make<K: Sink, R: Files>(
+fn make<'d, 'r, K: Sink, R: Files>(
     alloc: Global,
     settings: Settings,
     out: &mut K,
-    disk: &mut FileDisk<'_, R>,
+    disk: &'d mut FileDisk<'r, R>,
 ) -> Result<Status, Status> {
     let (queues, limit) = (settings.queues, settings.limit);
     if queues < 1 || queues > 16 || limit < 1 || limit > 10_000_000 {
@@ -95,11 +95,11 @@ fn make<K: Sink, R: Files>(
 }
 
 /// Opens a store and serves a script over it.
-fn run_script<S: Source, K: Sink, R: Files>(
+fn run_script<'d, 'r, S: Source, K: Sink, R: Files>(
     alloc: Global,
     src: &mut S,
     out: &mut K,
-    disk: &mut FileDisk<'_, R>,
+    disk: &'d mut FileDisk<'r, R>,
 ) -> Result<Status, Status> {
     match reopen(alloc, disk) {
         Err(stop) => refuse(alloc, out, &stop),
@@ -113,12 +113,12 @@ fn run_script<S: Source, K: Sink, R: Files>(
 }
 
 /// Does what the words say: all that the program does.
-pub fn run<S: Source, K: Sink, R: Files>(
+pub fn run<'d, 'r, S: Source, K: Sink, R: Files>(
     alloc: Global,
     words: &[String],
     src: &mut S,
     out: &mut K,
-    disk: &mut FileDisk<'_, R>,
+    disk: &'d mut FileDisk<'r, R>,
 ) -> Status {
     let done = match word_of(words) {
         None => return run_pure(alloc, words, src, out),
