@@ -130,21 +130,11 @@ fn obey<S: Source, K: Sink>(alloc: Global, word: Word, src: &mut S, out: &mut K)
     }
 }
 
-#[tactic(auto, using(crate::proofs::EndingLemmas::ends_print))]
-fn print_usage<K: Sink>(out: &mut K) -> Status
-    ensures { (read now : ℕ) → EndCause read now (K.faults out.old) (K.faults out.new) result }
-{
-    match print(out, b"no USAGE\n") {
-        Ok(()) => Status::Usage,
-        Err(status) => status,
-    }
-}
-
 /// Does what the words say, over a source and a sink alone.
 ///
 /// `ReadFault` comes only where the source's count of faults rose, and `WriteFault` only where the
 /// sink's did; `Store` never.
-#[tactic(auto, using(crate::proofs::EndingLemmas::ends_run))]
+#[tactic(auto, using(crate::proofs::EndingLemmas::ends_run, crate::proofs::EndingLemmas::ends_print))]
 pub fn run_pure<S: Source, K: Sink>(
     alloc: Global,
     words: &[String],
@@ -154,7 +144,10 @@ pub fn run_pure<S: Source, K: Sink>(
     ensures { EndCause (S.faults src.old) (S.faults src.new) (K.faults out.old) (K.faults out.new) result }
 {
     match word_of(words) {
-        None => print_usage(out),
+        None => match print(out, b"no USAGE\n") {
+            Ok(()) => Status::Usage,
+            Err(status) => status,
+        },
         Some(word) => obey(alloc, word, src, out),
     }
 }
