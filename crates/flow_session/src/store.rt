@@ -47,11 +47,11 @@ fn payloads(alloc: Global, live: &[Numbered]) -> Result<Option<List<Bytes>>, All
 {
     let mut kept = List::new(alloc);
     for numbered in live {
-        let payload = payload_of(alloc, numbered)?;
-        if !is_payload(&payload) {
+        let payload = Bytes::from_vec(payload_of(alloc, numbered)?);
+        if !is_payload(payload.as_slice()) {
             return Ok(None);
         }
-        kept.push(Bytes::from_vec(payload))?;
+        kept.push(payload)?;
     }
     Ok(Some(kept))
 }

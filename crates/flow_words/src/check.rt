@@ -1,8 +1,6 @@
 //! The word `check`: the canonical text of a text that breaks no rule.
 use crate::input::Input;
-use crate::status::Status;
 use fdl_print::canonical;
-use flow_io::Source;
 use flow_text::decimal;
 use std::alloc::{AllocError, Global};
 use template_check::{Catalog, ImportFault, RuleFault, compile, syntax_tree};
@@ -36,26 +34,25 @@ pub fn rule_refusal(alloc: Global, fault: &RuleFault) -> Result<Answer, AllocErr
 }
 
 /// The canonical text of a text that breaks no rule, or its refusal.
-fn judged(alloc: Global, text: &[u8]) -> Result<Answer, Status> {
+fn judged(alloc: Global, text: &[u8]) -> Result<Answer, AllocError> {
     match compile(alloc, text, &Catalog::new(alloc)) {
         Ok(_) => {}
-        Err(ImportFault::Rule(fault)) => return Ok(rule_refusal(alloc, &fault)?),
-        Err(ImportFault::NoMemory) => return Err(Status::NoMemory),
+        Err(ImportFault::Rule(fault)) => return rule_refusal(alloc, &fault),
+        Err(ImportFault::NoMemory) => return Err(AllocError),
     }
     match syntax_tree(alloc, text) {
         Ok(tree) => Ok(Answer {
             text: canonical(alloc, &tree)?,
             is_refused: false,
         }),
-        Err(_) => Err(Status::NoMemory),
+        Err(_) => Err(AllocError),
     }
 }
 
-/// What `check` answers.
-pub fn check<S: Source>(alloc: Global, src: &mut S) -> Result<Answer, Status> {
-    let input = Input::read(alloc, src, false)?;
+/// What `check` answers to an input.
+pub fn checked(alloc: Global, input: &Input) -> Result<Answer, AllocError> {
     match input.too_long {
-        Some(line) => Ok(refusal(alloc, b"LINE", &[line])?),
+        Some(line) => refusal(alloc, b"LINE", &[line]),
         None => judged(alloc, &input.text),
     }
 }

@@ -1,6 +1,5 @@
 //! The completion lines of `fate`, as far as the first one that can't be accepted.
 use crate::input::Numbered;
-use crate::status::Status;
 use blocks_subprocs::graph_of;
 use command_lang::{CommandFault, read_completion};
 use containers::{fresh, settings_of, with_settings};
@@ -163,7 +162,7 @@ pub fn read_completions(
     library: &Library,
     graph: &Graph,
     lines: &[Numbered],
-) -> Result<Read, Status> {
+) -> Result<Read, AllocError> {
     let mut read = Read {
         facts: Vec::new(alloc),
         lines: Vec::new(alloc),
@@ -183,7 +182,7 @@ pub fn read_completions(
                 read.add(alloc, library, graph, numbered.number, &completion)?;
             }
             Err(CommandFault::Word(place)) => read.stop(numbered.number, LineFault::Word(place)),
-            Err(CommandFault::NoMemory) => return Err(Status::NoMemory),
+            Err(CommandFault::NoMemory) => return Err(AllocError),
         }
     }
     Ok(read)

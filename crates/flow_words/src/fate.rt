@@ -2,10 +2,8 @@
 use crate::check::{Answer, refusal, rule_refusal};
 use crate::completions::{LineFault, Read, read_completions};
 use crate::input::Input;
-use crate::status::Status;
 use containers::fresh;
 use fate_eval::{FateFault, Fates, fates};
-use flow_io::Source;
 use flow_model::{Graph, Leaves, Library};
 use flow_text::decimal;
 use reply_text::{write_container, write_row};
@@ -53,46 +51,45 @@ fn by_completions(
     template: u32,
     graph: &Graph,
     read: &Read,
-) -> Result<Answer, Status> {
+) -> Result<Answer, AllocError> {
     let input = fresh(alloc, &graph.input)?;
     match fates(alloc, library, template, 1, &input, &read.facts) {
-        Err(FateFault::NoMemory) => Err(Status::NoMemory),
+        Err(FateFault::NoMemory) => Err(AllocError),
         Err(FateFault::NotReady(number)) => {
             let line = read.lines.get(number as usize).copied().unwrap_or(0);
-            Ok(refusal(alloc, b"NOTREADY", &[line])?)
+            refusal(alloc, b"NOTREADY", &[line])
         }
         Ok(found) => match read.fault {
-            Some((line, fault)) => Ok(line_refusal(alloc, line, fault)?),
-            None => Ok(written(alloc, &graph.output, &found)?),
+            Some((line, fault)) => line_refusal(alloc, line, fault),
+            None => written(alloc, &graph.output, &found),
         },
     }
 }
 
 /// The answer over an accepted text.
-fn over_library(alloc: Global, library: &Library, input: &Input) -> Result<Answer, Status> {
+fn over_library(alloc: Global, library: &Library, input: &Input) -> Result<Answer, AllocError> {
     let count = library.templates.len();
     let place = count.saturating_sub(1);
     let Some(template) = library.templates.as_slice().get(place) else {
-        return Ok(refusal(alloc, b"PROCESS", &[])?);
+        return refusal(alloc, b"PROCESS", &[]);
     };
     let read = read_completions(alloc, library, &template.graph, &input.behind)?;
     let place = u32::try_from(place).unwrap_or(u32::MAX);
     by_completions(alloc, library, place, &template.graph, &read)
 }
 
-/// What `fate` answers.
-pub fn fate<S: Source>(alloc: Global, src: &mut S) -> Result<Answer, Status> {
-    let input = Input::read(alloc, src, true)?;
+/// What `fate` answers to an input.
+pub fn fated(alloc: Global, input: &Input) -> Result<Answer, AllocError> {
     if let Some(line) = input.too_long {
-        return Ok(refusal(alloc, b"LINE", &[line])?);
+        return refusal(alloc, b"LINE", &[line]);
     }
     if !input.is_ended {
-        return Ok(refusal(alloc, b"UNENDED", &[])?);
+        return refusal(alloc, b"UNENDED", &[]);
     }
     let mut store = TemplateStore::new(alloc);
     match store.import(alloc, &input.text) {
-        Err(ImportFault::Rule(fault)) => Ok(rule_refusal(alloc, &fault)?),
-        Err(ImportFault::NoMemory) => Err(Status::NoMemory),
-        Ok(_) => over_library(alloc, store.library(), &input),
+        Err(ImportFault::Rule(fault)) => rule_refusal(alloc, &fault),
+        Err(ImportFault::NoMemory) => Err(AllocError),
+        Ok(_) => over_library(alloc, store.library(), input),
     }
 }

@@ -1,7 +1,9 @@
 //! The inputs of `check` and `fate`, read to their end.
-use crate::status::Status;
-use flow_io::{Line, Lines, Source};
-use std::alloc::Global;
+ghost use Rattle.std.specs.Prelude.{◌≡◌, MatchResult};
+ghost use Rattle.flow_io.specs.Told.{StopCause};
+
+use flow_io::{IoStop, Line, Lines, Source};
+use std::alloc::{AllocError, Global};
 
 /// An input has at most so many bytes.
 pub const MOST_BYTES: u64 = 268_435_456;
@@ -44,7 +46,7 @@ impl Input {
     }
 
     /// Adds a line to the text, as far as it is judged.
-    fn add_text(&mut self, line: &[u8]) -> Result<(), Status> {
+    fn add_text(&mut self, line: &[u8]) -> Result<(), AllocError> {
         if self.text.len() <= MOST_TEXT {
             self.text.extend_from_slice(line)?;
             self.text.push(b'\n')?;
@@ -53,7 +55,7 @@ impl Input {
     }
 
     /// Adds a line; with `has_end` the line `.` ends the text.
-    fn add(&mut self, alloc: Global, line: &[u8], has_end: bool) -> Result<(), Status> {
+    fn add(&mut self, alloc: Global, line: &[u8], has_end: bool) -> Result<(), AllocError> {
         if self.is_ended {
             self.behind.push(Numbered {
                 number: self.lines,
@@ -74,8 +76,10 @@ impl Input {
         }
     }
 
-    /// Reads a source to its end.
-    pub fn read<S: Source>(alloc: Global, src: &mut S, has_end: bool) -> Result<Input, Status> {
+    /// Reads a source to its end. It stops as `Lines::next` does.
+    pub fn read<S: Source>(alloc: Global, src: &mut S, has_end: bool) -> Result<Input, IoStop>
+        ensures { MatchResult result (λ _. S.faults src.new ≡ S.faults src.old) (StopCause (S.faults src.old) (S.faults src.new)) }
+    {
         let mut input = Input::new(alloc);
         let mut lines = Lines::new(alloc, MOST_BYTES)?;
         for _ in 0..u64::MAX {

@@ -1,6 +1,4 @@
 //! The word `load`: a made script over a history in memory, and one line that sums it up.
-use crate::script::stop_status;
-use crate::status::Status;
 use flow_session::{Input, NoJournal, Session};
 use flow_text::decimal;
 use std::alloc::{AllocError, Global};
@@ -52,19 +50,19 @@ fn amount(x: u64) -> u64 {
 }
 
 impl Loading {
-    fn line(&mut self, line: &[u8]) -> Result<(), Status> {
+    fn line(&mut self, line: &[u8]) -> Result<(), AllocError> {
         match self.session.serve(&mut NoJournal, Input::Text(line)) {
             Ok(reply) => {
                 let more = reply.len() as u64;
                 self.counts.bytes = self.counts.bytes.saturating_add(more);
                 Ok(())
             }
-            Err(stop) => Err(stop_status(stop)),
+            Err(_) => Err(AllocError),
         }
     }
 
     /// A DRAIN, whose turns are counted.
-    fn drain(&mut self) -> Result<(), Status> {
+    fn drain(&mut self) -> Result<(), AllocError> {
         let before = self.session.core().number();
         self.line(b"DRAIN")?;
         let turns = self.session.core().number().saturating_sub(before);
@@ -72,7 +70,7 @@ impl Loading {
         Ok(())
     }
 
-    fn import(&mut self) -> Result<(), Status> {
+    fn import(&mut self) -> Result<(), AllocError> {
         self.line(b"IMPORT")?;
         for line in TEXT.split(|byte| *byte == b'\n') {
             self.line(line)?;
@@ -81,7 +79,7 @@ impl Loading {
     }
 
     /// A START with this amount.
-    fn start(&mut self, amount: u64) -> Result<(), Status> {
+    fn start(&mut self, amount: u64) -> Result<(), AllocError> {
         let start = b"START 'P' BY 'ann' WITH 'Amount' = ";
         let mut line = Vec::from_slice(self.alloc, start)?;
         decimal(&mut line, amount)?;
@@ -90,13 +88,13 @@ impl Loading {
     }
 
     /// A FORCE of the first attempt of an activity of a root.
-    fn force(&mut self, root: u64, activity: u8, amount: Option<u64>) -> Result<(), Status> {
+    fn force(&mut self, root: u64, activity: u8, amount: Option<u64>) -> Result<(), AllocError> {
         let line = force_line(self.alloc, root, activity, amount)?;
         self.line(&line)?;
         self.drain()
     }
 
-    fn root(&mut self, root: u64, amount: u64) -> Result<(), Status> {
+    fn root(&mut self, root: u64, amount: u64) -> Result<(), AllocError> {
         self.start(amount)?;
         self.force(root, b'A', Some(amount))?;
         if amount > 100 {
@@ -149,7 +147,7 @@ fn summary(load: &Loading, seed: u64, roots: u64) -> Result<Vec<u8>, AllocError>
 }
 
 /// What `load` prints.
-pub fn load(alloc: Global, seed: u64, roots: u64) -> Result<Vec<u8>, Status> {
+pub fn load(alloc: Global, seed: u64, roots: u64) -> Result<Vec<u8>, AllocError> {
     let mut load = Loading {
         alloc,
         session: Session::fresh(alloc, QUEUES, LIMIT)?,
@@ -165,5 +163,5 @@ pub fn load(alloc: Global, seed: u64, roots: u64) -> Result<Vec<u8>, Status> {
         x = next_number(x);
         load.root(root, amount(x))?;
     }
-    Ok(summary(&load, seed, roots)?)
+    summary(&load, seed, roots)
 }

@@ -1,12 +1,16 @@
 //! The words that need no store.
-use crate::check::{Answer, check};
-use crate::fate::fate;
+ghost use Rattle.std.specs.Prelude.{◌≡◌, ℕ};
+ghost use Rattle.flow_words.specs.Endings.{PrintCause, RunCause, EndCause};
+
+use crate::check::{Answer, checked};
+use crate::fate::fated;
+use crate::input::Input;
 use crate::load::load;
 use crate::numbers::{Settings, number_in, settings_of};
-use crate::script::try_script;
+use crate::script::{line_status, print, try_script};
 use crate::status::Status;
-use flow_io::{Sink, Source, put_all};
-use std::alloc::Global;
+use flow_io::{Sink, Source};
+use std::alloc::{AllocError, Global};
 
 /// A load begins with a number below 2^31 and makes at most so many roots.
 const MOST_SEED: u64 = 2_147_483_647;
@@ -40,59 +44,111 @@ fn word_of(words: &[String]) -> Option<Word> {
     }
 }
 
-/// Prints a text.
-fn print<K: Sink>(out: &mut K, text: &[u8]) -> Result<(), Status> {
-    if put_all(out, text).is_err() {
-        return Err(Status::WriteFault);
+/// Prints a text, and ends with this status where that goes well.
+fn print_and_end<K: Sink>(out: &mut K, text: &[u8], status: Status) -> Status
+    requires { (before now : ℕ) → PrintCause before now status }
+    ensures { PrintCause (K.faults out.old) (K.faults out.new) result }
+{
+    match print(out, text) {
+        Ok(()) => status,
+        Err(status) => status,
     }
-    Ok(())
 }
 
 /// Prints an answer.
-fn print_answer<K: Sink>(out: &mut K, answer: &Answer) -> Result<Status, Status> {
-    print(out, &answer.text)?;
-    if answer.is_refused {
-        Ok(Status::Refused)
-    } else {
-        Ok(Status::Done)
+fn end_with<K: Sink>(out: &mut K, answer: Result<Answer, AllocError>) -> Status
+    ensures { PrintCause (K.faults out.old) (K.faults out.new) result }
+{
+    match answer {
+        Err(_) => Status::NoMemory,
+        Ok(answer) => {
+            if answer.is_refused {
+                print_and_end(out, &answer.text, Status::Refused)
+            } else {
+                print_and_end(out, &answer.text, Status::Done)
+            }
+        }
     }
 }
 
-fn obey<S: Source, K: Sink>(
+/// Reads an input, and prints the answer to it.
+fn answer_input<S: Source, K: Sink>(
     alloc: Global,
-    word: Word,
+    is_fate: bool,
     src: &mut S,
     out: &mut K,
-) -> Result<Status, Status> {
+) -> Status
+    ensures { RunCause (S.faults src.old) (S.faults src.new) (K.faults out.old) (K.faults out.new) result }
+{
+    match Input::read(alloc, src, is_fate) {
+        Err(stop) => line_status(stop),
+        Ok(input) => {
+            let answer = if is_fate {
+                fated(alloc, &input)
+            } else {
+                checked(alloc, &input)
+            };
+            end_with(out, answer)
+        }
+    }
+}
+
+/// Serves a script in memory.
+fn serve_script<S: Source, K: Sink>(
+    alloc: Global,
+    settings: Settings,
+    src: &mut S,
+    out: &mut K,
+) -> Status
+    ensures { RunCause (S.faults src.old) (S.faults src.new) (K.faults out.old) (K.faults out.new) result }
+{
+    match try_script(alloc, settings, src, out) {
+        Ok(()) => Status::Done,
+        Err(status) => status,
+    }
+}
+
+fn print_load<K: Sink>(alloc: Global, seed: u64, roots: u64, out: &mut K) -> Status
+    ensures { PrintCause (K.faults out.old) (K.faults out.new) result }
+{
+    match load(alloc, seed, roots) {
+        Err(_) => Status::NoMemory,
+        Ok(text) => print_and_end(out, &text, Status::Done),
+    }
+}
+
+fn obey<S: Source, K: Sink>(alloc: Global, word: Word, src: &mut S, out: &mut K) -> Status
+    ensures { RunCause (S.faults src.old) (S.faults src.new) (K.faults out.old) (K.faults out.new) result }
+{
     match word {
-        Word::Check => print_answer(out, &check(alloc, src)?),
-        Word::Fate => print_answer(out, &fate(alloc, src)?),
-        Word::Try(settings) => {
-            try_script(alloc, settings, src, out)?;
-            Ok(Status::Done)
-        }
-        Word::Load(seed, roots) => {
-            print(out, &load(alloc, seed, roots)?)?;
-            Ok(Status::Done)
-        }
+        Word::Check => answer_input(alloc, false, src, out),
+        Word::Fate => answer_input(alloc, true, src, out),
+        Word::Try(settings) => serve_script(alloc, settings, src, out),
+        Word::Load(seed, roots) => print_load(alloc, seed, roots, out),
+    }
+}
+
+fn print_usage<K: Sink>(out: &mut K) -> Status {
+    match print(out, b"no USAGE\n") {
+        Ok(()) => Status::Usage,
+        Err(status) => status,
     }
 }
 
 /// Does what the words say, over a source and a sink alone.
+///
+/// `ReadFault` comes only where the source's count of faults rose, and `WriteFault` only where the
+/// sink's did; `Store` never.
 pub fn run_pure<S: Source, K: Sink>(
     alloc: Global,
     words: &[String],
     src: &mut S,
     out: &mut K,
-) -> Status {
-    let Some(word) = word_of(words) else {
-        return match put_all(out, b"no USAGE\n") {
-            Ok(()) => Status::Usage,
-            Err(_) => Status::WriteFault,
-        };
-    };
-    match obey(alloc, word, src, out) {
-        Ok(status) => status,
-        Err(status) => status,
+) -> Status
+    ensures { EndCause (S.faults src.old) (S.faults src.new) (K.faults out.old) (K.faults out.new) result }
+{
+    match word_of(words) {
+        None => print_usage(out),
+        Some(word) => obey(alloc, word, src, out),
     }
 }

@@ -1,16 +1,42 @@
 //! A script served line by line, each reply printed before the next line is read.
+ghost use Rattle.std.specs.Prelude.{◌≡◌, ℕ, MatchResult, IfErr};
+ghost use Rattle.flow_words.specs.Endings.{PrintCause, RunCause, status_of};
+
 use crate::input::MOST_BYTES;
 use crate::numbers::Settings;
 use crate::status::Status;
-use flow_io::{Line, Lines, Sink, Source, put_all};
+use flow_io::{IoStop, Line, Lines, Sink, Source, put_all};
 use flow_session::{Input, Journal, NoJournal, Session, Stop};
 use std::alloc::Global;
 
+/// Prints a text.
+pub fn print<K: Sink>(out: &mut K, text: &[u8]) -> Result<(), Status>
+    ensures { MatchResult result (λ _. K.faults out.new ≡ K.faults out.old) (PrintCause (K.faults out.old) (K.faults out.new)) }
+{
+    match put_all(out, text) {
+        Ok(()) => Ok(()),
+        Err(_) => Err(Status::WriteFault),
+    }
+}
+
 /// The status of a session that stops.
-pub fn stop_status(stop: Stop) -> Status {
+pub fn stop_status(stop: Stop) -> Status
+    ensures { (before now : ℕ) → PrintCause before now result }
+{
     match stop {
         Stop::StoreFault => Status::StoreFault,
         Stop::NoMemory => Status::NoMemory,
+    }
+}
+
+/// The status of a reader of lines that stops.
+pub fn line_status(stop: IoStop) -> Status
+    ensures { result ≡ status_of stop }
+{
+    match stop {
+        IoStop::ReadFault => Status::ReadFault,
+        IoStop::ScriptTooLong => Status::ScriptTooLong,
+        IoStop::NoMemory => Status::NoMemory,
     }
 }
 
@@ -20,15 +46,18 @@ fn serve_one<J: Journal, K: Sink>(
     journal: &mut J,
     out: &mut K,
     input: Input<'_>,
-) -> Result<(), Status> {
-    let reply = match session.serve(journal, input) {
-        Ok(reply) => reply,
-        Err(stop) => return Err(stop_status(stop)),
-    };
-    if !reply.is_empty() && put_all(out, &reply).is_err() {
-        return Err(Status::WriteFault);
+) -> Result<(), Status>
+    ensures { MatchResult result (λ _. K.faults out.new ≡ K.faults out.old) (PrintCause (K.faults out.old) (K.faults out.new)) }
+{
+    match session.serve(journal, input) {
+        Err(stop) => Err(stop_status(stop)),
+        Ok(reply) => {
+            if reply.is_empty() {
+                return Ok(());
+            }
+            print(out, &reply)
+        }
     }
-    Ok(())
 }
 
 /// Serves a script to its end.
@@ -38,16 +67,26 @@ pub fn serve_all<S: Source, K: Sink, J: Journal>(
     journal: &mut J,
     src: &mut S,
     out: &mut K,
-) -> Result<(), Status> {
-    let mut lines = Lines::new(alloc, MOST_BYTES)?;
-    for _ in 0..u64::MAX {
-        match lines.next(src)? {
-            Line::Text => serve_one(session, journal, out, Input::Text(lines.text()))?,
-            Line::TooLong => serve_one(session, journal, out, Input::TooLong)?,
-            Line::Ended => {
-                serve_one(session, journal, out, Input::Ended)?;
-                break;
-            }
+) -> Result<(), Status>
+    ensures { IfErr result (RunCause (S.faults src.old) (S.faults src.new) (K.faults out.old) (K.faults out.new)) }
+{
+    let mut lines = match Lines::new(alloc, MOST_BYTES) {
+        Ok(lines) => lines,
+        Err(_) => return Err(Status::NoMemory),
+    };
+    'inputs: for _ in 0..u64::MAX {
+        let input = match lines.next(src) {
+            Err(stop) => return Err(line_status(stop)),
+            Ok(Line::Text) => Input::Text(lines.text()),
+            Ok(Line::TooLong) => Input::TooLong,
+            Ok(Line::Ended) => Input::Ended,
+        };
+        let is_last = matches!(input, Input::Ended);
+        if let Err(status) = serve_one(session, journal, out, input) {
+            return Err(status);
+        }
+        if is_last {
+            break;
         }
     }
     Ok(())
@@ -59,7 +98,14 @@ pub fn try_script<S: Source, K: Sink>(
     settings: Settings,
     src: &mut S,
     out: &mut K,
-) -> Result<(), Status> {
-    let mut session = Session::fresh(alloc, settings.queues, settings.limit)?;
-    serve_all(alloc, &mut session, &mut NoJournal, src, out)
+) -> Result<(), Status>
+    ensures { IfErr result (RunCause (S.faults src.old) (S.faults src.new) (K.faults out.old) (K.faults out.new)) }
+{
+    match Session::fresh(alloc, settings.queues, settings.limit) {
+        Err(_) => Err(Status::NoMemory),
+        Ok(session) => {
+            let mut session = session;
+            serve_all(alloc, &mut session, &mut NoJournal, src, out)
+        }
+    }
 }

@@ -1,7 +1,4 @@
 //! How a run ends.
-use flow_io::IoStop;
-use std::alloc::{AllocError, AllocFailed};
-
 /// How a run ends. Its number is the exit status of the program.
 #[derive(Clone, Copy, Debug, PartialEq, Eq)]
 pub enum Status {
@@ -38,28 +35,6 @@ impl Status {
             Status::NoMemory => 6,
             Status::ScriptTooLong => 7,
             Status::Refused => 8,
-        }
-    }
-}
-
-impl From<AllocError> for Status {
-    fn from(_fault: AllocError) -> Status {
-        Status::NoMemory
-    }
-}
-
-impl<T: Drop> From<AllocFailed<T>> for Status {
-    fn from(_fault: AllocFailed<T>) -> Status {
-        Status::NoMemory
-    }
-}
-
-impl From<IoStop> for Status {
-    fn from(stop: IoStop) -> Status {
-        match stop {
-            IoStop::ReadFault => Status::ReadFault,
-            IoStop::ScriptTooLong => Status::ScriptTooLong,
-            IoStop::NoMemory => Status::NoMemory,
         }
     }
 }

@@ -1,10 +1,10 @@
 //! The words over a store in two files: `new` and `run`.
 use crate::numbers::{Settings, settings_of};
 use crate::pure::run_pure;
-use crate::script::serve_all;
+use crate::script::{print, serve_all};
 use crate::status::Status;
 use flow_disk::{FileDisk, Slot};
-use flow_io::{Sink, Source, put_all};
+use flow_io::{Sink, Source};
 use flow_session::{Stored, reopen};
 use flow_text::decimal;
 use std::alloc::{AllocError, Global};
@@ -61,14 +61,13 @@ fn stop_text(alloc: Global, stop: &LogStop) -> Result<Option<Vec<u8>>, AllocErro
 
 /// Prints why a store isn't opened.
 fn refuse<K: Sink>(alloc: Global, out: &mut K, stop: &LogStop) -> Result<Status, Status> {
-    match stop_text(alloc, stop)? {
-        Some(text) => {
-            if put_all(out, &text).is_err() {
-                return Err(Status::WriteFault);
-            }
+    match stop_text(alloc, stop) {
+        Err(_) => Err(Status::NoMemory),
+        Ok(Some(text)) => {
+            print(out, &text)?;
             Ok(Status::Store)
         }
-        None => match stop {
+        Ok(None) => match stop {
             LogStop::StoreFault => Err(Status::StoreFault),
             _ => Err(Status::NoMemory),
         },
@@ -89,9 +88,7 @@ fn make<K: Sink, R: Files>(
     match Log::make(alloc, disk, queues, limit) {
         Err(stop) => refuse(alloc, out, &stop),
         Ok(_log) => {
-            if put_all(out, b"ok NEW\n").is_err() {
-                return Err(Status::WriteFault);
-            }
+            print(out, b"ok NEW\n")?;
             Ok(Status::Done)
         }
     }
