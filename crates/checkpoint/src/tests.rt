@@ -1,4 +1,8 @@
 //! A store moved to its other slot byte by byte, and what a stop at each call leaves.
+ghost use Rattle.std.specs.Prelude.{◌≡◌, ◌≤◌, ◌<◌, ◌^◌, length, All, IfOk};
+ghost use Rattle.txn_log.specs.Records.{IsPayload};
+ghost use Rattle.txn_log.specs.Stored.{InRange};
+
 use crate::compact;
 use flow_disk::{MemDisk, Slot};
 use flow_model::{Bytes, List};
@@ -13,7 +17,10 @@ const SECOND: [u8; 65] = [
     0, 0, 0, 1, 0x0f, 0, 0, 0, 0, 0, 0, 0, 5, 0,
 ];
 
-fn header(generation: u64) -> Header {
+fn header(generation: u64) -> Header
+    requires { (1 ≤ generation) × (generation ≤ 2 ^ 62) }
+    ensures { InRange result × (result.generation ≡ generation) }
+{
     Header {
         generation,
         queues: 1,
@@ -23,25 +30,27 @@ fn header(generation: u64) -> Header {
     }
 }
 
-fn clocks(rt: &HostRuntime, count: usize) -> Result<List<Bytes>, Fail> {
+fn clocks(rt: &HostRuntime, count: u8) -> Result<List<Bytes>, Fail>
+    ensures { IfOk result (λ kept. All IsPayload kept × (length kept ≡ count)) }
+{
     let mut kept = List::new(rt.alloc());
-    for _ in 0..count {
+    'missing: while kept.len() < count as usize {
         kept.push(Bytes::new(rt.alloc(), &CLOCK)?)?;
     }
     Ok(kept)
 }
 
-fn compacted(
-    rt: &HostRuntime,
-    disk: &mut MemDisk,
-    generation: u64,
-    count: usize,
-) -> Result<bool, Fail> {
+/// Reopens a store and moves it, and answers whether both was done.
+fn moves(rt: &HostRuntime, disk: &mut MemDisk, count: u8) -> Result<bool, Fail> {
     let kept = clocks(rt, count)?;
     match Log::reopen(rt.alloc(), disk) {
         Ok(opened) => {
             let mut log = opened.log;
-            Ok(compact(&mut log, disk, &header(generation), &kept).is_ok())
+            let generation = opened.header.generation;
+            if generation > 100 {
+                return Ok(false);
+            }
+            Ok(compact(&mut log, disk, &header(generation + 1), &kept).is_ok())
         }
         Err(_) => Ok(false),
     }
@@ -62,7 +71,7 @@ fn a_store_is_moved(rt: HostRuntime) -> Result<(), Fail> {
     assert_eq!(rt; opened.log.slot(), Slot::B);
     assert_eq!(rt; opened.header, header(2));
     assert_eq!(rt; opened.records.len(), 2);
-    assert_eq!(rt; compacted(&rt, &mut disk, 3, 2)?, true);
+    assert_eq!(rt; moves(&rt, &mut disk, 2)?, true);
     assert_eq!(rt; Log::reopen(alloc, &mut disk)?.log.slot(), Slot::A);
     assert_eq!(rt; Log::reopen(alloc, &mut disk)?.records.len(), 2);
     Ok(())
@@ -85,7 +94,7 @@ fn a_stop_at_each_call(rt: HostRuntime) -> Result<(), Fail> {
         for stop in 1..30 {
             for choice in [0, 1, 215, 221] {
                 let mut disk = MemDisk::stopping(alloc, before, &SECOND, stop)?;
-                let is_done = compacted(&rt, &mut disk, 3, 1)?;
+                let is_done = moves(&rt, &mut disk, 1)?;
                 assert_eq!(rt; is_done, stop > disk.calls());
                 let mut left = disk.crash(choice)?;
                 let opened = Log::reopen(alloc, &mut left)?;

@@ -10,4 +10,4 @@ mod store;
 
 pub use journal::{Journal, NoJournal};
 pub use serving::{Input, Session, Stop};
-pub use store::{Stored, reopen};
+pub use store::{Stored, adopt, append, reopen};

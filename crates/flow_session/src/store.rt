@@ -86,7 +86,11 @@ impl<'r, R: Files> Stored<'r, R> {
 }
 
 /// Appends a payload to a log of two files.
-fn append<R: Files>(log: &mut Log, disk: &mut FileDisk<'_, R>, payload: &[u8]) -> Result<(), Stop> {
+pub fn append<R: Files>(
+    log: &mut Log,
+    disk: &mut FileDisk<'_, R>,
+    payload: &[u8],
+) -> Result<(), Stop> {
     if !is_payload(payload) || log.has_failed() || log.records() >= MOST_RECORDS {
         return Err(Stop::StoreFault);
     }
@@ -134,7 +138,7 @@ impl<'r, R: Files> Journal for Stored<'r, R> {
 }
 
 /// Adopts a record; else the store is damaged at its gate.
-fn adopt(
+pub fn adopt(
     alloc: Global,
     core: &mut Core,
     slot: Slot,

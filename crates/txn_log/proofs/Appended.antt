@@ -1,12 +1,12 @@
 -- What a store stands for while a record is added to the slot that counts.
-use Rattle.std.proofs.Common.{◌≡◌, ◌⊎◌, inl, inr, ⊎_elim, ℕ, ◌+◌, List, [], ◌∷◌, ◌++◌, length, refl, sym, ap, ◌∙◌}
+use Rattle.std.proofs.Common.{◌≡◌, inl, inr, ⊎_elim, ℕ, ◌+◌, List, [], ◌∷◌, ◌++◌, length, sym, ap, ◌∙◌}
 use Rattle.flow_disk.specs.declared.disk.Slot.{Slot}
-use Rattle.flow_disk.specs.Images.{Image, bytes_in, opposite}
+use Rattle.flow_disk.specs.Images.{Image}
 use Rattle.txn_log.specs.declared.header.Header.{Header}
 use Rattle.txn_log.specs.Standing.{HasRecord, MayHaveRecord}
 use Rattle.txn_log.specs.Steps.{With, WithOrWithout, IsGoodTo}
-use Rattle.txn_log.specs.Stored.{Good, slot_state, appended}
-use Rattle.txn_log.specs.Stores.{StoreState, Counts, store_of, with_record}
+use Rattle.txn_log.specs.Stored.{slot_state, appended}
+use Rattle.txn_log.specs.Stores.{Counts, store_of, with_record}
 use Rattle.txn_log.proofs.StoreStates.{counts_good, counts_on, store_same}
 
 module _ (slot : Slot) (payload : List ℕ) (old : Image) (h : Header) (ps : List (List ℕ)) (e : ℕ) (is : store_of old ≡ Counts slot h ps e) where

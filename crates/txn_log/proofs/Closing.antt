@@ -1,15 +1,15 @@
 -- The first step of a slot that is made: its gate is closed, or used as it stands.
-use Rattle.std.proofs.Common.{◌≡◌, ◌≢◌, ◌⊎◌, inl, inr, ⊎_elim, ℕ, zero, suc, ◌+◌, ◌-◌, ◌<◌, ◌≤◌, min, max, Bool, true, false, ◌&&◌, ◌||◌, not, ◌==◌, nat_eq, nat_le, List, [], ◌∷◌, ◌++◌, length, take, drop, slice_index, Option, Some, None, codes, refl, sym, ap, subst, ◌∙◌, arith, take-append-drop}
+use Rattle.std.proofs.Common.{◌≡◌, ◌≢◌, ◌⊎◌, inl, inr, ⊎_elim, ℕ, ◌<◌, ◌≤◌, Bool, true, false, ◌&&◌, ◌||◌, not, ◌==◌, nat_eq, nat_le, List, [], ◌∷◌, ◌++◌, length, take, drop, slice_index, Option, Some, None, codes, refl, sym, ap, ◌∙◌, arith, take-append-drop}
 use Rattle.std.proofs.lemmas.Bool.{cases_eq, cases_lt, ne_eqb, le-leb, lt-leb}
 use Rattle.std.proofs.lemmas.List.{length-take, take-take}
 use Rattle.std.proofs.lemmas.Slice.Eq.{bytes_eq-Decides}
 use Rattle.std.specs.List.{starts_with}
 use Rattle.flow_disk.specs.declared.disk.Slot.{Slot}
-use Rattle.flow_disk.specs.Images.{Image, bytes_in, put_in, opposite, spliced, Torn, TornIn}
+use Rattle.flow_disk.specs.Images.{Image, bytes_in, put_in, opposite, spliced, TornIn}
 use Rattle.txn_log.specs.declared.header.Header.{Header}
-use Rattle.txn_log.specs.Stored.{Listed, Ends, Breaks, SlotState, Unmade, Foreign, Damaged, Good, is_unmade, has_magic, header_of, header_fault, with_header, state_of, slot_state, listed}
+use Rattle.txn_log.specs.Stored.{Listed, Ends, Breaks, Unmade, Good, is_unmade, has_magic, header_of, header_fault, state_of, slot_state, listed}
 use Rattle.txn_log.specs.Steps.{GateDiffers, IsShut, StandsOrUnmade, IsOurs}
-use Rattle.txn_log.proofs.Begin.{in_put, in_other, torn_gate}
+use Rattle.txn_log.proofs.Begin.{in_put, torn_gate}
 use Rattle.txn_log.proofs.Fronts.{unmade_front}
 
 short_test : (head : List ℕ) → length head ≤ 1 → is_unmade head ≡ true

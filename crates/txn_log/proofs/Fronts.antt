@@ -1,11 +1,11 @@
 -- The front of a slot that is made.
-use Rattle.std.proofs.Common.{◌≡◌, ◌≢◌, ◌⊎◌, inl, inr, ⊎_elim, ℕ, zero, suc, ◌+◌, ◌-◌, ◌^◌, ◌<◌, ◌≤◌, Bool, true, false, ◌&&◌, ◌||◌, not, ◌==◌, nat_eq, nat_le, if◌then◌else◌, List, [], ◌∷◌, ◌++◌, length, take, drop, slice_index, Option, Some, None, codes, refl, sym, ap, subst, ◌∙◌, arith}
-use Rattle.std.proofs.lemmas.Bool.{ne_eqb, le-leb, eq-eqb}
+use Rattle.std.proofs.Common.{◌≡◌, ◌≢◌, ◌⊎◌, inl, inr, ℕ, ◌^◌, Bool, true, false, ◌&&◌, ◌||◌, not, ◌==◌, nat_eq, nat_le, List, [], ◌∷◌, ◌++◌, length, take, drop, None, codes, refl, ap, ◌∙◌, arith}
+use Rattle.std.proofs.lemmas.Bool.{ne_eqb, le-leb}
 use Rattle.std.proofs.lemmas.List.{take_at, drop_at}
 use Rattle.std.proofs.lemmas.Nat.{from_be_bytes-to_be_bytes_8}
 use Rattle.std.specs.List.{starts_with}
 use Rattle.txn_log.specs.declared.header.Header.{Header}
-use Rattle.txn_log.specs.Stored.{Listed, Ends, listed, SlotState, Unmade, Good, is_unmade, has_magic, header_of, header_fault, state_of, slot_state, header_text, InRange}
+use Rattle.txn_log.specs.Stored.{Ends, listed, Unmade, Good, is_unmade, has_magic, header_of, header_fault, slot_state, header_text, InRange}
 
 by_last : (a b c : Bool) → c ≡ true → (a || (b || c)) ≡ true
 by_last true b c is = refl

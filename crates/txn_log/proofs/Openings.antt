@@ -1,12 +1,12 @@
 -- What is answered when a store is opened or made.
-use Rattle.std.proofs.Common.{◌≡◌, ◌⊎◌, inl, inr, ⊎_elim, ℕ, List, [], ◌∷◌, refl, sym, ap, subst, ◌∙◌, length}
-use Rattle.flow_disk.specs.declared.disk.Slot.TheVariants.{A, B}
+use Rattle.std.proofs.Common.{◌≡◌, inl, inr, ⊎_elim, ℕ, List, [], sym, ap, ◌∙◌, length}
+use Rattle.flow_disk.specs.declared.disk.Slot.TheVariants.{A}
 use Rattle.flow_disk.specs.Images.{Image}
 use Rattle.txn_log.specs.declared.header.Header.{Header}
 use Rattle.txn_log.specs.declared.stops.LogStop.{LogStop}
 use Rattle.txn_log.specs.declared.stops.LogStop.TheVariants.{Unmade as NothingThere, Made, Foreign as ForeignAt, Damaged as DamagedAt, StoreFault, NoMemory}
 use Rattle.txn_log.specs.Causes.{IsOutside}
-use Rattle.txn_log.specs.Opening.{IsVerdict, IsRefusal, IsStanding, IsMakeRefusal, MayBeNew, first_header}
+use Rattle.txn_log.specs.Opening.{IsRefusal, MayBeNew, first_header}
 use Rattle.txn_log.specs.Standing.{IsAt, StandsOn}
 use Rattle.txn_log.specs.Steps.{Stands, StandsOrUnmade}
 use Rattle.txn_log.specs.declared.log.Log.{Log}

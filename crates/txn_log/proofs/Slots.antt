@@ -1,13 +1,12 @@
 -- What a good slot is made of, and what a crash in its records makes of it.
-use Rattle.std.proofs.Common.{◌≡◌, ◌≢◌, ◌⊎◌, inl, inr, ℕ, zero, suc, ◌+◌, ◌-◌, ◌^◌, ◌<◌, ◌≤◌, Bool, true, false, List, [], ◌∷◌, ◌++◌, length, take, drop, Option, Some, None, refl, sym, ap, subst, ◌∙◌, arith, length-append, append_assoc, take-append-drop, length-drop}
-use Rattle.std.proofs.lemmas.Bool.{cases_eq}
-use Rattle.std.proofs.lemmas.List.{take_at, drop_at, take_all, length-take, append-nil}
+use Rattle.std.proofs.Common.{◌≡◌, ◌≢◌, ℕ, ◌+◌, ◌^◌, ◌<◌, ◌≤◌, Bool, true, false, List, [], ◌∷◌, ◌++◌, length, take, drop, Option, Some, None, refl, sym, ap, subst, ◌∙◌, arith, length-append, append_assoc, take-append-drop, length-drop}
+use Rattle.std.proofs.lemmas.List.{take_at, drop_at, length-take, append-nil}
 use Rattle.std.proofs.lemmas.Nat.{from_be_bytes-to_be_bytes_4}
 use Rattle.std.specs.Int.{w32, to_be_bytes}
 use Rattle.txn_log.specs.declared.header.Header.{Header}
-use Rattle.txn_log.specs.Stored.{Listed, Ends, Breaks, length_at, listed, SlotState, Unmade, Foreign, Damaged, Good, is_unmade, has_magic, header_of, header_fault, with_header, state_of, slot_state, appended}
+use Rattle.txn_log.specs.Stored.{Listed, Ends, Breaks, length_at, listed, Good, is_unmade, has_magic, header_of, header_fault, state_of, slot_state}
 use Rattle.txn_log.specs.Steps.{record_bytes}
-use Rattle.txn_log.proofs.Records.{Spells, Nothing, One, spells-append, listed-closed, Parts, parts}
+use Rattle.txn_log.proofs.Records.{Spells, Nothing, One, spells-append, listed-closed, parts}
 
 pub length_is : (n : ℕ) → n < 2 ^ 32 → length_at (to_be_bytes w32 n) ≡ n
 unfolding length_at

@@ -1,5 +1,5 @@
 -- What a store stands for, when one of its slots changes.
-use Rattle.std.proofs.Common.{◌≡◌, ◌≢◌, ◌⊎◌, inl, inr, ⊎_elim, ℕ, ◌+◌, ◌<◌, Bool, true, false, ◌==◌, nat_lt, List, [], ◌∷◌, ◌++◌, length, refl, sym, ap, subst, ◌∙◌, arith}
+use Rattle.std.proofs.Common.{◌≡◌, inl, inr, ℕ, ◌<◌, Bool, true, false, ◌==◌, nat_lt, List, refl, sym, ap, subst, ◌∙◌, arith}
 use Rattle.std.proofs.lemmas.Bool.{ne_eqb, lt-ltb}
 use Rattle.std.proofs.lemmas.Bool.Decides.{nat_tests}
 use Rattle.txn_log.specs.Steps.{IsOurs}
@@ -7,8 +7,8 @@ use Rattle.flow_disk.specs.declared.disk.Slot.{Slot}
 use Rattle.flow_disk.specs.declared.disk.Slot.TheVariants.{A, B}
 use Rattle.flow_disk.specs.Images.{Image, bytes_in, opposite}
 use Rattle.txn_log.specs.declared.header.Header.{Header}
-use Rattle.txn_log.specs.Stored.{SlotState, Unmade, Foreign, Damaged, Good, slot_state, appended}
-use Rattle.txn_log.specs.Stores.{StoreState, NoStore, ForeignIn, DamagedIn, Counts, newer, judged_store, store_of, with_record}
+use Rattle.txn_log.specs.Stored.{SlotState, Unmade, Foreign, Damaged, Good, slot_state}
+use Rattle.txn_log.specs.Stores.{StoreState, NoStore, Counts, newer, judged_store, store_of}
 
 -- a store by one slot and the other
 abbrev pub store_by : Slot → SlotState → SlotState → StoreState

@@ -1,8 +1,8 @@
 -- Why a store wasn't read: for a fault, exactly where the disk counted one more.
-use Rattle.std.specs.Prelude.{◌≡◌, ℕ, ◌≤◌, Result, Ok, Err}
+use Rattle.std.specs.Prelude.{◌≡◌, ℕ, ◌≤◌, Result, Err}
 use Rattle.flow_disk.specs.Causes.{Rose}
 use Rattle.txn_log.specs.declared.stops.LogStop.{LogStop}
-use Rattle.txn_log.specs.declared.stops.LogStop.TheVariants.{Unmade, Made, Foreign, Damaged, StoreFault, NoMemory}
+use Rattle.txn_log.specs.declared.stops.LogStop.TheVariants.{StoreFault, NoMemory}
 
 -- the count of faults rose exactly where a fault is answered
 abbrev pub IsCause : {T : Type 0} → ℕ → ℕ → Result T LogStop → Type 0

@@ -1,9 +1,8 @@
 -- What the judgement of a slot in the code stands for.
-use Rattle.std.specs.Prelude.{◌≡◌, ℕ, ◌+◌, ◌*◌, ◌≤◌, List, length, Vec}
+use Rattle.std.specs.Prelude.{◌≡◌, ◌+◌, ◌*◌, ◌≤◌, length}
 use Rattle.txn_log.specs.Stored.{Listed, Ends, Breaks, SlotState}
 use Rattle.txn_log.specs.Stored.{Unmade as NoStore, Foreign as OtherStore, Damaged as DamagedAt, Good as GoodWith}
 use Rattle.txn_log.specs.Records.{payloads_of, places_of, gates}
-use Rattle.txn_log.specs.declared.judged.Record.{Record}
 use Rattle.txn_log.specs.declared.judged.Found.{Found}
 use Rattle.txn_log.specs.declared.judged.Found.TheVariants.{Ends as EndsAt, Breaks as BreaksAt}
 use Rattle.txn_log.specs.declared.judged.Judged.{Judged}

@@ -1,6 +1,5 @@
 -- What is answered when a store is opened or made.
-use Rattle.std.specs.Prelude.{◌≡◌, ◌⊎◌, ℕ, ◌≤◌, List, [], length, false, Result, Ok, Err}
-use Rattle.flow_disk.specs.declared.disk.Slot.{Slot}
+use Rattle.std.specs.Prelude.{◌≡◌, ◌⊎◌, ℕ, [], length, false, Result, Ok, Err}
 use Rattle.flow_disk.specs.declared.disk.Slot.TheVariants.{A}
 use Rattle.flow_disk.specs.Images.{Image}
 use Rattle.txn_log.specs.declared.chosen.Chosen.{Chosen}

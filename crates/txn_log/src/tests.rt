@@ -40,7 +40,7 @@ fn a_store_byte_by_byte(rt: HostRuntime) -> Result<(), Fail> {
     assert_eq!(rt; disk.bytes(Slot::B).len(), 0);
     let before = disk.calls();
     log.append(&mut disk, &CLOCK)?;
-    assert_eq!(rt; disk.calls() - before, 6);
+    assert_eq!(rt; disk.calls().checked_sub(before), Some(6));
     let bytes = disk.bytes(Slot::A);
     assert_eq!(rt; bytes.len(), 65);
     assert_eq!(rt; &bytes[42..47], [1, 0, 0, 0, 0x11].as_slice());
@@ -61,14 +61,18 @@ fn a_store_byte_by_byte(rt: HostRuntime) -> Result<(), Fail> {
 #[test]
 fn a_stop_at_each_call_of_an_append(rt: HostRuntime) -> Result<(), Fail> {
     let alloc = rt.alloc();
-    for stop in 1..8 {
+    let mut made = with_a(&rt, &MADE)?;
+    let opened = Log::reopen(alloc, &mut made)?;
+    assert!(rt; opened.records.is_empty());
+    let reopening = made.calls();
+    for stop in 1..8_u64 {
         for choice in [0, 1, 215, 221] {
-            let mut made = with_a(&rt, &MADE)?;
-            let log = Log::reopen(alloc, &mut made)?.log;
-            let mut log = log;
-            let mut disk = MemDisk::stopping(alloc, &MADE, &[], stop)?;
-            let done = log.append(&mut disk, &CLOCK);
-            assert_eq!(rt; done.is_ok(), stop > 6);
+            let from = reopening.saturating_add(stop);
+            let mut disk = MemDisk::stopping(alloc, &MADE, &[], from)?;
+            let opened = Log::reopen(alloc, &mut disk)?;
+            assert!(rt; opened.records.is_empty());
+            let mut log = opened.log;
+            assert_eq!(rt; log.append(&mut disk, &CLOCK).is_ok(), stop > 6);
             let mut left = disk.crash(choice)?;
             let records = records_of(&rt, &mut left)?;
             let wanted = stop > 6 || stop == 6 && (choice == 1 || choice == 215);

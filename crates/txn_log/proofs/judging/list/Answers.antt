@@ -1,4 +1,4 @@
-use Rattle.std.proofs.Common.{◌≡◌, ◌+◌, ◌<◌, ◌≤◌, ◌*◌, ◌++◌, ◌∷◌, [], length, take, drop, arith, sym, ap, ◌∙◌, rules, map, ◌-◌, subst, List, ℕ, true, false, length-append, length-drop}
+use Rattle.std.proofs.Common.{◌≡◌, ◌+◌, ◌<◌, ◌++◌, ◌∷◌, [], length, take, drop, arith, sym, ap, ◌∙◌, rules, ◌-◌, subst, List, ℕ, true, false, length-append, length-drop}
 use Rattle.std.proofs.lemmas.List.{map-append, length-take-le}
 use Rattle.txn_log.specs.Stored.{is_whole, length_at, listed}
 use Rattle.txn_log.specs.Records.{payloads_of, places_of, gates, reach}

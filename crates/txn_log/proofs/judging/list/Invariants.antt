@@ -1,4 +1,4 @@
-use Rattle.std.proofs.Common.{◌≡◌, ℕ, ◌+◌, ◌-◌, ◌*◌, ◌≤◌, length, drop}
+use Rattle.std.proofs.Common.{◌≡◌, ◌+◌, ◌-◌, ◌*◌, ◌≤◌, length, drop}
 use Rattle.txn_log.specs.Stored.{listed}
 use Rattle.txn_log.specs.Records.{payloads_of, places_of, gates, reach}
 use Rattle.txn_log.proofs.Records.{led_all}

@@ -1,4 +1,4 @@
-use Rattle.std.proofs.Common.{◌≡◌, ◌∙◌, rules}
+use Rattle.std.proofs.Common.{◌∙◌}
 use Rattle.txn_log.proofs.Numbers.{eight_bytes}
 use Rattle.txn_log.proofs.judging.number_at.Goals as goal
 

@@ -1,4 +1,4 @@
-use Rattle.std.proofs.Common.{◌≡◌, ◌∙◌, ◌++◌, ap, sym, subst, ◌≤◌, length, take, drop, List, ℕ, rules}
+use Rattle.std.proofs.Common.{◌≡◌, ◌∙◌, ◌++◌, ap, sym, subst, ◌≤◌, length, take, drop, ℕ, rules}
 use Rattle.flow_disk.specs.Images.{Image, bytes_in}
 use Rattle.txn_log.proofs.Blocks.{elapses_more, read_more}
 use Rattle.txn_log.proofs.reading.read_by.Goals as goal

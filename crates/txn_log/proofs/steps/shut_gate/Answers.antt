@@ -1,7 +1,6 @@
-use Rattle.std.proofs.Common.{◌≡◌, ◌≢◌, ◌⊎◌, inl, inr, ⊎_elim, refl, sym, subst, ◌∙◌, ℕ, ◌≤◌, ◌<◌, arith, length, slice_index, List}
-use Rattle.std.proofs.lemmas.Bool.{cases_lt}
+use Rattle.std.proofs.Common.{inl, ⊎_elim, refl, sym, subst, ◌∙◌, ℕ, ◌<◌, arith, length}
 use Rattle.flow_disk.specs.Images.{Image, bytes_in, opposite, TornIn}
-use Rattle.flow_disk.proofs.Runs.{Run, started, goes_on, stayed}
+use Rattle.flow_disk.proofs.Runs.{started, goes_on, stayed}
 use Rattle.txn_log.specs.Stored.{slot_state}
 use Rattle.txn_log.specs.Steps.{IsShut, StandsOrUnmade}
 use Rattle.txn_log.proofs.Closing.{stands_zero, stands_other, shut_now, torn_shut, held_open}

@@ -1,7 +1,7 @@
-use Rattle.std.proofs.Common.{◌≡◌, ◌⊎◌, inl, inr, ◌+◌, ◌≤◌, ◌-◌, length, arith, ℕ, List, [], ◌∷◌, ap, ◌∙◌, sym, subst, rules, drop}
-use Rattle.flow_disk.specs.Images.{Image, bytes_in, put_in, opposite, spliced}
-use Rattle.flow_disk.proofs.Runs.{Run, started, wrote, stayed, weaker}
-use Rattle.txn_log.specs.Stored.{Unmade, header_text}
+use Rattle.std.proofs.Common.{◌≡◌, ◌⊎◌, inl, inr, ◌≤◌, arith, ℕ, [], ◌∷◌, sym, subst}
+use Rattle.flow_disk.specs.Images.{bytes_in, opposite}
+use Rattle.flow_disk.proofs.Runs.{started, wrote, stayed, weaker}
+use Rattle.txn_log.specs.Stored.{Unmade}
 use Rattle.txn_log.specs.Steps.{Begins, HasBody, Stands}
 use Rattle.txn_log.proofs.Made.{closed_now, closed_unmade, closed_torn, body_after, text_cut}
 use Rattle.txn_log.proofs.steps.write_body.Goals as goal

@@ -1,4 +1,4 @@
-use Rattle.std.proofs.Common.{◌≡◌, ◌∷◌, [], ◌++◌, ◌+◌, ◌∙◌, ap, sym, length, arith, ℕ, length-append}
+use Rattle.std.proofs.Common.{◌≡◌, ◌∷◌, [], ◌++◌, ◌+◌, ◌∙◌, ap, length, arith, ℕ, length-append}
 use Rattle.flow_disk.proofs.Runs.{weaker}
 use Rattle.txn_log.specs.Standing.{MayHaveRecord}
 use Rattle.txn_log.specs.Steps.{WithOrWithout}

@@ -1,6 +1,5 @@
-use Rattle.std.proofs.Common.{◌≡◌, ◌∙◌, refl, ap, sym, subst, length}
+use Rattle.std.proofs.Common.{◌∙◌, refl, ap, sym}
 use Rattle.std.proofs.lemmas.List.{length-map}
-use Rattle.flow_disk.specs.Images.{Image}
 use Rattle.txn_log.specs.Records.{payloads_of}
 use Rattle.txn_log.specs.Stores.{store_of}
 use Rattle.txn_log.proofs.Openings.{stands_at}

@@ -1,0 +1,11 @@
+//! Which open items are late, by how many minutes, and who is to be notified of each?
+//!
+//! Knows the open items of a state, its clock and its people; never how an item came to be open, nor any
+//! byte of a store. Begin with [`overdue`].
+#![tactic(auto)]
+
+mod late;
+mod text;
+
+pub use late::{Late, overdue};
+pub use text::overdue_text;

@@ -1,0 +1,173 @@
+//! A stream taken into a store.
+use crate::blocks::Blocks;
+use crate::frames::{END, FRAME, FRONT, Front, agrees, front_of, length_of};
+use crate::opening::open;
+use crate::stops::FollowStop;
+use flow_core::{AdoptFault, Core};
+use flow_disk::FileDisk;
+use flow_io::Source;
+use flow_model::Numbered;
+use flow_session::append;
+use flow_txn::{RecordFault, decode};
+use std::alloc::Global;
+use std::rt::Files;
+use txn_log::{Log, LogStop, MAX_PAYLOAD};
+
+/// What following came to: the number of the store's transactions, and how many of them were taken.
+#[derive(Clone, Copy, Debug, PartialEq, Eq)]
+pub struct Followed {
+    pub number: u64,
+    pub taken: u64,
+}
+
+/// The store that follows.
+#[derive(Drop)]
+struct Standby<'d, 'r, R: Files> {
+    alloc: Global,
+    core: Core,
+    log: Log,
+    disk: &'d mut FileDisk<'r, R>,
+    taken: u64,
+}
+
+impl<'d, 'r, R: Files> Standby<'d, 'r, R> {
+    /// Takes a transaction: it is passed over where the store has it, else adopted and then appended.
+    fn take(&mut self, numbered: Numbered, payload: &[u8]) -> Result<(), FollowStop> {
+        let Numbered {
+            number,
+            transaction,
+        } = numbered;
+        if number <= self.core.number() {
+            return Ok(());
+        }
+        match self.core.adopt(number, transaction) {
+            Ok(()) => {}
+            Err(AdoptFault::NotAllowed) => return Err(FollowStop::NotAllowed(number)),
+            Err(AdoptFault::NoMemory) => return Err(FollowStop::NoMemory),
+        }
+        match append(&mut self.log, &mut *self.disk, payload) {
+            Ok(()) => {}
+            Err(_) => return Err(FollowStop::Store(LogStop::StoreFault)),
+        }
+        self.taken = self.taken.saturating_add(1);
+        Ok(())
+    }
+
+    /// Takes the payload of the frame at a place, which has to be the record of this number.
+    fn take_payload(&mut self, place: u64, number: u64, payload: &[u8]) -> Result<(), FollowStop> {
+        match decode(self.alloc, payload) {
+            Ok(numbered) if numbered.number == number => self.take(numbered, payload),
+            Ok(_) => Err(FollowStop::Frame(place)),
+            Err(RecordFault::BadRecord) => Err(FollowStop::Frame(place)),
+            Err(RecordFault::NoMemory) => Err(FollowStop::NoMemory),
+        }
+    }
+
+    /// Judges the front of a stream.
+    fn judge_front(&self, bytes: &[u8]) -> Result<Front, FollowStop> {
+        if !agrees(bytes) {
+            return Err(FollowStop::Frame(0));
+        }
+        let Some(front) = front_of(bytes) else {
+            return Err(FollowStop::Cut(self.core.number()));
+        };
+        if front.queues != self.core.queue_count() || front.limit != self.core.limit() {
+            return Err(FollowStop::Other);
+        }
+        if front.from > self.core.number() {
+            return Err(FollowStop::Gap(self.core.number()));
+        }
+        Ok(front)
+    }
+
+    /// Takes all frames of a stream, each before the next is read.
+    fn take_frames<S: Source>(
+        &mut self,
+        src: &mut S,
+        blocks: &mut Blocks,
+        from: u64,
+    ) -> Result<(), FollowStop> {
+        let mut payload = Vec::new(self.alloc);
+        for number in from.saturating_add(1)..u64::MAX {
+            let place = blocks.place();
+            if !read_frame(src, blocks, self.core.number(), &mut payload)? {
+                return at_end(src, blocks);
+            }
+            self.take_payload(place, number, &payload)?;
+        }
+        // So many frames have more bytes than a stream may have.
+        Err(FollowStop::TooLong)
+    }
+
+    /// Takes a stream.
+    fn take_stream<S: Source>(&mut self, src: &mut S) -> Result<Followed, FollowStop> {
+        let mut blocks = Blocks::new(self.alloc)?;
+        let mut bytes = Vec::new(self.alloc);
+        let _ = blocks.read(src, FRONT, &mut bytes)?;
+        let front = self.judge_front(&bytes)?;
+        self.take_frames(src, &mut blocks, front.from)?;
+        Ok(Followed {
+            number: self.core.number(),
+            taken: self.taken,
+        })
+    }
+}
+
+/// Reads the payload of the frame that begins here; answers false at the end byte instead. `Cut` has this number.
+fn read_frame<S: Source>(
+    src: &mut S,
+    blocks: &mut Blocks,
+    number: u64,
+    payload: &mut Vec<u8>,
+) -> Result<bool, FollowStop> {
+    let place = blocks.place();
+    let _ = blocks.read(src, 1, payload)?;
+    match payload.first() {
+        None => return Err(FollowStop::Cut(number)),
+        Some(&END) => return Ok(false),
+        Some(&FRAME) => {}
+        Some(_) => return Err(FollowStop::Frame(place)),
+    }
+    let _ = blocks.read(src, 4, payload)?;
+    let Some(len) = length_of(payload) else {
+        return Err(FollowStop::Cut(number));
+    };
+    let len = len as usize;
+    if len < 1 || len > MAX_PAYLOAD {
+        return Err(FollowStop::Frame(place));
+    }
+    if !blocks.read(src, len, payload)? {
+        return Err(FollowStop::Cut(number));
+    }
+    Ok(true)
+}
+
+/// Behind the end byte there is nothing.
+fn at_end<S: Source>(src: &mut S, blocks: &mut Blocks) -> Result<(), FollowStop> {
+    if blocks.has_more(src)? {
+        return Err(FollowStop::Frame(blocks.place()));
+    }
+    Ok(())
+}
+
+/// Takes a stream into a store.
+///
+/// The store is opened first. A refusal comes at the first place of the stream where one holds, and what was
+/// taken before it stays. In the front of the stream they are judged in the order `Frame`, `Cut`, `Other`,
+/// `Gap`; of a frame its first byte and its length are judged before `Cut`, and its payload where it is whole.
+/// `Store` with `StoreFault` comes where the disk failed, `ReadFault` where the source did.
+pub fn follow<S: Source, R: Files>(
+    alloc: Global,
+    src: &mut S,
+    disk: &mut FileDisk<'_, R>,
+) -> Result<Followed, FollowStop> {
+    let (core, opened) = open(alloc, disk)?;
+    let mut standby = Standby {
+        alloc,
+        core,
+        log: opened.log,
+        disk,
+        taken: 0,
+    };
+    standby.take_stream(src)
+}

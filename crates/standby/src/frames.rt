@@ -1,0 +1,84 @@
+//! The front and the frames of a stream as bytes.
+ghost use Rattle.std.specs.Prelude.{◌≡◌, length};
+
+use std::alloc::AllocError;
+
+/// The bytes with which each stream begins.
+pub const MAGIC: &[u8] = b"FLOWSHP1";
+
+/// The number of the bytes before the first frame.
+pub const FRONT: usize = 25;
+
+/// The byte that begins a frame.
+pub const FRAME: u8 = 1;
+
+/// The byte that ends a stream.
+pub const END: u8 = 0;
+
+/// What stands at the front of a stream: the queues and the limit of its store, and the number from which it
+/// was shipped.
+#[derive(Clone, Copy, Debug, PartialEq, Eq)]
+pub struct Front {
+    pub queues: u8,
+    pub limit: u64,
+    pub from: u64,
+}
+
+/// The number that eight bytes write.
+fn number_of(bytes: &[u8]) -> u64
+    requires { length bytes.now ≡ 8 }
+{
+    u64::from_be_bytes([
+        bytes[0], bytes[1], bytes[2], bytes[3], bytes[4], bytes[5], bytes[6], bytes[7],
+    ])
+}
+
+/// The number that four bytes write; None where there are fewer or more.
+pub fn length_of(bytes: &[u8]) -> Option<u32> {
+    match bytes {
+        [a, b, c, d] => Some(u32::from_be_bytes([*a, *b, *c, *d])),
+        _ => None,
+    }
+}
+
+/// Whether bytes begin as the magic does, or are the front of it.
+pub fn agrees(bytes: &[u8]) -> bool {
+    bytes
+        .iter()
+        .zip(MAGIC.iter())
+        .all(|(have, want)| have == want)
+}
+
+/// What the front of a stream says behind its magic; None where it isn't whole.
+pub fn front_of(bytes: &[u8]) -> Option<Front> {
+    if bytes.len() != FRONT {
+        return None;
+    }
+    Some(Front {
+        queues: bytes[8],
+        limit: number_of(&bytes[9..17]),
+        from: number_of(&bytes[17..25]),
+    })
+}
+
+/// Appends the front of a stream.
+pub fn write_front(out: &mut Vec<u8>, front: Front) -> Result<(), AllocError> {
+    out.extend_from_slice(MAGIC)?;
+    out.push(front.queues)?;
+    out.extend_from_slice(&front.limit.to_be_bytes())?;
+    out.extend_from_slice(&front.from.to_be_bytes())
+}
+
+/// Appends the frame of a payload.
+pub fn write_frame(out: &mut Vec<u8>, payload: &[u8]) -> Result<(), AllocError> {
+    let len = u32::try_from(payload.len()).unwrap_or(u32::MAX);
+    out.push(FRAME)?;
+    out.extend_from_slice(&len.to_be_bytes())?;
+    out.extend_from_slice(payload)
+}
+
+/// Appends the byte that ends a stream.
+pub fn write_end(out: &mut Vec<u8>) -> Result<(), AllocError> {
+    out.push(END)?;
+    Ok(())
+}

@@ -1,0 +1,74 @@
+//! The transactions of a store as a stream.
+use crate::frames::{Front, write_end, write_frame, write_front};
+use crate::opening::open;
+use crate::stops::ShipStop;
+use flow_disk::FileDisk;
+use flow_io::{Sink, put_all};
+use std::alloc::Global;
+use std::rt::Files;
+use txn_log::Record;
+
+/// So many bytes are put at once, and at most one frame more.
+const BLOCK: usize = 65536;
+
+/// Puts a piece.
+fn put<K: Sink>(out: &mut K, piece: &[u8]) -> Result<(), ShipStop> {
+    match put_all(out, piece) {
+        Ok(()) => Ok(()),
+        Err(_) => Err(ShipStop::WriteFault),
+    }
+}
+
+/// Puts a stream of these records.
+fn put_stream<K: Sink>(
+    alloc: Global,
+    out: &mut K,
+    front: Front,
+    records: &[Record],
+) -> Result<(), ShipStop> {
+    let mut piece = Vec::new(alloc);
+    write_front(&mut piece, front)?;
+    for record in records {
+        write_frame(&mut piece, record.payload.as_slice())?;
+        if piece.len() >= BLOCK {
+            put(out, &piece)?;
+            piece.clear();
+        }
+    }
+    write_end(&mut piece)?;
+    put(out, &piece)
+}
+
+/// The last records, so many of them; all where there are fewer.
+fn last_of(records: &[Record], count: u64) -> &[Record] {
+    let count = usize::try_from(count).unwrap_or(usize::MAX);
+    &records[records.len().saturating_sub(count)..]
+}
+
+/// Puts the transactions of a store above a number as a stream, and answers how many they are.
+///
+/// `Store` comes where the store isn't opened, `Gone` where the number is below that of the transactions
+/// before the first record that the store keeps whole, and `Ahead` where it is above that of the
+/// transactions; then nothing is put. `WriteFault` and `NoMemory` leave a front part of the stream put.
+pub fn ship<K: Sink, R: Files>(
+    alloc: Global,
+    disk: &mut FileDisk<'_, R>,
+    from: u64,
+    out: &mut K,
+) -> Result<u64, ShipStop> {
+    let (core, opened) = open(alloc, disk)?;
+    if from < opened.header.transactions {
+        return Err(ShipStop::Gone(opened.header.transactions));
+    }
+    let Some(count) = core.number().checked_sub(from) else {
+        return Err(ShipStop::Ahead(core.number()));
+    };
+    let front = Front {
+        queues: opened.header.queues,
+        limit: opened.header.limit,
+        from,
+    };
+    // Behind the transactions of the header each record is the next transaction.
+    put_stream(alloc, out, front, last_of(opened.records.as_slice(), count))?;
+    Ok(count)
+}
