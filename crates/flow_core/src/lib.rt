@@ -13,6 +13,7 @@ mod judging;
 mod paths;
 mod refusals;
 mod state;
+mod views;
 
 pub use adopting::AdoptFault;
 pub use answering::write_applied;
@@ -20,3 +21,4 @@ pub use applying::{Applied, Note};
 pub use judging::Verdict;
 pub use refusals::{Refusal, write_refusal};
 pub use state::Core;
+pub use views::RootFacts;
