@@ -12,7 +12,7 @@ pub struct Placed<'a> {
 }
 
 /// The activity of this name.
-pub fn placed<'a>(graph: &'a Graph, name: &Name) -> Option<Placed<'a>> {
+pub fn activity_at<'a>(graph: &'a Graph, name: &Name) -> Option<Placed<'a>> {
     let place = place_of(graph, name)?;
     Some(Placed {
         place: u32::try_from(place).ok()?,
