@@ -1,5 +1,7 @@
 //! Checking a certificate line by line: each from the lines before it, the template and the completions.
-ghost use Rattle.std.specs.Prelude.{◌≡◌};
+ghost use Rattle.std.specs.Prelude.{◌≡◌, ◌≤◌, length, IfOk, IfErr, IfSome, OnOk, IsTrue};
+ghost use Rattle.std.specs.List.{All};
+ghost use Rattle.explain.specs.Certificates.{Keeps, StopsAt, IsCounted};
 ghost use Rattle.explain.specs.declared.accepting.AcceptFault.TheVariants.{NoMemory};
 
 use crate::graphs::{Placed, activity_at, path_below, split_path};
@@ -357,7 +359,9 @@ impl<'a> Checker<'a> {
         scope: &Path,
         activity: &Activity,
         attempts: u64,
-    ) -> Result<Option<Container>, AllocError> {
+    ) -> Result<Option<Container>, AllocError>
+        ensures { IfOk result (λ found. IfSome found (λ _. 1 ≤ attempts)) }
+    {
         let row = self.completions_of(scope, &activity.name)?;
         if row.len() as u64 != attempts {
             return Ok(None);
@@ -383,7 +387,9 @@ impl<'a> Checker<'a> {
         scope: &Path,
         activity: &Activity,
         attempts: u64,
-    ) -> Result<Option<Container>, AllocError> {
+    ) -> Result<Option<Container>, AllocError>
+        ensures { IfOk result (λ found. IfSome found (λ _. 1 ≤ attempts)) }
+    {
         for attempt in 1..=attempts {
             let inner = path_below(self.alloc, scope, &activity.name, attempt)?;
             let Some(begun) = self.begun(&inner)? else {
@@ -404,7 +410,9 @@ impl<'a> Checker<'a> {
     }
 
     /// Whether the line that an activity is finished with this attempt is justified.
-    fn finished(&mut self, scope: &Path, name: &Name, attempts: u64) -> Result<bool, AllocError> {
+    fn finished(&mut self, scope: &Path, name: &Name, attempts: u64) -> Result<bool, AllocError>
+        ensures { IfOk result (λ yes. IsTrue yes → 1 ≤ attempts) }
+    {
         let Some(found) = self.joined(scope, name, true)? else {
             return Ok(false);
         };
@@ -434,7 +442,9 @@ impl<'a> Checker<'a> {
     }
 
     /// Whether the line that a scope has ended is justified.
-    fn ended(&mut self, scope: &Path) -> Result<bool, AllocError> {
+    fn ended(&mut self, scope: &Path) -> Result<bool, AllocError>
+        ensures { IfOk result (λ yes. IsTrue yes → 1 ≤ length scope.now.parts) }
+    {
         if scope.parts.is_empty() {
             return Ok(false);
         }
@@ -449,10 +459,9 @@ impl<'a> Checker<'a> {
     }
 
     /// Whether a line is justified by those before it; then what it says counts for those behind it.
-    fn justify(&mut self, line: &CertLine) -> Result<bool, AllocError> {
-        if line.scope().root != self.facts.root {
-            return Ok(false);
-        }
+    fn justify(&mut self, line: &CertLine) -> Result<bool, AllocError>
+        ensures { IfOk result (λ yes. IsTrue yes → IsCounted line.now) }
+    {
         match line {
             CertLine::Scope(scope) => self.scope(scope),
             CertLine::Dead(scope, name) => self.dead(scope, name),
@@ -471,10 +480,13 @@ pub fn accept(
     library: &Library,
     facts: &RootFacts,
     lines: &[CertLine],
-) -> Result<(), AcceptFault> {
+) -> Result<(), AcceptFault>
+    ensures kept { OnOk result (All (Keeps facts.now.root) lines.now) }
+    ensures fault { IfErr result (StopsAt facts.now.root lines.now) }
+{
     let mut checker = Checker::new(alloc, library, facts)?;
     for (number, line) in lines.iter().enumerate() {
-        if !checker.justify(line)? {
+        if line.scope().root != facts.root || !checker.justify(line)? {
             return Err(AcceptFault::Line(number as u64));
         }
     }

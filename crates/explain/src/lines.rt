@@ -1,5 +1,6 @@
 //! The lines of a certificate, and how they are written.
 ghost use Rattle.std.specs.Prelude.{◌≡◌, ◌∷◌, [], ◌++◌, OnOk, IfOk};
+ghost use Rattle.explain.specs.Certificates.{line_scope};
 ghost use Rattle.explain.specs.Lines.{line_text, scope_in_quotes, activity_in_quotes};
 
 use flow_model::{Name, Path, write_path};
@@ -78,7 +79,9 @@ pub fn line_bytes(alloc: Global, line: &CertLine) -> Result<Vec<u8>, AllocError>
 
 impl CertLine {
     /// The scope of which the line tells.
-    pub fn scope(&self) -> &Path {
+    pub fn scope(&self) -> &Path
+        ensures { result.now ≡ line_scope self.now }
+    {
         match self {
             CertLine::Scope(scope) => scope,
             CertLine::Dead(scope, _) => scope,

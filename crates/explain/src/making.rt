@@ -1,5 +1,6 @@
 //! Certificates from what the engine shows.
-ghost use Rattle.std.specs.Prelude.{◌≡◌};
+ghost use Rattle.std.specs.Prelude.{◌≡◌, ◌-◌, length, slice_get, Some, IfOk, IfErr, IfSome, MatchOption};
+ghost use Rattle.explain.specs.Certificates.{Settles, IsUnsettled, HasNone};
 ghost use Rattle.explain.specs.declared.making.ExplainFault.TheVariants.{NoMemory};
 
 use crate::graphs::{activity_at, all_sources, control_sources, graph_at, path_below, split_path};
@@ -61,21 +62,35 @@ fn by_text(alloc: Global, rows: &[FateRow]) -> Result<IndexMap<Vec<u8>, Fate>, A
     Ok(fates)
 }
 
+/// The settled line of an activity of this fate; None where it is neither dead nor finished.
+fn settled_line(
+    alloc: Global,
+    scope: &Path,
+    name: &Name,
+    fate: Fate,
+) -> Result<Option<CertLine>, AllocError>
+    ensures { IfOk result (λ found. MatchOption found (IsUnsettled fate) (Settles scope.now name.now)) }
+{
+    match fate {
+        Fate::Waiting => Ok(None),
+        Fate::Ready(_) => Ok(None),
+        Fate::Running(_) => Ok(None),
+        Fate::Finished(attempt) => Ok(Some(CertLine::Finished(
+            scope.copy(alloc)?,
+            name.copy(alloc)?,
+            attempt,
+        ))),
+        Fate::Dead => Ok(Some(CertLine::Dead(scope.copy(alloc)?, name.copy(alloc)?))),
+    }
+}
+
 impl<'a> Shown<'a> {
     /// The settled line of an activity, if it is settled.
     fn settled(&self, scope: &Path, name: &Name) -> Result<Option<CertLine>, AllocError> {
         let text = activity_text(self.alloc, scope, name)?;
-        let Some(fate) = self.fates.get(text.as_slice()) else {
-            return Ok(None);
-        };
-        match fate {
-            Fate::Dead => Ok(Some(CertLine::Dead(scope.copy(self.alloc)?, name.copy(self.alloc)?))),
-            Fate::Finished(attempt) => Ok(Some(CertLine::Finished(
-                scope.copy(self.alloc)?,
-                name.copy(self.alloc)?,
-                *attempt,
-            ))),
-            _ => Ok(None),
+        match self.fates.get(text.as_slice()) {
+            None => Ok(None),
+            Some(fate) => settled_line(self.alloc, scope, name, *fate),
         }
     }
 
@@ -204,19 +219,25 @@ impl Listing {
         self.lines.push(line)
     }
 
-    /// Puts a line behind its needs, unless it is listed.
-    fn visit(&mut self, shown: &Shown<'_>, line: CertLine) -> Result<(), AllocError> {
-        let text = line_bytes(shown.alloc, &line)?;
-        if self.listed.contains_key(text.as_slice()) {
-            return Ok(());
-        }
-        let mut needs = shown.needs(&line)?;
-        self.tasks.push(Task::List(line))?;
+    /// Plans to visit the needs of a line, the first of them next.
+    fn plan(&mut self, needs: Vec<CertLine>) -> Result<(), AllocError> {
+        let mut needs = needs;
         needs.reverse();
         for need in needs {
             self.tasks.push(Task::Visit(need))?;
         }
         Ok(())
+    }
+
+    /// Plans to list a line behind its needs, unless it is listed.
+    fn visit(&mut self, shown: &Shown<'_>, line: CertLine) -> Result<(), AllocError> {
+        let text = line_bytes(shown.alloc, &line)?;
+        if self.listed.contains_key(text.as_slice()) {
+            return Ok(());
+        }
+        let needs = shown.needs(&line)?;
+        self.tasks.push(Task::List(line))?;
+        self.plan(needs)
     }
 
     /// Does what is to be done until nothing is left.
@@ -233,19 +254,23 @@ impl Listing {
 }
 
 /// A line behind its needs, each behind its own.
-fn certificate(shown: &Shown<'_>, line: CertLine) -> Result<List<CertLine>, AllocError> {
+fn certificate(shown: &Shown<'_>, line: CertLine) -> Result<List<CertLine>, AllocError>
+    ensures { IfOk result (λ lines. slice_get lines (length lines - 1) ≡ Some line) }
+{
     let mut listing = Listing {
         lines: List::new(shown.alloc),
         listed: IndexMap::new(shown.alloc),
         tasks: Vec::new(shown.alloc),
     };
-    listing.tasks.push(Task::Visit(line))?;
+    listing.plan(shown.needs(&line)?)?;
     listing.run(shown)?;
     let Listing {
         lines,
         listed: _,
         tasks: _,
     } = listing;
+    let mut lines = lines;
+    lines.push(line)?;
     Ok(lines)
 }
 
@@ -264,7 +289,10 @@ pub fn explain(
     core: &Core,
     scope: &Path,
     activity: &Name,
-) -> Result<List<CertLine>, ExplainFault> {
+) -> Result<List<CertLine>, ExplainFault>
+    ensures certificate { IfOk result (λ lines. IfSome (slice_get lines (length lines - 1)) (Settles scope.now activity.now)) }
+    ensures fault { IfErr result (HasNone scope.now) }
+{
     let Some(template) = core.root_template(scope.root) else {
         return Err(ExplainFault::Root(scope.root));
     };
@@ -284,7 +312,7 @@ pub fn explain(
     let Some(fate) = shown.fates.get(text.as_slice()).copied() else {
         return Err(ExplainFault::Activity);
     };
-    match shown.settled(scope, activity)? {
+    match settled_line(alloc, scope, activity, fate)? {
         None => Err(ExplainFault::Unsettled(fate)),
         Some(line) => Ok(certificate(&shown, line)?),
     }

@@ -1,4 +1,7 @@
 //! The texts of the words `explain` and `verify`, with whether each is a refusal.
+ghost use Rattle.std.specs.Prelude.{◌≡◌, ◌≤◌, ◌∷◌, [], ◌++◌, length, IfOk, vec_len, decimal as digits_of};
+ghost use Rattle.explain.specs.Certificates.{certificate_printed, IsVerdict, IsSomeVerdict};
+
 use crate::accepting::{AcceptFault, accept};
 use crate::lines::{CertLine, write_line};
 use crate::making::{ExplainFault, explain};
@@ -9,7 +12,9 @@ use reply_text::write_fate;
 use std::alloc::{AllocError, Global};
 
 /// A text that begins with these words and a number, as a line.
-fn numbered(alloc: Global, words: &[u8], number: u64) -> Result<Vec<u8>, AllocError> {
+fn numbered(alloc: Global, words: &[u8], number: u64) -> Result<Vec<u8>, AllocError>
+    ensures { IfOk result (λ text. text.items ≡ words.now ++ digits_of number ++ 10 ∷ []) }
+{
     let mut out = Vec::from_slice(alloc, words)?;
     decimal(&mut out, number)?;
     out.push(b'\n')?;
@@ -17,7 +22,9 @@ fn numbered(alloc: Global, words: &[u8], number: u64) -> Result<Vec<u8>, AllocEr
 }
 
 /// The text of a certificate.
-fn certificate_text(alloc: Global, lines: &[CertLine]) -> Result<Vec<u8>, AllocError> {
+fn certificate_text(alloc: Global, lines: &[CertLine]) -> Result<Vec<u8>, AllocError>
+    ensures { IfOk result (λ text. text.items ≡ certificate_printed lines.now) }
+{
     let mut out = numbered(alloc, b"ok EXPLAIN ", lines.len() as u64)?;
     for line in lines {
         write_line(&mut out, line)?;
@@ -58,7 +65,9 @@ pub fn explain_word(
 }
 
 /// The lines up to the first that isn't a line of a certificate or is too long.
-fn read_lines(alloc: Global, lines: &[(Vec<u8>, bool)]) -> Result<Vec<CertLine>, AllocError> {
+fn read_lines(alloc: Global, lines: &[(Vec<u8>, bool)]) -> Result<Vec<CertLine>, AllocError>
+    ensures { IfOk result (λ read. vec_len read ≤ length lines.now) }
+{
     let mut read = Vec::new(alloc);
     for (bytes, too_long) in lines {
         if *too_long {
@@ -78,11 +87,25 @@ fn justified(
     core: &Core,
     facts: &RootFacts,
     lines: &[CertLine],
-) -> Result<u64, AllocError> {
+) -> Result<u64, AllocError>
+    ensures { IfOk result (λ count. count ≤ length lines.now) }
+{
     match accept(alloc, core.library(), facts, lines) {
         Ok(()) => Ok(lines.len() as u64),
         Err(AcceptFault::Line(number)) => Ok(number),
         Err(AcceptFault::NoMemory) => Err(AllocError),
+    }
+}
+
+/// What `verify` prints where so many of the lines, from the first on, are justified.
+fn verdict(alloc: Global, good: u64, total: u64) -> Result<(Vec<u8>, bool), AllocError>
+    requires { good ≤ total }
+    ensures { IfOk result (λ answer. IsVerdict good total answer.0.items answer.1) }
+{
+    if good == total {
+        Ok((numbered(alloc, b"ok VERIFY ", good)?, false))
+    } else {
+        Ok((numbered(alloc, b"no STEP ", good + 1)?, true))
     }
 }
 
@@ -93,7 +116,9 @@ pub fn verify_lines(
     alloc: Global,
     core: &Core,
     lines: &[(Vec<u8>, bool)],
-) -> Result<(Vec<u8>, bool), AllocError> {
+) -> Result<(Vec<u8>, bool), AllocError>
+    ensures { IfOk result (λ answer. IsSomeVerdict (length lines.now) answer.0.items answer.1) }
+{
     let read = read_lines(alloc, lines)?;
     let good = match read.first() {
         None => 0,
@@ -102,9 +127,5 @@ pub fn verify_lines(
             Some(facts) => justified(alloc, core, &facts, &read)?,
         },
     };
-    if good == lines.len() as u64 {
-        Ok((numbered(alloc, b"ok VERIFY ", good)?, false))
-    } else {
-        Ok((numbered(alloc, b"no STEP ", good.saturating_add(1))?, true))
-    }
+    verdict(alloc, good, lines.len() as u64)
 }
