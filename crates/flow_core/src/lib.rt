@@ -14,6 +14,7 @@ mod open_items;
 mod paths;
 mod refusals;
 mod state;
+mod views;
 
 pub use adopting::AdoptFault;
 pub use answering::write_applied;
@@ -22,3 +23,4 @@ pub use judging::Verdict;
 pub use open_items::OpenItem;
 pub use refusals::{Refusal, write_refusal};
 pub use state::Core;
+pub use views::RootFacts;

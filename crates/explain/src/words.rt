@@ -1,0 +1,131 @@
+//! The texts of the words `explain` and `verify`, with whether each is a refusal.
+ghost use Rattle.std.specs.Prelude.{◌≡◌, ◌≤◌, ◌∷◌, [], ◌++◌, length, IfOk, vec_len, decimal as digits_of};
+ghost use Rattle.explain.specs.Certificates.{certificate_printed, IsVerdict, IsSomeVerdict};
+
+use crate::accepting::{AcceptFault, accept};
+use crate::lines::{CertLine, write_line};
+use crate::making::{ExplainFault, explain};
+use crate::reading::{activity_in, read_line};
+use flow_core::{Core, RootFacts};
+use flow_text::decimal;
+use reply_text::write_fate;
+use std::alloc::{AllocError, Global};
+
+/// A text that begins with these words and a number, as a line.
+fn numbered(alloc: Global, words: &[u8], number: u64) -> Result<Vec<u8>, AllocError>
+    ensures { IfOk result (λ text. text.items ≡ words.now ++ digits_of number ++ 10 ∷ []) }
+{
+    let mut out = Vec::from_slice(alloc, words)?;
+    decimal(&mut out, number)?;
+    out.push(b'\n')?;
+    Ok(out)
+}
+
+/// The text of a certificate.
+fn certificate_text(alloc: Global, lines: &[CertLine]) -> Result<Vec<u8>, AllocError>
+    ensures { IfOk result (λ text. text.items ≡ certificate_printed lines.now) }
+{
+    let mut out = numbered(alloc, b"ok EXPLAIN ", lines.len() as u64)?;
+    for line in lines {
+        write_line(&mut out, line)?;
+        out.push(b'\n')?;
+    }
+    Ok(out)
+}
+
+/// What is printed where there is no certificate.
+fn fault_text(alloc: Global, fault: ExplainFault) -> Result<Vec<u8>, AllocError> {
+    match fault {
+        ExplainFault::Root(root) => numbered(alloc, b"no ROOT ", root),
+        ExplainFault::Activity => Vec::from_slice(alloc, b"no ACTIVITY\n"),
+        ExplainFault::Unsettled(fate) => {
+            let mut out = Vec::from_slice(alloc, b"no UNSETTLED ")?;
+            write_fate(&mut out, fate)?;
+            out.push(b'\n')?;
+            Ok(out)
+        }
+        ExplainFault::NoMemory => Err(AllocError),
+    }
+}
+
+/// What `explain` prints over a word that is a path, `/` and an activity's name, and whether it is a
+/// refusal; None where the word isn't of that form.
+pub fn explain_word(
+    alloc: Global,
+    core: &Core,
+    path_word: &[u8],
+) -> Result<Option<(Vec<u8>, bool)>, AllocError> {
+    let Some((scope, name)) = activity_in(alloc, path_word)? else {
+        return Ok(None);
+    };
+    Ok(Some(match explain(alloc, core, &scope, &name) {
+        Ok(lines) => (certificate_text(alloc, lines.as_slice())?, false),
+        Err(fault) => (fault_text(alloc, fault)?, true),
+    }))
+}
+
+/// The lines up to the first that isn't a line of a certificate or is too long.
+fn read_lines(alloc: Global, lines: &[(Vec<u8>, bool)]) -> Result<Vec<CertLine>, AllocError>
+    ensures { IfOk result (λ read. vec_len read ≤ length lines.now) }
+{
+    let mut read = Vec::new(alloc);
+    for (bytes, too_long) in lines {
+        if *too_long {
+            return Ok(read);
+        }
+        match read_line(alloc, bytes)? {
+            None => return Ok(read),
+            Some(line) => read.push(line)?,
+        }
+    }
+    Ok(read)
+}
+
+/// How many of the lines, from the first on, are justified.
+fn justified(
+    alloc: Global,
+    core: &Core,
+    facts: &RootFacts,
+    lines: &[CertLine],
+) -> Result<u64, AllocError>
+    ensures { IfOk result (λ count. count ≤ length lines.now) }
+{
+    match accept(alloc, core.library(), facts, lines) {
+        Ok(()) => Ok(lines.len() as u64),
+        Err(AcceptFault::Line(number)) => Ok(number),
+        Err(AcceptFault::NoMemory) => Err(AllocError),
+    }
+}
+
+/// What `verify` prints where so many of the lines, from the first on, are justified.
+fn verdict(alloc: Global, good: u64, total: u64) -> Result<(Vec<u8>, bool), AllocError>
+    requires { good ≤ total }
+    ensures { IfOk result (λ answer. IsVerdict good total answer.0.items answer.1) }
+{
+    if good == total {
+        Ok((numbered(alloc, b"ok VERIFY ", good)?, false))
+    } else {
+        Ok((numbered(alloc, b"no STEP ", good + 1)?, true))
+    }
+}
+
+/// What `verify` prints over these lines, each with whether it is too long, and whether it is a refusal:
+/// `STEP` with the number, from 1, of the first line that isn't one of a certificate, is too long, or isn't
+/// justified over the root of line 1.
+pub fn verify_lines(
+    alloc: Global,
+    core: &Core,
+    lines: &[(Vec<u8>, bool)],
+) -> Result<(Vec<u8>, bool), AllocError>
+    ensures { IfOk result (λ answer. IsSomeVerdict (length lines.now) answer.0.items answer.1) }
+{
+    let read = read_lines(alloc, lines)?;
+    let good = match read.first() {
+        None => 0,
+        Some(first) => match core.root_facts(alloc, first.scope().root)? {
+            None => 0,
+            Some(facts) => justified(alloc, core, &facts, &read)?,
+        },
+    };
+    verdict(alloc, good, lines.len() as u64)
+}
