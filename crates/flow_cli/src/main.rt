@@ -37,9 +37,9 @@ fn main(rt: HostRuntime) -> ExitCode {
     let Ok((a, b)) = paths_of(&rt, &words) else {
         return ExitCode::from(Status::NoMemory.number());
     };
-    let mut disk = FileDisk::new(&rt, a, b);
+    let disk = FileDisk::new(&rt, a, b);
     let mut source = StdSource::new(&rt);
     let mut sink = StdSink::new(&rt);
-    let status = run(rt.alloc(), &words, &mut source, &mut sink, &mut disk);
+    let status = run(rt.alloc(), &words, &mut source, &mut sink, disk);
     ExitCode::from(status.number())
 }

@@ -23,10 +23,10 @@ const LAST_GENERATION: u64 = 1 << 62;
 
 /// The journal of a store in two files.
 #[derive(Drop)]
-pub struct Stored<'d, 'r, R: Files> {
+pub struct Stored<'r, R: Files> {
     alloc: Global,
     log: Log,
-    disk: &'d mut FileDisk<'r, R>,
+    disk: FileDisk<'r, R>,
 }
 
 /// Whether a payload may be appended; every record of the engine may.
@@ -78,9 +78,9 @@ fn next_header(log: &Log, core: &Core) -> Option<Header>
     })
 }
 
-impl<'d, 'r, R: Files> Stored<'d, 'r, R> {
-    /// The journal of an opened log.
-    pub fn new(alloc: Global, log: Log, disk: &'d mut FileDisk<'r, R>) -> Stored<'d, 'r, R> {
+impl<'r, R: Files> Stored<'r, R> {
+    /// The journal of an opened log, which keeps its disk from now on.
+    pub fn new(alloc: Global, log: Log, disk: FileDisk<'r, R>) -> Stored<'r, R> {
         Stored { alloc, log, disk }
     }
 }
@@ -116,10 +116,10 @@ fn move_log<R: Files>(
     }
 }
 
-impl<'d, 'r, R: Files> Journal for Stored<'d, 'r, R> {
+impl<'r, R: Files> Journal for Stored<'r, R> {
     fn keep(&mut self, number: u64, t: &Transaction) -> Result<(), Stop> {
         let payload = encode(self.alloc, number, t)?;
-        append(&mut self.log, &mut *self.disk, &payload)
+        append(&mut self.log, &mut self.disk, &payload)
     }
 
     fn checkpoint(&mut self, core: &Core) -> Result<(), Stop> {
@@ -129,7 +129,7 @@ impl<'d, 'r, R: Files> Journal for Stored<'d, 'r, R> {
         let Some(kept) = payloads(self.alloc, core.live())? else {
             return Ok(());
         };
-        move_log(&mut self.log, &mut *self.disk, &header, &kept)
+        move_log(&mut self.log, &mut self.disk, &header, &kept)
     }
 }
 

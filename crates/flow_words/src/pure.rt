@@ -72,6 +72,7 @@ fn end_with<K: Sink>(out: &mut K, answer: Result<Answer, AllocError>) -> Status
 }
 
 /// Reads an input, and prints the answer to it.
+#[tactic(auto, using(crate::proofs::EndingLemmas::run_stops, crate::proofs::EndingLemmas::run_prints))]
 fn answer_input<S: Source, K: Sink>(
     alloc: Global,
     is_fate: bool,
@@ -117,6 +118,7 @@ fn print_load<K: Sink>(alloc: Global, seed: u64, roots: u64, out: &mut K) -> Sta
     }
 }
 
+#[tactic(auto, using(crate::proofs::EndingLemmas::run_prints))]
 fn obey<S: Source, K: Sink>(alloc: Global, word: Word, src: &mut S, out: &mut K) -> Status
     ensures { RunCause (S.faults src.old) (S.faults src.new) (K.faults out.old) (K.faults out.new) result }
 {
@@ -128,17 +130,11 @@ fn obey<S: Source, K: Sink>(alloc: Global, word: Word, src: &mut S, out: &mut K)
     }
 }
 
-fn print_usage<K: Sink>(out: &mut K) -> Status {
-    match print(out, b"no USAGE\n") {
-        Ok(()) => Status::Usage,
-        Err(status) => status,
-    }
-}
-
 /// Does what the words say, over a source and a sink alone.
 ///
 /// `ReadFault` comes only where the source's count of faults rose, and `WriteFault` only where the
 /// sink's did; `Store` never.
+#[tactic(auto, using(crate::proofs::EndingLemmas::ends_run, crate::proofs::EndingLemmas::ends_print))]
 pub fn run_pure<S: Source, K: Sink>(
     alloc: Global,
     words: &[String],
@@ -148,7 +144,10 @@ pub fn run_pure<S: Source, K: Sink>(
     ensures { EndCause (S.faults src.old) (S.faults src.new) (K.faults out.old) (K.faults out.new) result }
 {
     match word_of(words) {
-        None => print_usage(out),
+        None => match print(out, b"no USAGE\n") {
+            Ok(()) => Status::Usage,
+            Err(status) => status,
+        },
         Some(word) => obey(alloc, word, src, out),
     }
 }

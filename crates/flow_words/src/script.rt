@@ -61,6 +61,7 @@ fn serve_one<J: Journal, K: Sink>(
 }
 
 /// Serves a script to its end.
+#[tactic(auto, using(crate::proofs::EndingLemmas::run_stops, crate::proofs::EndingLemmas::run_prints))]
 pub fn serve_all<S: Source, K: Sink, J: Journal>(
     alloc: Global,
     session: &mut Session,

@@ -95,13 +95,14 @@ fn make<K: Sink, R: Files>(
 }
 
 /// Opens a store and serves a script over it.
-fn run_script<S: Source, K: Sink, R: Files>(
+fn run_script<'r, S: Source, K: Sink, R: Files>(
     alloc: Global,
     src: &mut S,
     out: &mut K,
-    disk: &mut FileDisk<'_, R>,
+    disk: FileDisk<'r, R>,
 ) -> Result<Status, Status> {
-    match reopen(alloc, disk) {
+    let mut disk = disk;
+    match reopen(alloc, &mut disk) {
         Err(stop) => refuse(alloc, out, &stop),
         Ok((session, log)) => {
             let mut session = session;
@@ -113,16 +114,17 @@ fn run_script<S: Source, K: Sink, R: Files>(
 }
 
 /// Does what the words say: all that the program does.
-pub fn run<S: Source, K: Sink, R: Files>(
+pub fn run<'r, S: Source, K: Sink, R: Files>(
     alloc: Global,
     words: &[String],
     src: &mut S,
     out: &mut K,
-    disk: &mut FileDisk<'_, R>,
+    disk: FileDisk<'r, R>,
 ) -> Status {
+    let mut disk = disk;
     let done = match word_of(words) {
         None => return run_pure(alloc, words, src, out),
-        Some(Word::New(settings)) => make(alloc, settings, out, disk),
+        Some(Word::New(settings)) => make(alloc, settings, out, &mut disk),
         Some(Word::Run) => run_script(alloc, src, out, disk),
     };
     match done {

@@ -1,0 +1,4 @@
+use Rattle.flow_words.proofs.script.serve_one.Goals as goal
+
+pub returns-in-Err : goal.returns-in-Err
+returns-in-Err g c = c.stop_status.ensures (g.K.Sink.faults c.args.out.now) (g.K.Sink.faults c.args.out.now)
