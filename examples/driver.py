@@ -17,9 +17,11 @@ import subprocess
 import sys
 import tempfile
 import threading
+import time
 
 HERE = os.path.dirname(os.path.abspath(__file__))
 PEOPLE = ("ann", "olga", "max")
+QUERIES = ("SHOW", "OUTPUT", "INPUT", "WORKLIST", "QUEUE", "AUDIT", "TEMPLATES")
 AGENTS = ("Rate#1/Fetch File", "Rate#1/Score", "Reject", "Pay Out", "Archive")
 
 
@@ -30,9 +32,12 @@ class Gone(Exception):
 class Flow:
     """A `flow run A B` that is asked line by line."""
 
-    def __init__(self, program, folder):
+    def __init__(self, program, folder, doom=None):
+        """A doom is the number of changes to ask for, and the part of a change's time after which to kill at the last."""
         self.process = subprocess.Popen([program, "run", "A", "B"], cwd=folder, stdin=subprocess.PIPE,
                                         stdout=subprocess.PIPE, bufsize=0)
+        self.doom = doom
+        self.timer = None
         self.replies = os.fdopen(os.dup(self.process.stdout.fileno()), "rb")
 
     def line(self):
@@ -43,16 +48,36 @@ class Flow:
 
     def ask(self, command):
         """The lines of the reply to a command."""
+        is_inside = command == "IMPORT" or self.in_import(command)
+        is_change = not is_inside and command.split()[0] not in QUERIES
+        if is_change:
+            self.count_down()
+        begin = time.perf_counter()
         try:
             self.process.stdin.write((command + "\n").encode())
         except BrokenPipeError:
             raise Gone() from None
-        if command == "IMPORT" or self.in_import(command):
+        if is_inside:
             return []
         first = self.line()
+        if is_change and first.startswith("ok"):
+            Flow.pace = time.perf_counter() - begin
         return [first] + [self.line() for _ in range(lines_behind(first))]
 
     importing = False
+    # How long the last change took.
+    pace = 0.01
+
+    def count_down(self):
+        """At the last change, sets the moment of the kill."""
+        if self.doom is None:
+            return
+        changes, part = self.doom
+        if changes > 1:
+            self.doom = changes - 1, part
+        elif self.timer is None:
+            self.timer = threading.Timer(part * Flow.pace, self.kill)
+            self.timer.start()
 
     def in_import(self, command):
         """A line of an import has no reply, until the line `.` ends it."""
@@ -74,7 +99,13 @@ class Flow:
             self.process.send_signal(signal.SIGKILL)
 
     def close(self):
-        self.process.stdin.close()
+        """Ends the process, and answers its status."""
+        if self.timer:
+            self.timer.cancel()
+        try:
+            self.process.stdin.close()
+        except BrokenPipeError:
+            pass
         status = self.process.wait()
         self.replies.close()
         return status
@@ -228,21 +259,23 @@ def main():
             more = check(flow, answered)
             found += len(more)
             answered.update(more)
-            timer = None
             if words.kill and kills < words.kills:
-                timer = threading.Timer(chance.uniform(0.0, 0.03), flow.kill)
-                timer.start()
+                flow.doom = chance.randint(1, 4), chance.uniform(0.0, 1.5)
             try:
                 output = case.play(text)
             except Gone:
                 kills += 1
-                flow.process.wait()
-                flow.replies.close()
+                flow.close()
                 continue
-            finally:
-                if timer:
-                    timer.cancel()
-            check(flow, answered)
+            if flow.timer:
+                # The case was done before the kill came.
+                flow.timer.cancel()
+            try:
+                check(flow, answered)
+            except Gone:
+                kills += 1
+                flow.close()
+                continue
             print("\n".join(output))
             status = flow.close()
             break
