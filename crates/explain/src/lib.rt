@@ -18,5 +18,5 @@ mod words;
 pub use accepting::{AcceptFault, accept};
 pub use lines::{CertLine, write_line};
 pub use making::{ExplainFault, explain};
-pub use reading::read_line;
+pub use reading::{activity_in, read_line};
 pub use words::{explain_word, verify_lines};

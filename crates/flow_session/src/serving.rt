@@ -118,7 +118,8 @@ impl Session {
         &self.core
     }
 
-    /// Makes a transaction: it is applied in memory, and kept.
+    /// Makes a transaction: it is kept, and then applied in memory. Where there is no memory for that, the
+    /// session ends without an answer, and a reopening applies it.
     fn make<J: Journal>(
         &mut self,
         journal: &mut J,

@@ -94,3 +94,26 @@ impl Input {
         Ok(input)
     }
 }
+
+/// Lines, each with whether it is too long; then its bytes aren't kept.
+type Kept = Vec<(Vec<u8>, bool)>;
+
+/// Keeps a line.
+fn keep(kept: &mut Kept, text: Vec<u8>, is_too_long: bool) -> Result<(), AllocError> {
+    kept.push((text, is_too_long))?;
+    Ok(())
+}
+
+/// The lines of a source to its end. It stops as `Lines::next` does.
+pub fn all_lines<S: Source>(alloc: Global, src: &mut S) -> Result<Kept, IoStop> {
+    let mut kept = Vec::new(alloc);
+    let mut lines = Lines::new(alloc, MOST_BYTES)?;
+    for _ in 0..u64::MAX {
+        match lines.next(src)? {
+            Line::Text => keep(&mut kept, Vec::from_slice(alloc, lines.text())?, false)?,
+            Line::TooLong => keep(&mut kept, Vec::new(alloc), true)?,
+            Line::Ended => break,
+        }
+    }
+    Ok(kept)
+}

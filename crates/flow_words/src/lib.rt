@@ -7,8 +7,10 @@
 mod check;
 mod completions;
 mod fate;
+mod following;
 mod input;
 mod load;
+mod looking;
 mod numbers;
 mod pure;
 mod script;

@@ -1,4 +1,6 @@
 //! How a run ends.
+use std::alloc::AllocError;
+
 /// How a run ends. Its number is the exit status of the program.
 #[derive(Clone, Copy, Debug, PartialEq, Eq)]
 pub enum Status {
@@ -36,5 +38,11 @@ impl Status {
             Status::ScriptTooLong => 7,
             Status::Refused => 8,
         }
+    }
+}
+
+impl From<AllocError> for Status {
+    fn from(_fault: AllocError) -> Status {
+        Status::NoMemory
     }
 }

@@ -1,5 +1,7 @@
-//! The words over a store in two files: `new` and `run`.
-use crate::numbers::{Settings, settings_of};
+//! The words over a store in two files, and the two that make and serve one: `new` and `run`.
+use crate::following::{follow_into, ship_from};
+use crate::looking::{explain_in, overdue_in, verify_in};
+use crate::numbers::{Settings, number_in, settings_of};
 use crate::pure::run_pure;
 use crate::script::{print, serve_all};
 use crate::status::Status;
@@ -11,20 +13,49 @@ use std::alloc::{AllocError, Global};
 use std::rt::Files;
 use txn_log::{Log, LogStop};
 
+/// The greatest number that a stream is shipped from: the greatest limit of a store.
+const MOST_NUMBER: u64 = 10_000_000;
+
 /// A word over a store.
-#[derive(Clone, Copy, Debug, PartialEq, Eq)]
-enum Word {
+#[derive(Clone, Copy)]
+enum Word<'a> {
     New(Settings),
     Run,
+    Explain(&'a [u8]),
+    Verify,
+    Overdue,
+    Ship(u64),
+    Follow,
+}
+
+/// The word over a store that has no words behind its two files.
+fn short_word(word: &str) -> Option<Word<'static>> {
+    match word {
+        "run" => Some(Word::Run),
+        "verify" => Some(Word::Verify),
+        "overdue" => Some(Word::Overdue),
+        "follow" => Some(Word::Follow),
+        _ => None,
+    }
+}
+
+/// The word over a store with these words behind its two files.
+fn store_word<'a>(word: &str, rest: &'a [String]) -> Option<Word<'a>> {
+    if word == "new" {
+        return Some(Word::New(settings_of(rest)?));
+    }
+    match rest {
+        [] => short_word(word),
+        [from] if word == "ship" => Some(Word::Ship(number_in(from.as_str(), 0, MOST_NUMBER)?)),
+        [activity] if word == "explain" => Some(Word::Explain(activity.as_bytes())),
+        _ => None,
+    }
 }
 
 /// The word over a store that these words say; its two files are two different words.
-fn word_of(words: &[String]) -> Option<Word> {
+fn word_of(words: &[String]) -> Option<Word<'_>> {
     match words {
-        [word, a, b] if word.as_str() == "run" && a.as_str() != b.as_str() => Some(Word::Run),
-        [word, a, b, rest @ ..] if word.as_str() == "new" && a.as_str() != b.as_str() => {
-            Some(Word::New(settings_of(rest)?))
-        }
+        [word, a, b, rest @ ..] if a.as_str() != b.as_str() => store_word(word.as_str(), rest),
         _ => None,
     }
 }
@@ -60,7 +91,7 @@ fn stop_text(alloc: Global, stop: &LogStop) -> Result<Option<Vec<u8>>, AllocErro
 }
 
 /// Prints why a store isn't opened.
-fn refuse<K: Sink>(alloc: Global, out: &mut K, stop: &LogStop) -> Result<Status, Status> {
+pub fn refuse<K: Sink>(alloc: Global, out: &mut K, stop: &LogStop) -> Result<Status, Status> {
     match stop_text(alloc, stop) {
         Err(_) => Err(Status::NoMemory),
         Ok(Some(text)) => {
@@ -126,6 +157,11 @@ pub fn run<'r, S: Source, K: Sink, R: Files>(
         None => return run_pure(alloc, words, src, out),
         Some(Word::New(settings)) => make(alloc, settings, out, &mut disk),
         Some(Word::Run) => run_script(alloc, src, out, disk),
+        Some(Word::Explain(activity)) => explain_in(alloc, activity, out, &mut disk),
+        Some(Word::Verify) => verify_in(alloc, src, out, &mut disk),
+        Some(Word::Overdue) => overdue_in(alloc, out, &mut disk),
+        Some(Word::Ship(from)) => ship_from(alloc, from, out, &mut disk),
+        Some(Word::Follow) => follow_into(alloc, src, out, &mut disk),
     };
     match done {
         Ok(status) => status,

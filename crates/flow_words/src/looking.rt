@@ -1,0 +1,92 @@
+//! The words that only look into a store: `explain`, `verify` and `overdue`.
+use crate::input::all_lines;
+use crate::script::{line_status, print};
+use crate::status::Status;
+use crate::stored::refuse;
+use deadlines::overdue_text;
+use explain::{activity_in, explain_word, verify_lines};
+use flow_core::Core;
+use flow_disk::FileDisk;
+use flow_io::{Sink, Source};
+use flow_session::reopen;
+use std::alloc::Global;
+use std::rt::Files;
+
+/// Prints an answer, and says whether it is a refusal.
+pub fn print_answer<K: Sink>(out: &mut K, text: &[u8], is_refused: bool) -> Result<Status, Status> {
+    print(out, text)?;
+    Ok(if is_refused {
+        Status::Refused
+    } else {
+        Status::Done
+    })
+}
+
+/// Prints that the words are none that the program knows.
+fn print_usage<K: Sink>(out: &mut K) -> Result<Status, Status> {
+    print(out, b"no USAGE\n")?;
+    Ok(Status::Usage)
+}
+
+/// Prints why an activity is dead or finished. The word is judged before the store is opened.
+pub fn explain_in<K: Sink, R: Files>(
+    alloc: Global,
+    activity: &[u8],
+    out: &mut K,
+    disk: &mut FileDisk<'_, R>,
+) -> Result<Status, Status> {
+    if activity_in(alloc, activity)?.is_none() {
+        return print_usage(out);
+    }
+    match reopen(alloc, disk) {
+        Err(stop) => refuse(alloc, out, &stop),
+        Ok((session, _log)) => match explain_word(alloc, session.core(), activity)? {
+            None => print_usage(out),
+            Some((text, is_refused)) => print_answer(out, &text, is_refused),
+        },
+    }
+}
+
+/// Reads a certificate to its end, and prints whether it holds over a state.
+fn verify_over<S: Source, K: Sink>(
+    alloc: Global,
+    core: &Core,
+    src: &mut S,
+    out: &mut K,
+) -> Result<Status, Status> {
+    match all_lines(alloc, src) {
+        Err(stop) => Err(line_status(stop)),
+        Ok(lines) => {
+            let (text, is_refused) = verify_lines(alloc, core, &lines)?;
+            print_answer(out, &text, is_refused)
+        }
+    }
+}
+
+/// Prints whether the certificate that is read holds over a store.
+pub fn verify_in<S: Source, K: Sink, R: Files>(
+    alloc: Global,
+    src: &mut S,
+    out: &mut K,
+    disk: &mut FileDisk<'_, R>,
+) -> Result<Status, Status> {
+    match reopen(alloc, disk) {
+        Err(stop) => refuse(alloc, out, &stop),
+        Ok((session, _log)) => verify_over(alloc, session.core(), src, out),
+    }
+}
+
+/// Prints the items of a store that have been open for too long.
+pub fn overdue_in<K: Sink, R: Files>(
+    alloc: Global,
+    out: &mut K,
+    disk: &mut FileDisk<'_, R>,
+) -> Result<Status, Status> {
+    match reopen(alloc, disk) {
+        Err(stop) => refuse(alloc, out, &stop),
+        Ok((session, _log)) => {
+            let text = overdue_text(alloc, session.core())?;
+            print_answer(out, &text, false)
+        }
+    }
+}
