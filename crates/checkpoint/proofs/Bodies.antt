@@ -1,5 +1,5 @@
 -- A body of records behind a closed gate.
-use Rattle.std.proofs.Common.{◌≡◌, ◌≢◌, ◌⊎◌, ℕ, suc, ◌+◌, ◌-◌, ◌^◌, ◌<◌, ◌≤◌, List, [], ◌∷◌, ◌++◌, length, take, drop, get_or, refl, sym, ap, subst, ◌∙◌, arith, length-append, append_assoc}
+use Rattle.std.proofs.Common.{◌≡◌, ◌≢◌, ℕ, suc, ◌+◌, ◌-◌, ◌≤◌, List, [], ◌∷◌, ◌++◌, length, drop, refl, sym, ap, subst, ◌∙◌, arith, length-append, append_assoc}
 use Rattle.std.proofs.lemmas.List.{append-nil}
 use Rattle.std.specs.List.{All}
 use Rattle.std.specs.Int.{w32, to_be_bytes}
@@ -8,10 +8,9 @@ use Rattle.flow_disk.specs.Images.{Image, bytes_in, put_in, opposite, spliced}
 use Rattle.txn_log.specs.declared.header.Header.{Header}
 use Rattle.txn_log.specs.Records.{reach, IsPayload}
 use Rattle.txn_log.specs.Steps.{Begins, IsShut, HasBody}
-use Rattle.txn_log.specs.Stored.{Listed, Ends, listed, header_text}
+use Rattle.txn_log.specs.Stored.{Ends, header_text}
 use Rattle.txn_log.proofs.Begin.{written_begins, begins_long}
 use Rattle.txn_log.proofs.Made.{front_long, front_on, text_long, closed_now}
-use Rattle.txn_log.proofs.Placed.{reach-push}
 use Rattle.txn_log.proofs.Records.{Spells, Nothing, One, listed-closed}
 use Rattle.txn_log.proofs.Slots.{length_is}
 use Rattle.checkpoint.specs.Writing.{Adds, record_text, spelled}

@@ -1,5 +1,5 @@
 -- A store that moves to its other slot.
-use Rattle.std.proofs.Common.{◌≡◌, ◌⊎◌, inl, inr, ⊎_elim, ℕ, ◌<◌, List, length, refl, sym, ap, subst, ◌∙◌}
+use Rattle.std.proofs.Common.{◌≡◌, inl, inr, ⊎_elim, ℕ, ◌<◌, List, refl, sym, ap, subst, ◌∙◌}
 use Rattle.flow_disk.specs.declared.disk.Slot.{Slot}
 use Rattle.flow_disk.specs.declared.disk.Slot.TheVariants.{A, B}
 use Rattle.flow_disk.specs.Images.{Image, bytes_in, opposite}

@@ -2,16 +2,16 @@
 use Rattle.std.proofs.Common.{◌≡◌, inl, ℕ, ◌+◌, ◌≤◌, List, [], ◌∷◌, ◌++◌, length, take, get_or, refl, sym, ap, subst, ◌∙◌, arith, length-append, append_assoc}
 use Rattle.std.proofs.lemmas.List.{append-nil, length-take-le}
 use Rattle.flow_disk.specs.declared.disk.Slot.{Slot}
-use Rattle.flow_disk.specs.Images.{Image, bytes_in, opposite, put_in, spliced, TornIn, with_written}
-use Rattle.flow_disk.specs.Moments.{Elapses, Follows, LeavesOnly, Within}
+use Rattle.flow_disk.specs.Images.{Image, bytes_in, opposite, put_in, spliced, TornIn}
+use Rattle.flow_disk.specs.Moments.{Elapses, Follows, Within}
 use Rattle.flow_disk.proofs.Runs.{Run, wrote, stayed, joined}
 use Rattle.std.specs.Int.{w32, to_be_bytes}
-use Rattle.txn_log.specs.Steps.{Begins, IsShut, Stands}
+use Rattle.txn_log.specs.Steps.{Begins, Stands}
 use Rattle.txn_log.specs.Stored.{Unmade, slot_state}
 use Rattle.txn_log.proofs.Fronts.{unmade_front}
 use Rattle.txn_log.proofs.Begin.{begins_at, begins_long, torn_begins, written_begins}
 use Rattle.txn_log.proofs.Made.{front_long}
-use Rattle.checkpoint.specs.Writing.{Adds, ShutBeside, Keeps, KeepsShut}
+use Rattle.checkpoint.specs.Writing.{Adds, ShutBeside, KeepsShut}
 
 -- a torn write behind the front of a closed gate keeps it
 pub shut_torn : (slot : Slot) (from at n : ℕ) (there : List ℕ) (d c : Image) → from ≤ at → ShutBeside slot from there d → TornIn slot at n d c → ShutBeside slot from there c

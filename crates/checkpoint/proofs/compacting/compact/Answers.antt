@@ -1,4 +1,4 @@
-use Rattle.std.proofs.Common.{◌≡◌, ◌∙◌, ℕ, ◌<◌, ap, arith}
+use Rattle.std.proofs.Common.{◌∙◌, ◌<◌, ap, arith}
 use Rattle.flow_disk.specs.Images.{bytes_in, opposite}
 use Rattle.flow_disk.proofs.Runs.{weaker}
 use Rattle.txn_log.specs.Records.{reach}

@@ -1,4 +1,4 @@
-use Rattle.std.proofs.Common.{◌≡◌, ◌∙◌, ℕ, List, subst, sym, ap}
+use Rattle.std.proofs.Common.{◌∙◌, ℕ, List, subst}
 use Rattle.flow_disk.specs.Images.{bytes_in, opposite}
 use Rattle.flow_disk.proofs.Runs.{weaker, joined}
 use Rattle.txn_log.specs.Records.{reach}

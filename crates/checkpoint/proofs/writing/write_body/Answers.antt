@@ -1,10 +1,9 @@
-use Rattle.std.proofs.Common.{◌≡◌, ◌⊎◌, inl, inr, ℕ, ◌+◌, ◌-◌, ◌≤◌, List, [], ◌∷◌, length, drop, refl, subst, sym, ap, ◌∙◌, arith}
+use Rattle.std.proofs.Common.{◌≡◌, ◌⊎◌, inl, inr, ℕ, ◌≤◌, List, [], ◌∷◌, refl, subst, sym, ap, ◌∙◌, arith}
 use Rattle.flow_disk.specs.Images.{Image, bytes_in, opposite, put_in, spliced}
 use Rattle.flow_disk.proofs.Runs.{weaker}
 use Rattle.txn_log.specs.Records.{reach}
 use Rattle.txn_log.specs.Steps.{HasBody, Stands}
-use Rattle.txn_log.specs.Stored.{Unmade, header_text}
-use Rattle.txn_log.proofs.Made.{front_long, text_long}
+use Rattle.txn_log.specs.Stored.{Unmade}
 use Rattle.checkpoint.specs.Writing.{Adds, ShutBeside, spelled}
 use Rattle.checkpoint.proofs.Bodies.{body_of, body_beside, reach_is, header_within}
 use Rattle.checkpoint.proofs.Writes.{keeps_wrote, keeps_stayed, keeps_then, beside_unmade}

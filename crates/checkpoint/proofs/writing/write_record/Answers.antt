@@ -1,4 +1,4 @@
-use Rattle.std.proofs.Common.{◌≡◌, ℕ, ◌+◌, ◌≤◌, List, ◌∷◌, length, subst, arith, rules, refl}
+use Rattle.std.proofs.Common.{◌≡◌, ℕ, ◌+◌, List, ◌∷◌, length, subst, arith, rules, refl}
 use Rattle.std.specs.Int.{w32, to_be_bytes}
 use Rattle.checkpoint.specs.Writing.{Adds}
 use Rattle.checkpoint.proofs.Writes.{keeps_wrote, keeps_then, adds_wrote, adds_then, adds_within, head_is}

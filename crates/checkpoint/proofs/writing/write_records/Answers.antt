@@ -1,6 +1,5 @@
-use Rattle.std.proofs.Common.{◌≡◌, ℕ, ◌+◌, ◌*◌, ◌≤◌, List, [], ◌∷◌, ◌++◌, length, take, get_or, subst, sym, ap, ◌∙◌, arith}
+use Rattle.std.proofs.Common.{◌≡◌, ℕ, ◌+◌, ◌≤◌, List, [], ◌∷◌, ◌++◌, length, take, subst, sym, ap, ◌∙◌, arith}
 use Rattle.std.proofs.lemmas.List.{take_more}
-use Rattle.flow_disk.specs.Images.{Image, bytes_in}
 use Rattle.txn_log.specs.Records.{reach}
 use Rattle.txn_log.proofs.Placed.{reach-push}
 use Rattle.checkpoint.specs.Writing.{Adds, record_text, spelled}

@@ -1,4 +1,4 @@
-use Rattle.std.proofs.Common.{◌≡◌, ℕ, ◌+◌, ◌*◌, ◌≤◌, length, take}
+use Rattle.std.proofs.Common.{◌≡◌, ◌+◌, ◌*◌, ◌≤◌, length, take}
 use Rattle.flow_disk.specs.Images.{bytes_in}
 use Rattle.txn_log.specs.Records.{reach}
 use Rattle.checkpoint.specs.Writing.{Adds, KeepsShut, spelled}
