@@ -1,5 +1,6 @@
 //! A source read in blocks.
-ghost use Rattle.std.specs.Prelude.{◌≡◌, ◌≤◌, ◌<◌, vec_len, length, IfOk};
+ghost use Rattle.std.specs.Prelude.{◌≡◌, ◌≤◌, ◌<◌, vec_len, length, IfOk, MatchResult};
+ghost use Rattle.standby.specs.Endings.{FollowEnd};
 
 use crate::stops::FollowStop;
 use flow_io::Source;
@@ -41,7 +42,9 @@ impl Blocks {
     }
 
     /// Whether there is a byte more; takes the next block where none is held.
-    pub fn has_more<S: Source>(&mut self, src: &mut S) -> Result<bool, FollowStop> {
+    pub fn has_more<S: Source>(&mut self, src: &mut S) -> Result<bool, FollowStop>
+        ensures { MatchResult result (λ _. S.faults src.new ≡ S.faults src.old) (FollowEnd (S.faults src.old) (S.faults src.new)) }
+    {
         if self.from < self.to {
             return Ok(true);
         }
@@ -76,7 +79,8 @@ impl Blocks {
         most: usize,
         out: &mut Vec<u8>,
     ) -> Result<usize, FollowStop>
-        ensures { IfOk result (λ n. n ≤ most) }
+        ensures cause { MatchResult result (λ _. S.faults src.new ≡ S.faults src.old) (FollowEnd (S.faults src.old) (S.faults src.new)) }
+        ensures bound { IfOk result (λ n. n ≤ most) }
     {
         if !self.has_more(src)? {
             return Ok(0);
@@ -93,7 +97,9 @@ impl Blocks {
         src: &mut S,
         count: usize,
         out: &mut Vec<u8>,
-    ) -> Result<bool, FollowStop> {
+    ) -> Result<bool, FollowStop>
+        ensures { MatchResult result (λ _. S.faults src.new ≡ S.faults src.old) (FollowEnd (S.faults src.old) (S.faults src.new)) }
+    {
         out.clear();
         let mut missing = count;
         'parts: while missing > 0 {

@@ -1,4 +1,7 @@
 //! A stream taken into a store.
+ghost use Rattle.std.specs.Prelude.{◌≡◌, ℕ, IfErr, MatchResult};
+ghost use Rattle.standby.specs.Endings.{FollowEnd};
+
 use crate::blocks::Blocks;
 use crate::frames::{END, FRAME, FRONT, Front, agrees, front_of, length_of};
 use crate::opening::open;
@@ -32,7 +35,9 @@ struct Standby<'d, 'r, R: Files> {
 
 impl<'d, 'r, R: Files> Standby<'d, 'r, R> {
     /// Takes a transaction: it is passed over where the store has it, else adopted and then appended.
-    fn take(&mut self, numbered: Numbered, payload: &[u8]) -> Result<(), FollowStop> {
+    fn take(&mut self, numbered: Numbered, payload: &[u8]) -> Result<(), FollowStop>
+        ensures { IfErr result (λ stop. (count : ℕ) → FollowEnd count count stop) }
+    {
         let Numbered {
             number,
             transaction,
@@ -54,7 +59,9 @@ impl<'d, 'r, R: Files> Standby<'d, 'r, R> {
     }
 
     /// Takes the payload of the frame at a place, which has to be the record of this number.
-    fn take_payload(&mut self, place: u64, number: u64, payload: &[u8]) -> Result<(), FollowStop> {
+    fn take_payload(&mut self, place: u64, number: u64, payload: &[u8]) -> Result<(), FollowStop>
+        ensures { IfErr result (λ stop. (count : ℕ) → FollowEnd count count stop) }
+    {
         match decode(self.alloc, payload) {
             Ok(numbered) if numbered.number == number => self.take(numbered, payload),
             Ok(_) => Err(FollowStop::Frame(place)),
@@ -64,7 +71,9 @@ impl<'d, 'r, R: Files> Standby<'d, 'r, R> {
     }
 
     /// Judges the front of a stream.
-    fn judge_front(&self, bytes: &[u8]) -> Result<Front, FollowStop> {
+    fn judge_front(&self, bytes: &[u8]) -> Result<Front, FollowStop>
+        ensures { IfErr result (λ stop. (count : ℕ) → FollowEnd count count stop) }
+    {
         if !agrees(bytes) {
             return Err(FollowStop::Frame(0));
         }
@@ -88,7 +97,7 @@ impl<'d, 'r, R: Files> Standby<'d, 'r, R> {
         from: u64,
     ) -> Result<(), FollowStop> {
         let mut payload = Vec::new(self.alloc);
-        for number in from.saturating_add(1)..u64::MAX {
+        'frames: for number in from.saturating_add(1)..u64::MAX {
             let place = blocks.place();
             if !read_frame(src, blocks, self.core.number(), &mut payload)? {
                 return at_end(src, blocks);
@@ -119,7 +128,9 @@ fn read_frame<S: Source>(
     blocks: &mut Blocks,
     number: u64,
     payload: &mut Vec<u8>,
-) -> Result<bool, FollowStop> {
+) -> Result<bool, FollowStop>
+    ensures { MatchResult result (λ _. S.faults src.new ≡ S.faults src.old) (FollowEnd (S.faults src.old) (S.faults src.new)) }
+{
     let place = blocks.place();
     let _ = blocks.read(src, 1, payload)?;
     match payload.first() {
@@ -143,7 +154,9 @@ fn read_frame<S: Source>(
 }
 
 /// Behind the end byte there is nothing.
-fn at_end<S: Source>(src: &mut S, blocks: &mut Blocks) -> Result<(), FollowStop> {
+fn at_end<S: Source>(src: &mut S, blocks: &mut Blocks) -> Result<(), FollowStop>
+    ensures { MatchResult result (λ _. S.faults src.new ≡ S.faults src.old) (FollowEnd (S.faults src.old) (S.faults src.new)) }
+{
     if blocks.has_more(src)? {
         return Err(FollowStop::Frame(blocks.place()));
     }

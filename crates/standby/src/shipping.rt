@@ -1,4 +1,7 @@
 //! The transactions of a store as a stream.
+ghost use Rattle.std.specs.Prelude.{◌≡◌, ℕ, MatchResult};
+ghost use Rattle.standby.specs.Endings.{ShipEnd};
+
 use crate::frames::{Front, write_end, write_frame, write_front};
 use crate::opening::open;
 use crate::stops::ShipStop;
@@ -12,7 +15,9 @@ use txn_log::Record;
 const BLOCK: usize = 65536;
 
 /// Puts a piece.
-fn put<K: Sink>(out: &mut K, piece: &[u8]) -> Result<(), ShipStop> {
+fn put<K: Sink>(out: &mut K, piece: &[u8]) -> Result<(), ShipStop>
+    ensures { (from : ℕ) → MatchResult result (λ _. K.faults out.new ≡ K.faults out.old) (ShipEnd from (K.faults out.old) (K.faults out.new)) }
+{
     match put_all(out, piece) {
         Ok(()) => Ok(()),
         Err(_) => Err(ShipStop::WriteFault),
@@ -28,7 +33,7 @@ fn put_stream<K: Sink>(
 ) -> Result<(), ShipStop> {
     let mut piece = Vec::new(alloc);
     write_front(&mut piece, front)?;
-    for record in records {
+    'records: for record in records {
         write_frame(&mut piece, record.payload.as_slice())?;
         if piece.len() >= BLOCK {
             put(out, &piece)?;

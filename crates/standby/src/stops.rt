@@ -1,5 +1,6 @@
 //! Why nothing, or no more, is shipped or followed.
-ghost use Rattle.std.specs.Prelude.{◌≡◌};
+ghost use Rattle.std.specs.Prelude.{◌≡◌, ℕ};
+ghost use Rattle.standby.specs.Endings.{ShipEnd, FollowEnd};
 
 use std::alloc::AllocError;
 use thiserror::Error;
@@ -78,6 +79,8 @@ impl From<AllocError> for FollowStop {
 }
 
 impl From<LogStop> for ShipStop {
+    ghost from_gives = { λ _ e. (from count : ℕ) → ShipEnd from count count e };
+
     fn from(stop: LogStop) -> ShipStop {
         match stop {
             LogStop::NoMemory => ShipStop::NoMemory,
@@ -87,6 +90,8 @@ impl From<LogStop> for ShipStop {
 }
 
 impl From<LogStop> for FollowStop {
+    ghost from_gives = { λ _ e. (count : ℕ) → FollowEnd count count e };
+
     fn from(stop: LogStop) -> FollowStop {
         match stop {
             LogStop::NoMemory => FollowStop::NoMemory,
