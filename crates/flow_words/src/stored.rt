@@ -18,10 +18,11 @@ const MOST_NUMBER: u64 = 10_000_000;
 
 /// A word over a store.
 #[derive(Clone, Copy)]
-enum Word<'a> {
+enum Word {
     New(Settings),
     Run,
-    Explain(&'a [u8]),
+    /// With the activity as the last word.
+    Explain,
     Verify,
     Overdue,
     Ship(u64),
@@ -29,7 +30,7 @@ enum Word<'a> {
 }
 
 /// The word over a store that has no words behind its two files.
-fn short_word(word: &str) -> Option<Word<'static>> {
+fn short_word(word: &str) -> Option<Word> {
     match word {
         "run" => Some(Word::Run),
         "verify" => Some(Word::Verify),
@@ -40,23 +41,31 @@ fn short_word(word: &str) -> Option<Word<'static>> {
 }
 
 /// The word over a store with these words behind its two files.
-fn store_word<'a>(word: &str, rest: &'a [String]) -> Option<Word<'a>> {
+fn store_word(word: &str, rest: &[String]) -> Option<Word> {
     if word == "new" {
         return Some(Word::New(settings_of(rest)?));
     }
     match rest {
         [] => short_word(word),
         [from] if word == "ship" => Some(Word::Ship(number_in(from.as_str(), 0, MOST_NUMBER)?)),
-        [activity] if word == "explain" => Some(Word::Explain(activity.as_bytes())),
+        [_] if word == "explain" => Some(Word::Explain),
         _ => None,
     }
 }
 
 /// The word over a store that these words say; its two files are two different words.
-fn word_of(words: &[String]) -> Option<Word<'_>> {
+fn word_of(words: &[String]) -> Option<Word> {
     match words {
         [word, a, b, rest @ ..] if a.as_str() != b.as_str() => store_word(word.as_str(), rest),
         _ => None,
+    }
+}
+
+/// The bytes of the last word, where there is one.
+fn last_word(words: &[String]) -> &[u8] {
+    match words.last() {
+        Some(word) => word.as_bytes(),
+        None => &[],
     }
 }
 
@@ -157,7 +166,7 @@ pub fn run<'r, S: Source, K: Sink, R: Files>(
         None => return run_pure(alloc, words, src, out),
         Some(Word::New(settings)) => make(alloc, settings, out, &mut disk),
         Some(Word::Run) => run_script(alloc, src, out, disk),
-        Some(Word::Explain(activity)) => explain_in(alloc, activity, out, &mut disk),
+        Some(Word::Explain) => explain_in(alloc, last_word(words), out, &mut disk),
         Some(Word::Verify) => verify_in(alloc, src, out, &mut disk),
         Some(Word::Overdue) => overdue_in(alloc, out, &mut disk),
         Some(Word::Ship(from)) => ship_from(alloc, from, out, &mut disk),
