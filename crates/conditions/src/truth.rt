@@ -1,6 +1,6 @@
 //! The value of a condition on a container.
-ghost use Rattle.std.specs.Prelude.{◌≡◌, ◌≤◌, length, slice_get, Option, List, ℕ, true, false};
-ghost use Rattle.flow_model.specs.Conditions.{truth, holds as is_held, satisfies as is_satisfied, side_text, operand_value as number_of};
+ghost use Rattle.std.specs.Prelude.{◌≡◌, ◌≤◌, ◌-◌, ◌*◌, ◌^◌, ◌+ℤ◌, ◌≤ℤ◌, pos, [], ◌∷◌, length, slice_get, Option, List, ℕ, true, false};
+ghost use Rattle.flow_model.specs.Conditions.{truth, holds as is_held, satisfies as is_satisfied, side_text, sum_from, sum_of, operand_value as number_of};
 
 use flow_model::{Container, Expr, Operand, Operator, Term, TextSide, Value};
 use std::cmp::Ordering;
@@ -33,16 +33,29 @@ fn operand_value(operand: Operand, container: &Container) -> i64
     }
 }
 
-/// The sum of the terms; it is exact where there are at most 64.
-fn sum(terms: &[Term], container: &Container) -> i128 {
+/// A sum with one more term.
+fn with_term(so_far: i128, term: Term, container: &Container) -> i128
+    requires low { pos 0 ≤ℤ (so_far +ℤ pos (2 ^ 63 * (2 ^ 64 - 2))) }
+    requires high { so_far ≤ℤ pos (2 ^ 63 * (2 ^ 64 - 2)) }
+    ensures sum { result ≡ sum_from so_far (term ∷ []) container.now }
+    ensures fall { so_far ≤ℤ (result +ℤ pos (2 ^ 63)) }
+    ensures rise { result ≤ℤ (so_far +ℤ pos (2 ^ 63)) }
+{
+    let operand = i128::from(operand_value(term.operand, container));
+    if term.minus {
+        so_far - operand
+    } else {
+        so_far + operand
+    }
+}
+
+/// The sum of the terms; of fewer than 2^64 numbers of 64 bits it has 128 bits.
+fn sum(terms: &[Term], container: &Container) -> i128
+    ensures { result ≡ sum_of terms.now container.now }
+{
     let mut so_far = 0i128;
     for term in terms {
-        let operand = i128::from(operand_value(term.operand, container));
-        so_far = if term.minus {
-            so_far.saturating_sub(operand)
-        } else {
-            so_far.saturating_add(operand)
-        };
+        so_far = with_term(so_far, *term, container);
     }
     so_far
 }
@@ -62,7 +75,10 @@ fn text<'a>(side: &'a TextSide, container: &'a Container) -> &'a [u8]
 }
 
 /// The value of a condition on a container.
-pub fn value(e: &Expr, container: &Container) -> bool {
+#[tactic(auto, using(crate::proofs::Members::truth_or, crate::proofs::Members::truth_and))]
+pub fn value(e: &Expr, container: &Container) -> bool
+    ensures { result ≡ truth e.now container.now }
+{
     match e {
         Expr::Or(members) => {
             for member in members.as_slice() {
@@ -93,7 +109,9 @@ pub fn value(e: &Expr, container: &Container) -> bool {
 }
 
 /// The value of a condition that may be absent; then it is true.
-pub fn holds(e: &Option<Expr>, container: &Container) -> bool {
+pub fn holds(e: &Option<Expr>, container: &Container) -> bool
+    ensures { result ≡ is_held e.now container.now }
+{
     match e {
         None => true,
         Some(e) => value(e, container),
