@@ -1,7 +1,8 @@
 //! Start conditions.
-ghost use Rattle.std.specs.Prelude.{◌≡◌, is_none, count_by};
+ghost use Rattle.std.specs.Prelude.{◌≡◌, ◌++◌, ◌∷◌, Bool, Option, List, is_none, None, Some, count_by, replicate};
 ghost use Rattle.std.specs.List.{list_all, list_any};
 ghost use Rattle.flow_model.specs.Fates.{joined, asks, is_yes};
+ghost use Rattle.dead_paths.specs.Tallies.{Counts};
 
 use flow_model::Join;
 
@@ -64,7 +65,9 @@ pub struct Tally {
 
 impl Tally {
     /// No value is known yet.
-    pub fn new(total: u32) -> Tally {
+    pub fn new(total: u32) -> Tally
+        ensures { Counts result (replicate total None) }
+    {
         Tally {
             total,
             missing: total,
@@ -72,23 +75,43 @@ impl Tally {
         }
     }
 
-    /// The join, as far as the values tell.
-    pub fn join(&self, rule: Join) -> Option<bool> {
-        if self.missing > 0 {
-            return None;
-        }
-        Some(match rule {
+    /// What a join asks, where each value is known.
+    fn asked(&self, rule: Join) -> bool
+        ensures { (vs : List (Option Bool)) → Counts self.now vs → result ≡ asks rule vs }
+    {
+        match rule {
             Join::All => self.trues == self.total,
             Join::AtLeastOne => self.total == 0 || self.trues > 0,
             Join::AtLeast(number) => self.total == 0 || self.trues >= number,
-        })
+        }
+    }
+
+    /// The join, as far as the values tell.
+    pub fn join(&self, rule: Join) -> Option<bool>
+        ensures { (vs : List (Option Bool)) → Counts self.now vs → result ≡ joined rule vs }
+    {
+        if self.missing > 0 {
+            None
+        } else {
+            Some(self.asked(rule))
+        }
+    }
+
+    /// The tally with one more value known.
+    fn with(self, value: bool) -> Tally
+        ensures { (xs ys : List (Option Bool)) → Counts self (xs ++ None ∷ ys) → Counts result (xs ++ Some value ∷ ys) }
+    {
+        Tally {
+            total: self.total,
+            missing: self.missing.saturating_sub(1),
+            trues: self.trues.saturating_add(u32::from(value)),
+        }
     }
 
     /// One more value is known.
-    pub fn take(&mut self, value: bool) {
-        self.missing = self.missing.saturating_sub(1);
-        if value {
-            self.trues = self.trues.saturating_add(1);
-        }
+    pub fn take(&mut self, value: bool)
+        ensures { (xs ys : List (Option Bool)) → Counts self.old (xs ++ None ∷ ys) → Counts self.new (xs ++ Some value ∷ ys) }
+    {
+        *self = self.with(value);
     }
 }

@@ -1,36 +1,74 @@
 //! Connector values and the signals that tell them.
+ghost use Rattle.std.specs.Prelude.{◌≡◌, ◌==◌, ◌++◌, [], Option, None, Some, slice_get, option_and_then, false, IfOk, OnOk};
+ghost use Rattle.std.specs.List.{list_any};
+ghost use Rattle.std.specs.Option.{option_map_or, option_to_list};
+ghost use Rattle.flow_model.specs.Fates.{connector_value as value_of, truth_of, when_true};
+ghost use Rattle.flow_model.specs.declared.graphs.Graph.{out-Graph};
+ghost use Rattle.dead_paths.specs.Wiring.{IsOutgoing, row_at};
+ghost use Rattle.dead_paths.specs.Signals.{signal as signal_between, signal_of, signals as signals_after};
+
 use conditions::value;
 use flow_model::{Container, Control, Graph, List, Message, Path, SourceEnd, When};
 use std::alloc::{AllocError, Global};
 
-/// Whether one of the WHEN connectors of a source is true on its final output.
-fn some_when(graph: &Graph, source: u32, output: &Container) -> bool {
-    let Some(row) = graph.wiring.outgoing.as_slice().get(source as usize) else {
-        return false;
-    };
-    for place in row.as_slice() {
-        if let Some(control) = graph.controls.as_slice().get(*place as usize) {
-            if let When::Cond(condition) = &control.when {
-                if value(condition, output) {
-                    return true;
-                }
-            }
-        }
+/// The places of the connectors that leave an activity.
+fn outgoing(graph: &Graph, source: u32) -> &[u32]
+    ensures { result.now ≡ row_at (out-Graph graph.now).wiring.outgoing source }
+{
+    match graph.wiring.outgoing.as_slice().get(source as usize) {
+        Some(row) => row.as_slice(),
+        None => &[],
     }
-    false
+}
+
+/// Whether a transition condition is a WHEN that is true on this output.
+fn is_true_when(when: &When, output: &Container) -> bool
+    ensures { result ≡ when_true when.now output.now }
+{
+    match when {
+        When::Always => false,
+        When::Cond(condition) => value(condition, output),
+        When::Otherwise => false,
+    }
+}
+
+/// Whether the connector at a place has a WHEN that is true on this output.
+fn is_true_at(controls: &[Control], place: u32, output: &Container) -> bool
+    ensures { result ≡ option_map_or (λ c. when_true c.when output.now) (slice_get controls.now place) false }
+{
+    match controls.get(place as usize) {
+        Some(control) => is_true_when(&control.when, output),
+        None => false,
+    }
+}
+
+/// Whether one of the connectors at these places has a WHEN that is true on this output.
+fn some_when(controls: &[Control], places: &[u32], output: &Container) -> bool
+    ensures { result ≡ list_any (λ p. option_map_or (λ c. when_true c.when output.now) (slice_get controls.now p) false) places.now }
+{
+    places
+        .iter()
+        .any(|place| is_true_at(controls, *place, output))
 }
 
 /// The truth of a connector of a finished source.
-fn truth(graph: &Graph, control: &Control, output: &Container) -> bool {
+fn truth(graph: &Graph, control: &Control, output: &Container) -> bool
+    ensures { IsOutgoing graph.now → result ≡ truth_of (out-Graph graph.now).controls control.now.from control.now.when output.now }
+{
     match &control.when {
         When::Always => true,
         When::Cond(condition) => value(condition, output),
-        When::Otherwise => !some_when(graph, control.from, output),
+        When::Otherwise => {
+            let places = outgoing(graph, control.from);
+            !some_when(graph.controls.as_slice(), places, output)
+        }
     }
 }
 
 /// The value of a connector, by how its source has ended; None is unknown.
-pub fn connector_value(graph: &Graph, control: &Control, end: &SourceEnd) -> Option<bool> {
+pub fn connector_value(graph: &Graph, control: &Control, end: &SourceEnd) -> Option<bool>
+    ensures { IsOutgoing graph.now → result ≡ value_of (out-Graph graph.now).controls control.now end.now }
+{
     match end {
         SourceEnd::Unsettled => None,
         SourceEnd::Dead => Some(false),
@@ -45,7 +83,9 @@ fn signal(
     scope: &Path,
     control: &Control,
     value: bool,
-) -> Result<Option<Message>, AllocError> {
+) -> Result<Option<Message>, AllocError>
+    ensures { IfOk result (λ m. m ≡ signal_between scope.now (slice_get (out-Graph graph.now).activities control.now.from) (slice_get (out-Graph graph.now).activities control.now.to) (Some value)) }
+{
     let activities = graph.activities.as_slice();
     let Some(from) = activities.get(control.from as usize) else {
         return Ok(None);
@@ -61,6 +101,48 @@ fn signal(
     )))
 }
 
+/// The SIGNAL of a connector whose source has ended so; None where its value isn't known.
+fn signal_after(
+    alloc: Global,
+    graph: &Graph,
+    scope: &Path,
+    control: &Control,
+    end: &SourceEnd,
+) -> Result<Option<Message>, AllocError>
+    ensures { IsOutgoing graph.now → IfOk result (λ m. m ≡ signal_of graph.now scope.now end.now control.now) }
+{
+    match connector_value(graph, control, end) {
+        None => Ok(None),
+        Some(value) => signal(alloc, graph, scope, control, value),
+    }
+}
+
+/// The SIGNAL of the connector at a place.
+fn signal_at(
+    alloc: Global,
+    graph: &Graph,
+    scope: &Path,
+    place: u32,
+    end: &SourceEnd,
+) -> Result<Option<Message>, AllocError>
+    ensures { IsOutgoing graph.now → IfOk result (λ m. m ≡ option_and_then (signal_of graph.now scope.now end.now) (slice_get (out-Graph graph.now).controls place)) }
+{
+    match graph.controls.as_slice().get(place as usize) {
+        None => Ok(None),
+        Some(control) => signal_after(alloc, graph, scope, control, end),
+    }
+}
+
+/// Adds a message, if there is one.
+fn add(messages: &mut List<Message>, message: Option<Message>) -> Result<(), AllocError>
+    ensures { OnOk result (messages.new ≡ messages.old ++ option_to_list message) }
+{
+    match message {
+        None => Ok(()),
+        Some(message) => messages.push(message),
+    }
+}
+
 /// The SIGNALs of an activity that has ended so, in text order; none where it isn't settled.
 pub fn signals_of(
     alloc: Global,
@@ -68,19 +150,13 @@ pub fn signals_of(
     scope: &Path,
     activity: u32,
     end: &SourceEnd,
-) -> Result<List<Message>, AllocError> {
+) -> Result<List<Message>, AllocError>
+    ensures { IsOutgoing graph.now → IfOk result (λ signals. signals ≡ signals_after graph.now scope.now activity end.now) }
+{
     let mut signals = List::new(alloc);
-    let Some(row) = graph.wiring.outgoing.as_slice().get(activity as usize) else {
-        return Ok(signals);
-    };
-    for place in row.as_slice() {
-        if let Some(control) = graph.controls.as_slice().get(*place as usize) {
-            if let Some(value) = connector_value(graph, control, end) {
-                if let Some(message) = signal(alloc, graph, scope, control, value)? {
-                    signals.push(message)?;
-                }
-            }
-        }
+    for place in outgoing(graph, activity) {
+        let message = signal_at(alloc, graph, scope, *place, end)?;
+        add(&mut signals, message)?;
     }
     Ok(signals)
 }
