@@ -1,4 +1,10 @@
 //! Attempts.
+ghost use Rattle.std.specs.Prelude.{◌≡◌, ◌+◌, ◌<◌, ◌^◌, true, false, slice_get};
+ghost use Rattle.std.specs.Option.{option_copied, option_map};
+ghost use Rattle.flow_model.specs.Conditions.{holds as is_held};
+ghost use Rattle.flow_model.specs.ScopeContainers.{graph_in};
+ghost use Rattle.blocks_subprocs.specs.declared.attempts.Next.TheVariants.{Finish, Again};
+
 use conditions::holds;
 use flow_model::{Container, Expr, Graph, Library, Work};
 
@@ -10,7 +16,10 @@ pub enum Next {
 }
 
 /// What follows attempt `attempt` with this output: the end where the exit condition is true, else one more.
-pub fn next_attempt(exit: &Option<Expr>, output: &Container, attempt: u64) -> Next {
+pub fn next_attempt(exit: &Option<Expr>, output: &Container, attempt: u64) -> Next
+    ensures finish { is_held exit.now output.now ≡ true → result ≡ Finish }
+    ensures again { is_held exit.now output.now ≡ false → attempt + 1 < 2 ^ 64 → result ≡ Again (attempt + 1) }
+{
     if holds(exit, output) {
         Next::Finish
     } else {
@@ -18,14 +27,24 @@ pub fn next_attempt(exit: &Option<Expr>, output: &Container, attempt: u64) -> Ne
     }
 }
 
+/// The graph of the template at a place.
+fn graph_at(library: &Library, place: u32) -> Option<&Graph>
+    ensures { option_copied result ≡ option_map (λ t. t.graph) (slice_get library.now.templates place) }
+{
+    match library.templates.as_slice().get(place as usize) {
+        Some(template) => Some(&template.graph),
+        None => None,
+    }
+}
+
 /// The graph that an activity runs, if it is a block or a process activity.
-pub fn graph_of<'a>(library: &'a Library, work: &'a Work) -> Option<&'a Graph> {
+#[tactic(auto, using(crate::proofs::Library::template_graph))]
+pub fn graph_of<'a>(library: &'a Library, work: &'a Work) -> Option<&'a Graph>
+    ensures { option_copied result ≡ graph_in library.now.templates work.now }
+{
     match work {
         Work::Program(_) => None,
         Work::Block(graph) => Some(graph),
-        Work::Process(place) => {
-            let template = library.templates.as_slice().get(*place as usize)?;
-            Some(&template.graph)
-        }
+        Work::Process(place) => graph_at(library, *place),
     }
 }
