@@ -1,5 +1,5 @@
 //! Attempts.
-ghost use Rattle.std.specs.Prelude.{◌≡◌, ◌+◌, ◌<◌, ◌^◌, true, false, slice_get};
+ghost use Rattle.std.specs.Prelude.{◌≡◌, ◌+◌, ◌-◌, ◌^◌, min, true, false, slice_get};
 ghost use Rattle.std.specs.Option.{option_copied, option_map};
 ghost use Rattle.flow_model.specs.Conditions.{holds as is_held};
 ghost use Rattle.flow_model.specs.ScopeContainers.{graph_in};
@@ -18,7 +18,7 @@ pub enum Next {
 /// What follows attempt `attempt` with this output: the end where the exit condition is true, else one more.
 pub fn next_attempt(exit: &Option<Expr>, output: &Container, attempt: u64) -> Next
     ensures finish { is_held exit.now output.now ≡ true → result ≡ Finish }
-    ensures again { is_held exit.now output.now ≡ false → attempt + 1 < 2 ^ 64 → result ≡ Again (attempt + 1) }
+    ensures again { is_held exit.now output.now ≡ false → result ≡ Again (min (attempt + 1) (2 ^ 64 - 1)) }
 {
     if holds(exit, output) {
         Next::Finish

@@ -95,7 +95,7 @@ fn row(rows: &[List<u32>], place: u32) -> &[u32]
 }
 
 /// The input of attempt 1 of an activity: a fresh container with the lines that lead there.
-fn first_input(
+pub fn first_input(
     alloc: Global,
     graph: &Graph,
     activity: &Activity,

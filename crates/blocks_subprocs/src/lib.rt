@@ -8,4 +8,4 @@ mod attempts;
 mod inputs;
 
 pub use attempts::{Next, graph_of, next_attempt};
-pub use inputs::{base_input, next_input, output_of};
+pub use inputs::{base_input, first_input, next_input, output_of};

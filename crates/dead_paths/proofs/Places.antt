@@ -8,7 +8,8 @@ use Rattle.std.proofs.Math.Seq.{get_or-append_seam}
 use Rattle.std.proofs.lemmas.Option.{slice_get-get_or}
 use Rattle.dead_paths.specs.Wiring.{places, at_places}
 
-here : {X : Type 0} (ys : List X) (z : X) (zs : List X) (n : ℕ) → length ys ≡ n → slice_get (ys ++ z ∷ zs) n ≡ Some z
+-- what stands at a seam
+pub here : {X : Type 0} (ys : List X) (z : X) (zs : List X) (n : ℕ) → length ys ≡ n → slice_get (ys ++ z ∷ zs) n ≡ Some z
 here ys z zs n long =
     rw (← long) (slice_get-get_or (ys ++ z ∷ zs) (length ys) z (omega (arith, length-append ys (z ∷ zs))) ∙ ap Some (get_or-append_seam ys z zs z))
 

@@ -1,4 +1,11 @@
 //! The accepted completions, seen from a scope.
+ghost use Rattle.std.specs.Prelude.{◌≡◌, ℕ, ◌∷◌, [], List, IfOk, OnOk};
+ghost use Rattle.std.specs.Option.{option_copied, option_map, option_or};
+ghost use Rattle.flow_model.specs.Rows.{same_parts, output_of};
+ghost use Rattle.flow_model.specs.Scopes.{part};
+ghost use Rattle.flow_model.specs.declared.instances.Part.{Part as PartOf};
+ghost use Rattle.fate_eval.specs.Entries.{output_in, parts_behind, leads_to};
+
 use flow_model::{Container, Fact, Part};
 use std::alloc::{AllocError, Global};
 
@@ -11,7 +18,9 @@ pub struct Entry<'a> {
 }
 
 /// The completions of a root.
-pub fn entries_of<'a>(alloc: Global, facts: &'a [Fact]) -> Result<Vec<Entry<'a>>, AllocError> {
+pub fn entries_of<'a>(alloc: Global, facts: &'a [Fact]) -> Result<Vec<Entry<'a>>, AllocError>
+    ensures { IfOk result (λ v. (p : List PartOf) → output_in v.items p ≡ output_of facts.now p) }
+{
     let mut entries = Vec::new(alloc);
     for (i, fact) in facts.iter().enumerate() {
         entries.push(Entry {
@@ -23,24 +32,65 @@ pub fn entries_of<'a>(alloc: Global, facts: &'a [Fact]) -> Result<Vec<Entry<'a>>
     Ok(entries)
 }
 
-/// What a completion has below an activity: the attempt, and the parts behind it.
-fn below<'a>(entry: &Entry<'a>, name: &[u8]) -> Option<(u64, &'a [Part])> {
-    match entry.parts {
-        [first, rest @ ..] if first.name.as_slice() == name => Some((first.attempt, rest)),
-        _ => None,
+/// What parts have below an attempt of an activity of the scope, if they lead there.
+fn behind<'a>(parts: &'a [Part], name: &[u8], attempt: u64) -> Option<&'a [Part]>
+    ensures { option_copied result ≡ parts_behind (part name.now attempt) parts.now }
+{
+    match parts {
+        [] => None,
+        [first, rest @ ..] => {
+            if first.name.as_slice() == name && first.attempt == attempt {
+                Some(rest)
+            } else {
+                None
+            }
+        }
+    }
+}
+
+/// Whether parts are those of an attempt of an activity of the scope, and no more.
+#[tactic(auto, using(crate::proofs::Behind::is_item))]
+fn is_attempt(parts: &[Part], name: &[u8], attempt: u64) -> bool
+    ensures { result ≡ same_parts parts.now (part name.now attempt ∷ []) }
+{
+    match behind(parts, name, attempt) {
+        Some(rest) => rest.is_empty(),
+        None => false,
     }
 }
 
 /// The first completion of an attempt of a program activity.
-pub fn completion<'a>(entries: &[Entry<'a>], name: &[u8], attempt: u64) -> Option<Entry<'a>> {
+pub fn completion<'a>(entries: &[Entry<'a>], name: &[u8], attempt: u64) -> Option<Entry<'a>>
+    ensures { option_map (λ e. e.output.now) result ≡ output_in entries.now (part name.now attempt ∷ []) }
+{
     for entry in entries {
-        if let Some((number, rest)) = below(entry, name) {
-            if number == attempt && rest.is_empty() {
-                return Some(*entry);
-            }
+        if is_attempt(entry.parts, name, attempt) {
+            return Some(*entry);
         }
     }
     None
+}
+
+/// Adds what a completion has below an attempt, if it is there.
+fn add_below<'a>(
+    inner: &mut Vec<Entry<'a>>,
+    entry: &Entry<'a>,
+    name: &[u8],
+    attempt: u64,
+) -> Result<(), AllocError>
+    ensures { OnOk result ((p : List PartOf) → output_in inner.new.items p ≡ option_or (output_in inner.old.items p) (output_in (entry.now ∷ []) (part name.now attempt ∷ p))) }
+{
+    match behind(entry.parts, name, attempt) {
+        None => Ok(()),
+        Some(parts) => {
+            inner.push(Entry {
+                parts,
+                output: entry.output,
+                number: entry.number,
+            })?;
+            Ok(())
+        }
+    }
 }
 
 /// The completions in the scope of an attempt of a block or process activity.
@@ -49,41 +99,51 @@ pub fn entries_below<'a>(
     entries: &[Entry<'a>],
     name: &[u8],
     attempt: u64,
-) -> Result<Vec<Entry<'a>>, AllocError> {
+) -> Result<Vec<Entry<'a>>, AllocError>
+    ensures { IfOk result (λ v. (p : List PartOf) → output_in v.items p ≡ output_in entries.now (part name.now attempt ∷ p)) }
+{
     let mut inner = Vec::new(alloc);
     for entry in entries {
-        if let Some((number, rest)) = below(entry, name) {
-            if number == attempt && !rest.is_empty() {
-                inner.push(Entry {
-                    parts: rest,
-                    output: entry.output,
-                    number: entry.number,
-                })?;
-            }
-        }
+        add_below(&mut inner, entry, name, attempt)?;
     }
     Ok(inner)
 }
 
-/// The completions of each activity of a scope, by the activities' places.
-pub fn by_activity<'a>(
+/// Whether parts lead to an attempt of this activity of the scope.
+fn is_below(parts: &[Part], name: &[u8]) -> bool
+    ensures { result ≡ leads_to name.now parts.now }
+{
+    match parts {
+        [] => false,
+        [first, ..] => first.name.as_slice() == name,
+    }
+}
+
+/// Adds a completion, if it is below this activity.
+fn add_named<'a>(
+    named: &mut Vec<Entry<'a>>,
+    entry: &Entry<'a>,
+    name: &[u8],
+) -> Result<(), AllocError>
+    ensures { OnOk result ((j : ℕ) (p : List PartOf) → output_in named.new.items (part name.now j ∷ p) ≡ option_or (output_in named.old.items (part name.now j ∷ p)) (output_in (entry.now ∷ []) (part name.now j ∷ p))) }
+{
+    if is_below(entry.parts, name) {
+        named.push(*entry)?;
+    }
+    Ok(())
+}
+
+/// The completions of an activity of a scope, and of the scopes below it.
+pub fn entries_of_activity<'a>(
     alloc: Global,
-    names: &[&[u8]],
     entries: &[Entry<'a>],
-) -> Result<Vec<Vec<Entry<'a>>>, AllocError> {
-    let mut rows = Vec::new(alloc);
-    for _ in names {
-        rows.push(Vec::new(alloc))?;
-    }
+    name: &[u8],
+) -> Result<Vec<Entry<'a>>, AllocError>
+    ensures { IfOk result (λ v. (j : ℕ) (p : List PartOf) → output_in v.items (part name.now j ∷ p) ≡ output_in entries.now (part name.now j ∷ p)) }
+{
+    let mut named = Vec::new(alloc);
     for entry in entries {
-        if let Some(first) = entry.parts.first() {
-            let place = names.iter().position(|name| *name == first.name.as_slice());
-            if let Some(place) = place {
-                if let Some(row) = rows.get_mut(place) {
-                    row.push(*entry)?;
-                }
-            }
-        }
+        add_named(&mut named, entry, name)?;
     }
-    Ok(rows)
+    Ok(named)
 }

@@ -7,6 +7,7 @@
 mod accepted;
 mod passes;
 mod results;
+mod scopes;
 
 pub use passes::fates;
 pub use results::{FateFault, Fates};

@@ -1,42 +1,35 @@
 //! The recursion over scopes.
-use crate::accepted::{Entry, by_activity, completion, entries_below, entries_of};
+ghost use Rattle.std.specs.Prelude.{◌≡◌, ◌<◌, ◌+◌, ◌^◌, ◌∷◌, [], ◌++◌, ℕ, Option, List, Some, None, slice_get, slice_set, length, IfOk, OnOk, replicate};
+ghost use Rattle.std.specs.List.{flat_map};
+ghost use Rattle.std.specs.Option.{option_map};
+ghost use Rattle.flow_model.specs.Fates.{goes_on as next_try};
+ghost use Rattle.flow_model.specs.Rows.{below as path_below, rows as rows_in, deepest};
+ghost use Rattle.flow_model.specs.ScopeContainers.{output_by};
+ghost use Rattle.flow_model.specs.declared.graphs.Graph.{out-Graph};
+ghost use Rattle.flow_model.specs.Containers.{with_return_code as with_code};
+ghost use Rattle.flow_model.specs.Scopes.{part, at, output as output_of_scope};
+ghost use Rattle.flow_model.specs.declared.graphs.Template.{Template};
+ghost use Rattle.flow_model.specs.declared.instances.SourceEnd.TheVariants.{Unsettled};
+ghost use Rattle.blocks_subprocs.specs.Ends.{ends_of};
+ghost use Rattle.blocks_subprocs.specs.Wiring.{IsLooping, IsSinking};
+ghost use Rattle.fate_eval.specs.Entries.{output_in, known_in};
+ghost use Rattle.fate_eval.specs.Passing.{IsLaid, OfInside, Laid, LaidBelow, IsAttempt, IsScopeAttempt, AreAttempts, IsOpen, IsFound, IsPassed, AreFates, turn_of};
+
+use crate::accepted::{Entry, completion, entries_below, entries_of, entries_of_activity};
 use crate::results::{FateFault, Fates};
-use blocks_subprocs::{Next, base_input, graph_of, next_attempt, next_input, output_of};
+use crate::scopes::{complete_after, fed_after, is_complete, is_fed, joined_after, values};
+use blocks_subprocs::{Next, first_input, graph_of, next_attempt, next_input, output_of};
 use containers::with_return_code;
-use dead_paths::{connector_value, join};
+use dead_paths::join;
 use flow_model::{
-    Activity, Container, Fact, Fate, FateRow, Graph, Library, List, MapEnd, Part, Path, SourceEnd,
-    Work,
+    Activity, Container, Fact, Fate, FateRow, Graph, Library, List, Part, Path, SourceEnd, Work,
 };
 use std::alloc::{AllocError, Global};
 
 /// No process nests deeper.
 const DEEPEST: u32 = 16;
 
-/// What a complete scope gives, and after how many completions it is complete.
-#[derive(Drop)]
-struct Completed {
-    output: Container,
-    after: u64,
-}
-
-/// What a pass finds of one activity: its fate and end, and the rows of the scopes below it.
-#[derive(Drop)]
-struct Found {
-    fate: Fate,
-    end: SourceEnd,
-    after: u64,
-    below: Vec<FateRow>,
-}
-
-/// What a pass finds of one scope: its rows, and its output once it is complete.
-#[derive(Drop)]
-struct Passed {
-    rows: Vec<FateRow>,
-    output: Option<Completed>,
-}
-
-/// What an attempt gave, and the rows below it.
+/// What an attempt gave, after how many completions, and the rows below it.
 #[derive(Drop)]
 struct Attempt {
     output: Option<Container>,
@@ -44,16 +37,38 @@ struct Attempt {
     rows: Vec<FateRow>,
 }
 
-/// A scope during its pass.
+/// What the attempts of an activity come to, after how many completions, and the rows below them.
+#[derive(Drop)]
+struct Attempts {
+    fate: Fate,
+    end: SourceEnd,
+    after: u64,
+    rows: Vec<FateRow>,
+}
+
+/// What a pass finds of one activity: how it has ended, after how many completions, its row and those below it.
+#[derive(Drop)]
+struct Found {
+    end: SourceEnd,
+    after: u64,
+    rows: Vec<FateRow>,
+}
+
+/// What a pass finds of one scope: its rows, and its output once it is complete.
+#[derive(Drop)]
+struct Passed {
+    rows: Vec<FateRow>,
+    output: Option<Container>,
+    after: u64,
+}
+
+/// A scope: its graph, where it stands, what it reads, after how many completions it began, and its completions.
 struct Scope<'a> {
     graph: &'a Graph,
     path: Path,
     input: Container,
-    /// After how many completions it has begun.
     since: u64,
-    entries: Vec<Vec<Entry<'a>>>,
-    ends: Vec<SourceEnd>,
-    afters: Vec<u64>,
+    entries: Vec<Entry<'a>>,
 }
 
 impl Drop for Scope<'_> {
@@ -64,130 +79,66 @@ impl Drop for Scope<'_> {
             input: _,
             since: _,
             entries: _,
-            ends: _,
-            afters: _,
         } = self;
     }
 }
 
-/// The evaluation of one root.
+/// What is the same in all scopes of a root.
 #[derive(Drop)]
-struct Evaluation<'a> {
+struct Root<'a> {
     alloc: Global,
     library: &'a Library,
     /// No activity has more attempts.
     most: u64,
-    /// For each completion, whether it was ready by those before it.
-    ready: Vec<bool>,
+    ghost bounded: { most < 2 ^ 63 },
 }
 
-impl<'a> Scope<'a> {
-    fn new(
-        alloc: Global,
-        graph: &'a Graph,
-        path: Path,
-        input: Container,
-        since: u64,
-        entries: &[Entry<'a>],
-    ) -> Result<Scope<'a>, AllocError> {
-        let mut names = Vec::new(alloc);
-        let mut ends = Vec::new(alloc);
-        let mut afters = Vec::new(alloc);
-        for activity in graph.activities.as_slice() {
-            names.push(activity.name.as_slice())?;
-            ends.push(SourceEnd::Unsettled)?;
-            afters.push(since)?;
-        }
-        Ok(Scope {
-            graph,
-            path,
-            input,
-            since,
-            entries: by_activity(alloc, &names, entries)?,
-            ends,
-            afters,
-        })
-    }
+/// What follows of an attempt: the activity stops at a fate and an end, or goes on with an input.
+#[derive(Drop)]
+enum Turn {
+    Stops(Fate, SourceEnd),
+    GoesOn(Container),
+}
 
-    /// After how many completions it is known how the activity at a place has ended.
-    fn after(&self, place: u32) -> u64 {
-        self.afters
-            .get(place as usize)
-            .copied()
-            .unwrap_or(self.since)
-    }
-
-    /// The values of the connectors that lead to an activity, and after how many completions they are known.
-    fn values(&self, alloc: Global, place: u32) -> Result<(Vec<Option<bool>>, u64), AllocError> {
-        let mut values = Vec::new(alloc);
-        let mut after = self.since;
-        let Some(row) = self.graph.wiring.incoming.as_slice().get(place as usize) else {
-            return Ok((values, after));
-        };
-        for place in row.as_slice() {
-            if let Some(control) = self.graph.controls.as_slice().get(*place as usize) {
-                let value = match self.ends.get(control.from as usize) {
-                    Some(end) => connector_value(self.graph, control, end),
-                    None => None,
-                };
-                values.push(value)?;
-                after = after.max(self.after(control.from));
-            }
-        }
-        Ok((values, after))
-    }
-
-    /// After how many completions the activities that feed this one are settled; None before that.
-    fn fed_after(&self, place: u32) -> Option<u64> {
-        let mut after = self.since;
-        let row = self.graph.wiring.feeding.as_slice().get(place as usize)?;
-        for line in row.as_slice() {
-            if let Some(line) = self.graph.lines.as_slice().get(*line as usize) {
-                if let MapEnd::Activity(from) = line.from {
-                    if let Some(SourceEnd::Unsettled) = self.ends.get(from as usize) {
-                        return None;
-                    }
-                    after = after.max(self.after(from));
-                }
-            }
-        }
-        Some(after)
-    }
-
-    /// Whether all activities are settled, and after how many completions.
-    fn complete_after(&self) -> Option<u64> {
-        let mut after = self.since;
-        for (end, known) in self.ends.iter().zip(self.afters.iter()) {
-            if let SourceEnd::Unsettled = end {
-                return None;
-            }
-            after = after.max(*known);
-        }
-        Some(after)
-    }
-
-    fn settle(&mut self, place: u32, end: SourceEnd, after: u64) {
-        if let Some(known) = self.ends.get_mut(place as usize) {
-            *known = end;
-        }
-        if let Some(known) = self.afters.get_mut(place as usize) {
-            *known = after;
+/// Marks a completion whose item could be completed after so many completions.
+fn accept(ready: &mut [bool], number: u64, since: u64) {
+    if since <= number {
+        if let Some(ready) = ready.get_mut(number as usize) {
+            *ready = true;
         }
     }
+}
 
-    /// The path of an attempt of an activity of the scope.
-    fn below(&self, alloc: Global, activity: &Activity, attempt: u64) -> Result<Path, AllocError> {
-        let mut path = self.path.copy(alloc)?;
-        path.parts.push(Part {
-            name: activity.name.copy(alloc)?,
-            attempt,
-        })?;
-        Ok(path)
+/// Puts an element in the place of another one, if there is one.
+fn put<T: Drop>(items: &mut Vec<T>, place: u32, item: T)
+    ensures { items.new.items ≡ slice_set items.old.items place item }
+{
+    if (place as usize) < items.len() {
+        items[place as usize] = item;
     }
+}
+
+/// The path of an attempt of an activity of a scope.
+fn path_of(
+    alloc: Global,
+    scope: &Path,
+    activity: &Activity,
+    attempt: u64,
+) -> Result<Path, AllocError>
+    ensures { IfOk result (λ p. p ≡ path_below scope.now (part activity.now.name attempt)) }
+{
+    let mut path = scope.copy(alloc)?;
+    path.parts.push(Part {
+        name: activity.name.copy(alloc)?,
+        attempt,
+    })?;
+    Ok(path)
 }
 
 /// The fate of an activity whose next attempt is this one.
-fn goes_on(work: &Work, attempt: u64) -> Fate {
+fn goes_on(work: &Work, attempt: u64) -> Fate
+    ensures { result ≡ next_try work.now attempt }
+{
     match work {
         Work::Program(_) => Fate::Ready(attempt),
         Work::Block(_) => Fate::Running(attempt),
@@ -195,268 +146,485 @@ fn goes_on(work: &Work, attempt: u64) -> Fate {
     }
 }
 
-fn unsettled(alloc: Global, fate: Fate) -> Found {
-    Found {
-        fate,
-        end: SourceEnd::Unsettled,
-        after: 0,
-        below: Vec::new(alloc),
+/// Attempt `attempt` of a program activity, which may be completed after `since` completions.
+fn program_attempt(
+    alloc: Global,
+    entries: &[Entry<'_>],
+    activity: &Activity,
+    attempt: u64,
+    since: u64,
+    ready: &mut [bool],
+) -> Result<Attempt, AllocError>
+    ensures { IfOk result (λ r. (r.output ≡ output_in entries.now (part activity.now.name attempt ∷ [])) × (r.rows.items ≡ [])) }
+{
+    let rows = Vec::new(alloc);
+    match completion(entries, activity.name.as_slice(), attempt) {
+        None => Ok(Attempt {
+            output: None,
+            after: since,
+            rows,
+        }),
+        Some(entry) => {
+            accept(ready, entry.number, since);
+            Ok(Attempt {
+                output: Some(entry.output.copy(alloc)?),
+                after: since.max(entry.number.saturating_add(1)),
+                rows,
+            })
+        }
     }
 }
 
-impl<'a> Evaluation<'a> {
-    /// Marks a completion whose item could be completed after so many completions.
-    fn accept(&mut self, number: u64, since: u64) {
-        if since <= number {
-            if let Some(ready) = self.ready.get_mut(number as usize) {
-                *ready = true;
+/// An attempt that gave nothing.
+fn nothing(alloc: Global, since: u64) -> Attempt
+    ensures { (result.output ≡ None) × (result.rows.items ≡ []) }
+{
+    Attempt {
+        output: None,
+        after: since,
+        rows: Vec::new(alloc),
+    }
+}
+
+/// What a scope gave, with the return code before it.
+fn with_code_of(alloc: Global, output: Option<Container>) -> Result<Option<Container>, AllocError>
+    ensures { IfOk result (λ o. o ≡ option_map with_code output) }
+{
+    match output {
+        None => Ok(None),
+        Some(output) => Ok(Some(with_return_code(alloc, &output)?)),
+    }
+}
+
+/// An attempt of an activity that runs a graph: a scope that begins after `since` completions.
+#[cycle(scopes)]
+fn scope_attempt<'a>(
+    root: &Root<'a>,
+    depth: u32,
+    scope: &Scope<'a>,
+    entries: &[Entry<'a>],
+    activity: &'a Activity,
+    graph: &'a Graph,
+    attempt: u64,
+    input: &Container,
+    since: u64,
+    ready: &mut [bool],
+) -> Result<Attempt, AllocError>
+    ensures { Laid root.now.library.now.templates depth graph.now → IfOk result (λ r. (r.output ≡ option_map with_code (output_of_scope root.now.library.now.templates (depth + 1) (at (part activity.now.name attempt) (known_in root.now.most entries.now)) graph.now input.now)) × (r.rows.items ≡ rows_in root.now.library.now.templates depth (at (part activity.now.name attempt) (known_in root.now.most entries.now)) graph.now input.now (path_below scope.now.path (part activity.now.name attempt)))) }
+{
+    let below = Scope {
+        graph,
+        path: path_of(root.alloc, &scope.path, activity, attempt)?,
+        input: input.copy(root.alloc)?,
+        since,
+        entries: entries_below(root.alloc, entries, activity.name.as_slice(), attempt)?,
+    };
+    let Passed {
+        rows,
+        output,
+        after,
+    } = pass(root, depth, &below, ready)?;
+    Ok(Attempt {
+        output: with_code_of(root.alloc, output)?,
+        after,
+        rows,
+    })
+}
+
+/// Attempt `attempt` of a block or process activity.
+#[cycle(scopes)]
+fn nested_attempt<'a>(
+    root: &Root<'a>,
+    depth: u32,
+    scope: &Scope<'a>,
+    entries: &[Entry<'a>],
+    activity: &'a Activity,
+    attempt: u64,
+    input: &Container,
+    since: u64,
+    ready: &mut [bool],
+) -> Result<Attempt, AllocError>
+    ensures { OfInside root.now.library.now.templates (LaidBelow root.now.library.now.templates depth) (Some activity.now) → IfOk result (λ r. IsScopeAttempt root.now.library.now.templates depth (known_in root.now.most entries.now) scope.now.path activity.now attempt input.now r.output r.rows.items) }
+{
+    match graph_of(root.library, &activity.work) {
+        None => Ok(nothing(root.alloc, since)),
+        Some(graph) => {
+            if depth == 0 {
+                return Ok(nothing(root.alloc, since));
             }
+            scope_attempt(
+                root,
+                depth - 1,
+                scope,
+                entries,
+                activity,
+                graph,
+                attempt,
+                input,
+                since,
+                ready,
+            )
         }
     }
+}
 
-    /// Attempt `attempt` of a program activity, which may be completed after `since` completions.
-    fn program_attempt(
-        &mut self,
-        entries: &[Entry<'a>],
-        activity: &Activity,
-        attempt: u64,
-        since: u64,
-    ) -> Result<Attempt, AllocError> {
-        let rows = Vec::new(self.alloc);
-        match completion(entries, activity.name.as_slice(), attempt) {
-            None => Ok(Attempt {
-                output: None,
-                after: since,
-                rows,
-            }),
-            Some(entry) => {
-                self.accept(entry.number, since);
-                Ok(Attempt {
-                    output: Some(entry.output.copy(self.alloc)?),
-                    after: since.max(entry.number.saturating_add(1)),
-                    rows,
-                })
-            }
+/// Attempt `attempt` of an activity, which may begin after `since` completions.
+#[cycle(scopes)]
+fn attempt_of<'a>(
+    root: &Root<'a>,
+    depth: u32,
+    scope: &Scope<'a>,
+    entries: &[Entry<'a>],
+    activity: &'a Activity,
+    attempt: u64,
+    input: &Container,
+    since: u64,
+    ready: &mut [bool],
+) -> Result<Attempt, AllocError>
+    ensures { OfInside root.now.library.now.templates (LaidBelow root.now.library.now.templates depth) (Some activity.now) → IfOk result (λ r. IsAttempt root.now.library.now.templates depth (known_in root.now.most entries.now) scope.now.path activity.now attempt input.now r.output r.rows.items) }
+{
+    match &activity.work {
+        Work::Program(_) => {
+            program_attempt(root.alloc, entries, activity, attempt, since, ready)
+        }
+        Work::Block(_) => nested_attempt(
+            root, depth, scope, entries, activity, attempt, input, since, ready,
+        ),
+        Work::Process(_) => nested_attempt(
+            root, depth, scope, entries, activity, attempt, input, since, ready,
+        ),
+    }
+}
+
+/// What follows of an attempt that gave this.
+fn next_turn(
+    alloc: Global,
+    graph: &Graph,
+    place: u32,
+    activity: &Activity,
+    base: &Container,
+    attempt: u64,
+    output: Option<Container>,
+) -> Result<Turn, AllocError>
+    ensures { IsLooping graph.now → IfOk result (λ t. t ≡ turn_of graph.now place activity.now base.now attempt output) }
+{
+    let Some(output) = output else {
+        return Ok(Turn::Stops(goes_on(&activity.work, attempt), SourceEnd::Unsettled));
+    };
+    match next_attempt(&activity.exit, &output, attempt) {
+        Next::Finish => Ok(Turn::Stops(Fate::Finished(attempt), SourceEnd::Finished(output))),
+        Next::Again(_) => {
+            let base = base.copy(alloc)?;
+            let next = next_input(alloc, graph, place, base, &output)?;
+            Ok(Turn::GoesOn(next))
         }
     }
+}
 
-    /// Attempt `attempt` of a block or process activity: a scope that begins after `since` completions.
-    #[cycle(scopes)]
-    fn nested_attempt(
-        &mut self,
-        depth: u32,
-        scope: &Scope<'a>,
-        entries: &[Entry<'a>],
-        activity: &'a Activity,
-        attempt: u64,
-        input: &Container,
-        since: u64,
-    ) -> Result<Attempt, AllocError> {
-        let nothing = Attempt {
-            output: None,
-            after: since,
-            rows: Vec::new(self.alloc),
-        };
-        let Some(graph) = graph_of(self.library, &activity.work) else {
-            return Ok(nothing);
-        };
-        if depth == 0 {
-            return Ok(nothing);
-        }
-        let inner = entries_below(self.alloc, entries, activity.name.as_slice(), attempt)?;
-        let path = scope.below(self.alloc, activity, attempt)?;
-        let input = input.copy(self.alloc)?;
-        let below = Scope::new(self.alloc, graph, path, input, since, &inner)?;
-        let Passed { rows, output } = self.pass(depth - 1, below)?;
-        match output {
-            Some(completed) => Ok(Attempt {
-                output: Some(with_return_code(self.alloc, &completed.output)?),
-                after: completed.after,
-                rows,
-            }),
-            None => Ok(Attempt {
-                output: None,
-                after: since,
-                rows,
-            }),
-        }
-    }
-
-    #[cycle(scopes)]
-    fn attempt(
-        &mut self,
-        depth: u32,
-        scope: &Scope<'a>,
-        entries: &[Entry<'a>],
-        activity: &'a Activity,
-        attempt: u64,
-        input: &Container,
-        since: u64,
-    ) -> Result<Attempt, AllocError> {
-        match &activity.work {
-            Work::Program(_) => self.program_attempt(entries, activity, attempt, since),
-            Work::Block(_) => {
-                self.nested_attempt(depth, scope, entries, activity, attempt, input, since)
-            }
-            Work::Process(_) => {
-                self.nested_attempt(depth, scope, entries, activity, attempt, input, since)
-            }
-        }
-    }
-
-    /// The attempts of an activity whose join is true after `since` completions.
-    #[cycle(scopes)]
-    fn attempts(
-        &mut self,
-        depth: u32,
-        scope: &Scope<'a>,
-        place: u32,
-        activity: &'a Activity,
-        since: u64,
-    ) -> Result<Found, AllocError> {
-        let none = Vec::new(self.alloc);
-        let entries = scope.entries.get(place as usize).unwrap_or(&none);
-        let base = base_input(self.alloc, scope.graph, place, &scope.input, &scope.ends)?;
-        let mut input = base.copy(self.alloc)?;
-        let mut after = since;
-        let mut below = Vec::new(self.alloc);
-        for number in 1..self.most.saturating_add(2) {
-            let attempt = self.attempt(depth, scope, entries, activity, number, &input, after)?;
-            let Attempt {
-                output,
-                after: known,
-                rows,
-            } = attempt;
-            for row in rows {
-                below.push(row)?;
-            }
-            let Some(output) = output else {
-                return Ok(Found {
-                    fate: goes_on(&activity.work, number),
-                    end: SourceEnd::Unsettled,
-                    after: 0,
-                    below,
-                });
-            };
-            after = known;
-            if next_attempt(&activity.exit, &output, number) == Next::Finish {
-                return Ok(Found {
-                    fate: Fate::Finished(number),
-                    end: SourceEnd::Finished(output),
-                    after,
-                    below,
-                });
-            }
-            input = next_input(
-                self.alloc,
-                scope.graph,
-                place,
-                base.copy(self.alloc)?,
-                &output,
-            )?;
-        }
-        Ok(unsettled(
-            self.alloc,
-            goes_on(&activity.work, self.most.saturating_add(1)),
-        ))
-    }
-
-    /// What follows of the activity at a place, where its sources are known.
-    #[cycle(scopes)]
-    fn activity(
-        &mut self,
-        depth: u32,
-        scope: &Scope<'a>,
-        place: u32,
-        activity: &'a Activity,
-    ) -> Result<Found, AllocError> {
-        let (values, after) = scope.values(self.alloc, place)?;
-        match join(activity.join, &values) {
-            None => Ok(unsettled(self.alloc, Fate::Waiting)),
-            Some(false) => Ok(Found {
-                fate: Fate::Dead,
-                end: SourceEnd::Dead,
-                after,
-                below: Vec::new(self.alloc),
-            }),
-            Some(true) => match scope.fed_after(place) {
-                None => Ok(unsettled(self.alloc, goes_on(&activity.work, 1))),
-                Some(fed) => self.attempts(depth, scope, place, activity, after.max(fed)),
-            },
-        }
-    }
-
-    /// The pass over a scope in the order of its graph.
-    #[cycle(scopes)]
-    fn pass(&mut self, depth: u32, scope: Scope<'a>) -> Result<Passed, AllocError> {
-        let mut scope = scope;
-        let graph = scope.graph;
-        let mut fates = vec![in self.alloc; Fate::Waiting; graph.activities.len()]?;
-        let mut belows = Vec::new(self.alloc);
-        for _ in graph.activities.as_slice() {
-            belows.push(Vec::new(self.alloc))?;
-        }
-        for place in graph.wiring.order.as_slice() {
-            if let Some(activity) = graph.activities.as_slice().get(*place as usize) {
-                let found = self.activity(depth, &scope, *place, activity)?;
-                let Found {
+/// The attempts of an activity whose first one may begin after `since` completions.
+#[cycle(scopes)]
+fn attempts_from<'a>(
+    root: &Root<'a>,
+    depth: u32,
+    scope: &Scope<'a>,
+    entries: &[Entry<'a>],
+    place: u32,
+    activity: &'a Activity,
+    base: &Container,
+    since: u64,
+    ready: &mut [bool],
+) -> Result<Attempts, AllocError>
+    ensures { IsLooping scope.now.graph.now → OfInside root.now.library.now.templates (LaidBelow root.now.library.now.templates depth) (Some activity.now) → IfOk result (λ r. AreAttempts root.now.library.now.templates depth (known_in root.now.most entries.now) scope.now.graph.now scope.now.path place activity.now base.now r.fate r.end r.rows.items) }
+{
+    let alloc = root.alloc;
+    let mut input = base.copy(alloc)?;
+    let mut after = since;
+    let mut rows = Vec::new(alloc);
+    for number in 1..root.most + 1 {
+        let tried = attempt_of(
+            root, depth, scope, entries, activity, number, &input, after, ready,
+        )?;
+        let Attempt {
+            output,
+            after: known,
+            rows: mut below,
+        } = tried;
+        rows.append(&mut below)?;
+        after = known;
+        match next_turn(alloc, scope.graph, place, activity, base, number, output)? {
+            Turn::Stops(fate, end) => {
+                return Ok(Attempts {
                     fate,
                     end,
                     after,
-                    below,
-                } = found;
-                scope.settle(*place, end, after);
-                if let Some(known) = fates.get_mut(*place as usize) {
-                    *known = fate;
-                }
-                if let Some(rows) = belows.get_mut(*place as usize) {
-                    *rows = below;
-                }
+                    rows,
+                });
             }
+            Turn::GoesOn(next) => input = next,
         }
-        let rows = show(self.alloc, &scope, &fates, belows)?;
-        let output = match scope.complete_after() {
-            None => None,
-            Some(after) => Some(Completed {
-                output: output_of(self.alloc, graph, &scope.input, &scope.ends)?,
-                after,
-            }),
-        };
-        Ok(Passed { rows, output })
+    }
+    let number = root.most + 1;
+    let last = attempt_of(
+        root, depth, scope, entries, activity, number, &input, after, ready,
+    )?;
+    let Attempt {
+        output: _,
+        after: _,
+        rows: mut below,
+    } = last;
+    rows.append(&mut below)?;
+    Ok(Attempts {
+        fate: goes_on(&activity.work, number),
+        end: SourceEnd::Unsettled,
+        after: 0,
+        rows,
+    })
+}
+
+/// An activity with this fate and end, and no attempts.
+fn untried(alloc: Global, fate: Fate, end: SourceEnd, after: u64) -> Attempts
+    ensures { (result.fate ≡ fate) × (result.end ≡ end) × (result.rows.items ≡ []) }
+{
+    Attempts {
+        fate,
+        end,
+        after,
+        rows: Vec::new(alloc),
     }
 }
 
-fn into_output(completed: Completed) -> Container {
-    let Completed { output, after: _ } = completed;
-    output
+/// What comes of an activity whose join is true after `since` completions.
+#[cycle(scopes)]
+fn open_activity<'a>(
+    root: &Root<'a>,
+    depth: u32,
+    scope: &Scope<'a>,
+    ends: &[SourceEnd],
+    afters: &[u64],
+    place: u32,
+    activity: &'a Activity,
+    since: u64,
+    ready: &mut [bool],
+) -> Result<Attempts, AllocError>
+    ensures { IsLaid scope.now.graph.now → OfInside root.now.library.now.templates (LaidBelow root.now.library.now.templates depth) (Some activity.now) → IfOk result (λ r. IsOpen root.now.library.now.templates depth (known_in root.now.most scope.now.entries.items) scope.now.graph.now scope.now.input scope.now.path (ends_of ends.now) place activity.now r.fate r.end r.rows.items) }
+{
+    let graph = scope.graph;
+    if !is_fed(graph, ends, place) {
+        let fate = goes_on(&activity.work, 1);
+        return Ok(untried(root.alloc, fate, SourceEnd::Unsettled, 0));
+    }
+    let since = fed_after(graph, afters, place, since);
+    let entries = entries_of_activity(root.alloc, &scope.entries, activity.name.as_slice())?;
+    let base = first_input(root.alloc, graph, activity, place, &scope.input, ends)?;
+    attempts_from(
+        root, depth, scope, &entries, place, activity, &base, since, ready,
+    )
 }
 
-/// The rows of a scope in text order, each with those below its activity.
-fn show(
+/// What is found of an activity: its own row before those below it.
+fn with_row(
     alloc: Global,
-    scope: &Scope<'_>,
-    fates: &[Fate],
-    belows: Vec<Vec<FateRow>>,
-) -> Result<Vec<FateRow>, AllocError> {
+    scope: &Path,
+    activity: &Activity,
+    tried: Attempts,
+) -> Result<Found, AllocError>
+    ensures { IfOk result (λ f. (f.end ≡ tried.end) × (f.rows.items ≡ record { scope = scope.now; name = activity.now.name; fate = tried.fate } ∷ tried.rows.items)) }
+{
+    let Attempts {
+        fate,
+        end,
+        after,
+        rows: mut below,
+    } = tried;
     let mut rows = Vec::new(alloc);
-    let mut place = 0usize;
-    for below in belows {
-        if let (Some(activity), Some(fate)) = (
-            scope.graph.activities.as_slice().get(place),
-            fates.get(place),
-        ) {
-            rows.push(FateRow {
-                scope: scope.path.copy(alloc)?,
-                name: activity.name.copy(alloc)?,
-                fate: *fate,
-            })?;
+    rows.push(FateRow {
+        scope: scope.copy(alloc)?,
+        name: activity.name.copy(alloc)?,
+        fate,
+    })?;
+    rows.append(&mut below)?;
+    Ok(Found { end, after, rows })
+}
+
+/// What follows of the activity at a place, where its sources are known.
+#[cycle(scopes)]
+fn activity<'a>(
+    root: &Root<'a>,
+    depth: u32,
+    scope: &Scope<'a>,
+    ends: &[SourceEnd],
+    afters: &[u64],
+    place: u32,
+    activity: &'a Activity,
+    ready: &mut [bool],
+) -> Result<Found, AllocError>
+    ensures { IsLaid scope.now.graph.now → OfInside root.now.library.now.templates (LaidBelow root.now.library.now.templates depth) (Some activity.now) → IfOk result (λ f. IsFound root.now.library.now.templates depth (known_in root.now.most scope.now.entries.items) scope.now.graph.now scope.now.input scope.now.path (ends_of ends.now) place (Some activity.now) f.end f.rows.items) }
+{
+    let alloc = root.alloc;
+    let values = values(alloc, scope.graph, ends, place)?;
+    let since = joined_after(scope.graph, afters, place, scope.since);
+    match join(activity.join, &values) {
+        None => {
+            let waiting = untried(alloc, Fate::Waiting, SourceEnd::Unsettled, 0);
+            with_row(alloc, &scope.path, activity, waiting)
         }
-        for row in below {
-            rows.push(row)?;
+        Some(false) => {
+            let dead = untried(alloc, Fate::Dead, SourceEnd::Dead, since);
+            with_row(alloc, &scope.path, activity, dead)
         }
-        place = place.saturating_add(1);
+        Some(true) => {
+            let tried = open_activity(
+                root, depth, scope, ends, afters, place, activity, since, ready,
+            )?;
+            with_row(alloc, &scope.path, activity, tried)
+        }
+    }
+}
+
+/// What is found of the activity at a place, if there is one.
+#[cycle(scopes)]
+fn found_at<'a>(
+    root: &Root<'a>,
+    depth: u32,
+    scope: &Scope<'a>,
+    ends: &[SourceEnd],
+    afters: &[u64],
+    place: u32,
+    ready: &mut [bool],
+) -> Result<Found, AllocError>
+    ensures { Laid root.now.library.now.templates depth scope.now.graph.now → IfOk result (λ f. IsFound root.now.library.now.templates depth (known_in root.now.most scope.now.entries.items) scope.now.graph.now scope.now.input scope.now.path (ends_of ends.now) place (slice_get (out-Graph scope.now.graph.now).activities place) f.end f.rows.items) }
+{
+    match scope.graph.activities.as_slice().get(place as usize) {
+        None => Ok(Found {
+            end: SourceEnd::Unsettled,
+            after: 0,
+            rows: Vec::new(root.alloc),
+        }),
+        Some(found) => activity(root, depth, scope, ends, afters, place, found, ready),
+    }
+}
+
+/// So many activities of which nothing is known.
+fn unsettled(alloc: Global, count: usize) -> Result<Vec<SourceEnd>, AllocError>
+    ensures { IfOk result (λ v. v.items ≡ replicate count Unsettled) }
+{
+    let mut ends = Vec::new(alloc);
+    for _ in 0..count {
+        ends.push(SourceEnd::Unsettled)?;
+    }
+    Ok(ends)
+}
+
+/// So many lists without rows.
+fn unshown(alloc: Global, count: usize) -> Result<Vec<Vec<FateRow>>, AllocError>
+    ensures { IfOk result (λ v. length v.items ≡ count) }
+{
+    let mut rows = Vec::new(alloc);
+    for _ in 0..count {
+        rows.push(Vec::new(alloc))?;
     }
     Ok(rows)
+}
+
+/// The rows of all activities, in text order.
+fn joined(alloc: Global, rows: Vec<Vec<FateRow>>) -> Result<Vec<FateRow>, AllocError>
+    ensures { IfOk result (λ v. v.items ≡ flat_map (λ r. r.items) rows.items) }
+{
+    let mut all = Vec::new(alloc);
+    for mut below in rows {
+        all.append(&mut below)?;
+    }
+    Ok(all)
+}
+
+/// The output of a scope, once it is complete.
+fn complete_output(
+    alloc: Global,
+    graph: &Graph,
+    input: &Container,
+    ends: &[SourceEnd],
+) -> Result<Option<Container>, AllocError>
+    ensures { IsSinking graph.now → length ends.now ≡ length (out-Graph graph.now).activities → IfOk result (λ o. o ≡ output_by graph.now input.now (ends_of ends.now)) }
+{
+    if is_complete(ends) {
+        Ok(Some(output_of(alloc, graph, input, ends)?))
+    } else {
+        Ok(None)
+    }
+}
+
+/// The pass over a scope in the order of its graph.
+#[cycle(scopes)]
+fn pass<'a>(
+    root: &Root<'a>,
+    depth: u32,
+    scope: &Scope<'a>,
+    ready: &mut [bool],
+) -> Result<Passed, AllocError>
+    ensures { Laid root.now.library.now.templates depth scope.now.graph.now → IfOk result (λ r. IsPassed root.now.library.now.templates depth (known_in root.now.most scope.now.entries.items) scope.now.graph.now scope.now.input scope.now.path r.output r.rows.items) }
+{
+    let alloc = root.alloc;
+    let count = scope.graph.activities.len();
+    let mut ends = unsettled(alloc, count)?;
+    let mut afters = vec![in alloc; scope.since; count]?;
+    let mut rows = unshown(alloc, count)?;
+    for place in scope.graph.wiring.order.as_slice() {
+        let Found {
+            end,
+            after,
+            rows: shown,
+        } = found_at(root, depth, scope, &ends, &afters, *place, ready)?;
+        put(&mut ends, *place, end);
+        put(&mut afters, *place, after);
+        put(&mut rows, *place, shown);
+    }
+    Ok(Passed {
+        rows: joined(alloc, rows)?,
+        output: complete_output(alloc, scope.graph, &scope.input, &ends)?,
+        after: complete_after(&afters, scope.since),
+    })
+}
+
+/// The fates of a root of a graph that nests at most so deep.
+fn root_fates(
+    alloc: Global,
+    library: &Library,
+    depth: u32,
+    graph: &Graph,
+    root: u64,
+    input: &Container,
+    facts: &[Fact],
+) -> Result<Fates, FateFault>
+    ensures { Laid library.now.templates depth graph.now → IfOk result (λ v. AreFates library.now.templates depth graph.now root input.now facts.now v.rows v.output) }
+{
+    let scope = Scope {
+        graph,
+        path: Path {
+            root,
+            parts: List::new(alloc),
+        },
+        input: input.copy(alloc)?,
+        since: 0,
+        entries: entries_of(alloc, facts)?,
+    };
+    let root = Root {
+        alloc,
+        library,
+        most: facts.len() as u64,
+    };
+    let mut ready = vec![in alloc; false; facts.len()]?;
+    let Passed {
+        rows,
+        output,
+        after: _,
+    } = pass(&root, depth, &scope, &mut ready)?;
+    if let Some(number) = ready.iter().position(|ready| !*ready) {
+        return Err(FateFault::NotReady(number as u64));
+    }
+    Ok(Fates {
+        rows: List::from_vec(rows),
+        output,
+    })
 }
 
 /// The fates of a root of a template, from its input and the accepted completions alone.
@@ -469,32 +637,14 @@ pub fn fates(
     root: u64,
     input: &Container,
     facts: &[Fact],
-) -> Result<Fates, FateFault> {
-    let Some(template) = library.templates.as_slice().get(template as usize) else {
-        return Ok(Fates {
+) -> Result<Fates, FateFault>
+    ensures { (t : Template) → slice_get library.now.templates template ≡ Some t → Laid library.now.templates deepest t.graph → IfOk result (λ v. AreFates library.now.templates deepest t.graph root input.now facts.now v.rows v.output) }
+{
+    match library.templates.as_slice().get(template as usize) {
+        None => Ok(Fates {
             rows: List::new(alloc),
             output: None,
-        });
-    };
-    let entries = entries_of(alloc, facts)?;
-    let path = Path {
-        root,
-        parts: List::new(alloc),
-    };
-    let mut evaluation = Evaluation {
-        alloc,
-        library,
-        most: facts.len() as u64,
-        ready: vec![in alloc; false; facts.len()]?,
-    };
-    let input = input.copy(alloc)?;
-    let scope = Scope::new(alloc, &template.graph, path, input, 0, &entries)?;
-    let Passed { rows, output } = evaluation.pass(DEEPEST, scope)?;
-    if let Some(number) = evaluation.ready.iter().position(|ready| !*ready) {
-        return Err(FateFault::NotReady(number as u64));
+        }),
+        Some(template) => root_fates(alloc, library, DEEPEST, &template.graph, root, input, facts),
     }
-    Ok(Fates {
-        rows: List::from_vec(rows),
-        output: output.map(|completed| into_output(completed)),
-    })
 }

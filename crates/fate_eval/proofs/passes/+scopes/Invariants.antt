@@ -1,0 +1,41 @@
+use Rattle.std.proofs.Common.{◌+◌, ◌*◌, Some}
+use Rattle.blocks_subprocs.specs.Wiring.{IsLooping}
+use Rattle.fate_eval.proofs.InOrder.{Passes}
+use Rattle.fate_eval.proofs.Turns.{Goes}
+use Rattle.fate_eval.specs.Entries.{known_in}
+use Rattle.fate_eval.specs.Passing.{OfInside, Laid, LaidBelow}
+use Rattle.fate_eval.proofs.passes.+scopes.Given as goal
+
+abbrev pub decreases-scope_attempt : goal.decreases-scope_attempt
+decreases-scope_attempt l = 8 * l.depth + 8
+
+abbrev pub decreases-pass : goal.decreases-pass
+decreases-pass l = 8 * l.depth + 7
+
+abbrev pub decreases-found_at : goal.decreases-found_at
+decreases-found_at l = 8 * l.depth + 6
+
+abbrev pub decreases-activity : goal.decreases-activity
+decreases-activity l = 8 * l.depth + 5
+
+abbrev pub decreases-open_activity : goal.decreases-open_activity
+decreases-open_activity l = 8 * l.depth + 4
+
+abbrev pub decreases-attempts_from : goal.decreases-attempts_from
+decreases-attempts_from l = 8 * l.depth + 3
+
+abbrev pub decreases-attempt_of : goal.decreases-attempt_of
+decreases-attempt_of l = 8 * l.depth + 2
+
+abbrev pub decreases-nested_attempt : goal.decreases-nested_attempt
+decreases-nested_attempt l = 8 * l.depth + 1
+
+abbrev pub invariant-attempts_from-loop-number : goal.invariant-attempts_from-loop-number
+invariant-attempts_from-loop-number l =
+    IsLooping l.scope.graph.now → OfInside l.root.library.now.templates (LaidBelow l.root.library.now.templates l.depth) (Some l.activity)
+    → Goes l.root.library.now.templates l.depth (known_in l.root.most l.entries) l.scope.graph.now l.scope.path l.place l.activity l.base l.number l.input l.rows.items
+
+abbrev pub invariant-pass-loop-place : goal.invariant-pass-loop-place
+invariant-pass-loop-place l =
+    Laid l.root.library.now.templates l.depth l.scope.graph.now
+    → Passes l.root.library.now.templates l.depth l.root.most l.scope.entries.items l.scope.graph.now l.scope.input l.scope.path (λ r. r.items) l.place-index l.ends.items l.rows.items
