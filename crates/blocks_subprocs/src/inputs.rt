@@ -6,11 +6,11 @@ ghost use Rattle.flow_model.specs.Containers.{fresh as fresh_container, mapped};
 ghost use Rattle.flow_model.specs.ScopeContainers.{brought as what_brings, mapped_if, fed, looped, base_of};
 ghost use Rattle.flow_model.specs.declared.graphs.Graph.{out-Graph};
 ghost use Rattle.flow_model.specs.declared.graphs.MapEnd.TheVariants.{Border};
-ghost use Rattle.dead_paths.specs.Wiring.{row_at};
 ghost use Rattle.blocks_subprocs.specs.Ends.{ends_of};
 ghost use Rattle.blocks_subprocs.specs.Wiring.{IsFeeding, IsSinking, IsLooping};
 
 use containers::{apply_maps, fresh};
+use dead_paths::row;
 use flow_model::{Activity, Container, DataLine, Graph, List, LoopLine, MapEnd, SourceEnd};
 use std::alloc::{AllocError, Global};
 
@@ -82,16 +82,6 @@ fn with_lines(
         changed = with_line_at(alloc, lines, *place, scope_input, ends, changed)?;
     }
     Ok(changed)
-}
-
-/// The row of the activity at a place; empty where there is none.
-fn row(rows: &[List<u32>], place: u32) -> &[u32]
-    ensures { result.now ≡ row_at rows.now place }
-{
-    match rows.get(place as usize) {
-        Some(row) => row.as_slice(),
-        None => &[],
-    }
 }
 
 /// The input of attempt 1 of an activity: a fresh container with the lines that lead there.

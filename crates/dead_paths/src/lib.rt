@@ -6,6 +6,8 @@
 
 mod joins;
 mod signals;
+mod wiring;
 
 pub use joins::{Tally, join};
 pub use signals::{connector_value, signals_of};
+pub use wiring::row;

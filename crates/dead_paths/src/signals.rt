@@ -4,22 +4,13 @@ ghost use Rattle.std.specs.List.{list_any};
 ghost use Rattle.std.specs.Option.{option_map_or, option_to_list};
 ghost use Rattle.flow_model.specs.Fates.{connector_value as value_of, truth_of, when_true};
 ghost use Rattle.flow_model.specs.declared.graphs.Graph.{out-Graph};
-ghost use Rattle.dead_paths.specs.Wiring.{IsOutgoing, row_at};
+ghost use Rattle.dead_paths.specs.Wiring.{IsOutgoing};
 ghost use Rattle.dead_paths.specs.Signals.{signal as signal_between, signal_of, signals as signals_after};
 
+use crate::wiring::row;
 use conditions::value;
 use flow_model::{Container, Control, Graph, List, Message, Path, SourceEnd, When};
 use std::alloc::{AllocError, Global};
-
-/// The places of the connectors that leave an activity.
-fn outgoing(graph: &Graph, source: u32) -> &[u32]
-    ensures { result.now ≡ row_at (out-Graph graph.now).wiring.outgoing source }
-{
-    match graph.wiring.outgoing.as_slice().get(source as usize) {
-        Some(row) => row.as_slice(),
-        None => &[],
-    }
-}
 
 /// Whether a transition condition is a WHEN that is true on this output.
 fn is_true_when(when: &When, output: &Container) -> bool
@@ -59,7 +50,7 @@ fn truth(graph: &Graph, control: &Control, output: &Container) -> bool
         When::Always => true,
         When::Cond(condition) => value(condition, output),
         When::Otherwise => {
-            let places = outgoing(graph, control.from);
+            let places = row(graph.wiring.outgoing.as_slice(), control.from);
             !some_when(graph.controls.as_slice(), places, output)
         }
     }
@@ -154,7 +145,7 @@ pub fn signals_of(
     ensures { IsOutgoing graph.now → IfOk result (λ signals. signals ≡ signals_after graph.now scope.now activity end.now) }
 {
     let mut signals = List::new(alloc);
-    for place in outgoing(graph, activity) {
+    for place in row(graph.wiring.outgoing.as_slice(), activity) {
         let message = signal_at(alloc, graph, scope, *place, end)?;
         add(&mut signals, message)?;
     }

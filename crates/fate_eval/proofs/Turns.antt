@@ -18,7 +18,7 @@ use Rattle.flow_model.specs.declared.instances.FateRow.{FateRow}
 use Rattle.flow_model.specs.declared.instances.Path.{Path}
 use Rattle.flow_model.specs.declared.instances.SourceEnd.{SourceEnd}
 use Rattle.flow_model.specs.declared.instances.SourceEnd.TheVariants as end
-use Rattle.fate_eval.specs.Passing.{IsAttempt, AreAttempts, rows_inside, turn_of}
+use Rattle.fate_eval.specs.Passing.{IsAttempt, IsLast, AreAttempts, rows_inside, turn_of}
 use Rattle.fate_eval.specs.declared.passes.Turn.TheVariants.{Stops, GoesOn}
 
 abbrev fate_then : Trial → Work → ℕ → Option Container → (Container → Fate) → Fate
@@ -211,18 +211,18 @@ module _ (ts : List Template) (depth : ℕ) (k : Known) (g : Graph) (s : Path) (
       go false = refl
 
   -- the attempt behind the last one that counts
-  pub goes_last : (j : ℕ) (input : Container) (rows : List FateRow) (out : Option Container) (r : List FateRow)
-      → Goes j input rows → j ≡ k.most + 1 → IsAttempt ts depth k s activity j input out r
-      → AreAttempts ts depth k g s a activity base (goes_on activity.work j) end.Unsettled (rows ++ r)
-  goes_last j input rows out r goes last attempt = go goes.left goes.count goes.fate goes.end goes.shown
+  pub goes_last : (j : ℕ) (input : Container) (before : List FateRow) (f : Fate) (e : SourceEnd) (r : List FateRow)
+      → Goes j input before → j ≡ k.most + 1 → IsLast ts depth k s activity j input before f e r
+      → AreAttempts ts depth k g s a activity base f e r
+  goes_last j input before f e r goes last is = go goes.left goes.count goes.fate goes.end goes.shown
     where
       go : (left : ℕ) → left + j ≡ suc k.most → fate_from left give t activity.work j input ≡ fate_from k.most give t activity.work 1 base
           → end_from left give t j input ≡ end_from k.most give t 1 base
-          → rows ++ rows_of (starts (suc left) give t j input) ≡ rows_of (starts (suc k.most) give t 1 base)
-          → AreAttempts ts depth k g s a activity base (goes_on activity.work j) end.Unsettled (rows ++ r)
+          → before ++ rows_of (starts (suc left) give t j input) ≡ rows_of (starts (suc k.most) give t 1 base)
+          → AreAttempts ts depth k g s a activity base f e r
       go (suc left) count fate ending shown = absurd (omega arith)
       go zero count fate ending shown =
           let start : Start = record { attempt = j; input = input } in
           let no_more : then_start t (give j input) (λ o. starts zero give t (j + 1) (t.loops o)) ≡ [] = none (give j input) in
-          come_to (goes_on activity.work j) end.Unsettled (rows ++ r) (sym fate) (sym ending)
-          (rw attempt.shown (ap (λ xs. rows ++ rows_of (start ∷ xs)) (sym no_more) ∙ shown))
+          come_to f e r (sym fate ∙ sym is.fate) (sym ending ∙ sym is.ending)
+          (is.shown ∙ ap (λ xs. before ++ rows_of (start ∷ xs)) (sym no_more) ∙ shown)

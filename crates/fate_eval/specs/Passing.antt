@@ -1,5 +1,5 @@
 -- The graphs that a pass goes through, and what it finds of an activity and of an attempt.
-use Rattle.std.specs.Prelude.{◌≡◌, ℕ, zero, suc, ◌&&◌, true, if◌then◌else◌, Option, Some, None, List, [], ◌∷◌, length, slice_get}
+use Rattle.std.specs.Prelude.{◌≡◌, ℕ, zero, suc, ◌&&◌, true, if◌then◌else◌, Option, Some, None, List, [], ◌∷◌, ◌++◌, length, slice_get}
 use Rattle.std.specs.List.{last_or}
 use Rattle.blocks_subprocs.specs.Wiring.{IsFeeding, IsSinking, IsLooping}
 use Rattle.dead_paths.specs.Wiring.{IsIncoming, IsOutgoing}
@@ -63,6 +63,12 @@ rows_inside ts (suc depth) k g input s = rows_in ts depth k g input s
 pub record IsAttempt (ts : List Template) (depth : ℕ) (k : Known) (s : Path) (activity : Activity) (j : ℕ) (input : Container) (out : Option Container) (rows : List FateRow) : Type 0 where
   pub gave : out ≡ gives ts k (output_of_scope ts depth) activity.name activity.work j input
   pub shown : rows ≡ rows_below (rows_inside ts depth) k activity (graph_in ts activity.work) (record { attempt = j; input = input } ∷ []) s
+
+-- what comes of an activity at an attempt that doesn't count, with the rows below those before it
+pub record IsLast (ts : List Template) (depth : ℕ) (k : Known) (s : Path) (activity : Activity) (j : ℕ) (input : Container) (before : List FateRow) (f : Fate) (e : SourceEnd) (rows : List FateRow) : Type 0 where
+  pub fate : f ≡ goes_on activity.work j
+  pub ending : e ≡ end.Unsettled
+  pub shown : rows ≡ before ++ rows_below (rows_inside ts depth) k activity (graph_in ts activity.work) (record { attempt = j; input = input } ∷ []) s
 
 -- what comes of an activity whose attempts start on this input, and the rows below it
 pub record AreAttempts (ts : List Template) (depth : ℕ) (k : Known) (g : Graph) (s : Path) (a : ℕ) (activity : Activity) (base : Container) (f : Fate) (e : SourceEnd) (rows : List FateRow) : Type 0 where

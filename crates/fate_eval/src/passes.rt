@@ -13,7 +13,7 @@ ghost use Rattle.flow_model.specs.declared.instances.SourceEnd.TheVariants.{Unse
 ghost use Rattle.blocks_subprocs.specs.Ends.{ends_of};
 ghost use Rattle.blocks_subprocs.specs.Wiring.{IsLooping, IsSinking};
 ghost use Rattle.fate_eval.specs.Entries.{output_in, known_in};
-ghost use Rattle.fate_eval.specs.Passing.{IsLaid, OfInside, Laid, LaidBelow, IsAttempt, IsScopeAttempt, AreAttempts, IsOpen, IsFound, IsPassed, AreFates, turn_of};
+ghost use Rattle.fate_eval.specs.Passing.{IsLaid, OfInside, Laid, LaidBelow, IsAttempt, IsScopeAttempt, IsLast, AreAttempts, IsOpen, IsFound, IsPassed, AreFates, turn_of};
 
 use crate::accepted::{Entry, completion, entries_below, entries_of, entries_of_activity};
 use crate::results::{FateFault, Fates};
@@ -321,6 +321,40 @@ fn next_turn(
     }
 }
 
+/// The attempt behind the last one that counts, with the rows before it: it stops the activity.
+#[cycle(scopes)]
+fn last_attempt<'a>(
+    root: &Root<'a>,
+    depth: u32,
+    scope: &Scope<'a>,
+    entries: &[Entry<'a>],
+    activity: &'a Activity,
+    input: &Container,
+    since: u64,
+    ready: &mut [bool],
+    before: Vec<FateRow>,
+) -> Result<Attempts, AllocError>
+    ensures { OfInside root.now.library.now.templates (LaidBelow root.now.library.now.templates depth) (Some activity.now) → IfOk result (λ r. IsLast root.now.library.now.templates depth (known_in root.now.most entries.now) scope.now.path activity.now (root.now.most + 1) input.now before.items r.fate r.end r.rows.items) }
+{
+    let number = root.most + 1;
+    let last = attempt_of(
+        root, depth, scope, entries, activity, number, input, since, ready,
+    )?;
+    let Attempt {
+        output: _,
+        after: _,
+        rows: mut below,
+    } = last;
+    let mut rows = before;
+    rows.append(&mut below)?;
+    Ok(Attempts {
+        fate: goes_on(&activity.work, number),
+        end: SourceEnd::Unsettled,
+        after: 0,
+        rows,
+    })
+}
+
 /// The attempts of an activity whose first one may begin after `since` completions.
 #[cycle(scopes)]
 fn attempts_from<'a>(
@@ -363,22 +397,9 @@ fn attempts_from<'a>(
             Turn::GoesOn(next) => input = next,
         }
     }
-    let number = root.most + 1;
-    let last = attempt_of(
-        root, depth, scope, entries, activity, number, &input, after, ready,
-    )?;
-    let Attempt {
-        output: _,
-        after: _,
-        rows: mut below,
-    } = last;
-    rows.append(&mut below)?;
-    Ok(Attempts {
-        fate: goes_on(&activity.work, number),
-        end: SourceEnd::Unsettled,
-        after: 0,
-        rows,
-    })
+    last_attempt(
+        root, depth, scope, entries, activity, &input, after, ready, rows,
+    )
 }
 
 /// An activity with this fate and end, and no attempts.

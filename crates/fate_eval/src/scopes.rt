@@ -4,24 +4,14 @@ ghost use Rattle.std.specs.List.{filter, list_all};
 ghost use Rattle.std.specs.Option.{option_map, option_map_or, option_to_list};
 ghost use Rattle.blocks_subprocs.specs.Ends.{ends_of};
 ghost use Rattle.blocks_subprocs.specs.Wiring.{IsFeeding};
-ghost use Rattle.dead_paths.specs.Wiring.{IsIncoming, IsOutgoing, row_at};
+ghost use Rattle.dead_paths.specs.Wiring.{IsIncoming, IsOutgoing};
 ghost use Rattle.flow_model.specs.Fates.{connector_value as value_by, is_settled as is_settled_end};
 ghost use Rattle.flow_model.specs.Scopes.{is_fed as are_settled, is_ready_source as is_settled_source};
 ghost use Rattle.flow_model.specs.declared.graphs.Graph.{out-Graph};
 
-use dead_paths::connector_value;
+use dead_paths::{connector_value, row};
 use flow_model::{Control, DataLine, Graph, List, MapEnd, SourceEnd};
 use std::alloc::{AllocError, Global};
-
-/// The row of the activity at a place; empty where there is none.
-fn row(rows: &[List<u32>], place: u32) -> &[u32]
-    ensures { result.now ≡ row_at rows.now place }
-{
-    match rows.get(place as usize) {
-        Some(row) => row.as_slice(),
-        None => &[],
-    }
-}
 
 /// The value of a connector.
 fn value_of(graph: &Graph, ends: &[SourceEnd], control: &Control) -> Option<bool>

@@ -18,6 +18,6 @@ pub returns : goal.returns
 returns c = λ wired.
     let controls = (out-Graph c.args.graph.now).controls in
     let h = signal_of c.args.graph.now c.args.scope.now c.args.end.now in
-    let all : c.loop-place.signals ≡ filter_map (λ p. option_and_then h (slice_get controls p)) c.outgoing-place-items.result.now = grind (arith, common_steps, c.loop-place.invariant wired) in
+    let all : c.loop-place.signals ≡ filter_map (λ p. option_and_then h (slice_get controls p)) c.row-place-items.result.now = grind (arith, common_steps, c.loop-place.invariant wired) in
     all ∙ found_at h controls _ ∙ ap (filter_map h)
-    (rw (c.outgoing-place-items.ensures, wired c.args.activity) (at_places_are (λ d. d.from == c.args.activity) controls))
+    (rw (c.row-place-items.ensures, c.as_slice.ensures, wired c.args.activity) (at_places_are (λ d. d.from == c.args.activity) controls))

@@ -12,5 +12,5 @@ returns-in-Otherwise c = λ wired.
     let f = λ (d : Control). when_true d.when c.args.output.now in
     rw c.in-Otherwise.is
     (ap not (c.some_when.ensures
-    ∙ rw (c.as_slice.ensures, c.outgoing-places.ensures, wired c.args.control.now.from)
+    ∙ rw (c.as_slice-in-Otherwise.ensures, c.row-places.ensures, c.as_slice.ensures, wired c.args.control.now.from)
     (any_at f controls _ ∙ rw (at_places_are (λ d. d.from == c.args.control.now.from) controls) (any_filter (λ d. d.from == c.args.control.now.from) f controls))))

@@ -29,8 +29,8 @@ attempts_from-loop-number-preserved t c = λ looping inside.
 pub attempts_from-returns : goal.attempts_from-returns
 attempts_from-returns t c = λ looping inside.
     let last : c.loop-number.number ≡ c.args.root.now.most + 1 = omega arith in
-    rw (c.goes_on.ensures, c.in_ok-append-2.ensures.items)
-    (goes_last _ _ _ _ _ _ _ _ _ _ _ _ _ (rw last at (c.loop-number.invariant looping inside)) refl (c.in_ok-last.ensures inside))
+    if_ok c.last_attempt.result (c.last_attempt.ensures inside)
+    (λ r is. goes_last _ _ _ _ _ _ _ _ _ _ _ r.fate r.end r.rows.items (rw last at (c.loop-number.invariant looping inside)) refl is)
 
 pub found_at-returns-in-Some : goal.found_at-returns-in-Some
 found_at-returns-in-Some t c = λ laid.

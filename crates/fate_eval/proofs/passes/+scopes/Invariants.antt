@@ -7,28 +7,31 @@ use Rattle.fate_eval.specs.Passing.{OfInside, Laid, LaidBelow}
 use Rattle.fate_eval.proofs.passes.+scopes.Given as goal
 
 abbrev pub decreases-scope_attempt : goal.decreases-scope_attempt
-decreases-scope_attempt l = 8 * l.depth + 8
+decreases-scope_attempt l = 9 * l.depth + 9
 
 abbrev pub decreases-pass : goal.decreases-pass
-decreases-pass l = 8 * l.depth + 7
+decreases-pass l = 9 * l.depth + 8
 
 abbrev pub decreases-found_at : goal.decreases-found_at
-decreases-found_at l = 8 * l.depth + 6
+decreases-found_at l = 9 * l.depth + 7
 
 abbrev pub decreases-activity : goal.decreases-activity
-decreases-activity l = 8 * l.depth + 5
+decreases-activity l = 9 * l.depth + 6
 
 abbrev pub decreases-open_activity : goal.decreases-open_activity
-decreases-open_activity l = 8 * l.depth + 4
+decreases-open_activity l = 9 * l.depth + 5
 
 abbrev pub decreases-attempts_from : goal.decreases-attempts_from
-decreases-attempts_from l = 8 * l.depth + 3
+decreases-attempts_from l = 9 * l.depth + 4
+
+abbrev pub decreases-last_attempt : goal.decreases-last_attempt
+decreases-last_attempt l = 9 * l.depth + 3
 
 abbrev pub decreases-attempt_of : goal.decreases-attempt_of
-decreases-attempt_of l = 8 * l.depth + 2
+decreases-attempt_of l = 9 * l.depth + 2
 
 abbrev pub decreases-nested_attempt : goal.decreases-nested_attempt
-decreases-nested_attempt l = 8 * l.depth + 1
+decreases-nested_attempt l = 9 * l.depth + 1
 
 abbrev pub invariant-attempts_from-loop-number : goal.invariant-attempts_from-loop-number
 invariant-attempts_from-loop-number l =
