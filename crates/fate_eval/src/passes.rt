@@ -1,5 +1,5 @@
 //! The recursion over scopes.
-ghost use Rattle.std.specs.Prelude.{◌≡◌, ◌<◌, ◌+◌, ◌^◌, ◌∷◌, [], ◌++◌, ℕ, Option, List, Some, None, slice_get, slice_set, length, IfOk, OnOk, replicate};
+ghost use Rattle.std.specs.Prelude.{◌≡◌, ◌<◌, ◌+◌, ◌^◌, ◌∷◌, [], ◌++◌, ℕ, Option, List, Some, None, slice_get, slice_set, length, IfOk, IfErr, OnOk, replicate};
 ghost use Rattle.std.specs.List.{flat_map};
 ghost use Rattle.std.specs.Option.{option_map};
 ghost use Rattle.flow_model.specs.Fates.{goes_on as next_try};
@@ -13,6 +13,7 @@ ghost use Rattle.flow_model.specs.declared.instances.SourceEnd.TheVariants.{Unse
 ghost use Rattle.blocks_subprocs.specs.Ends.{ends_of};
 ghost use Rattle.blocks_subprocs.specs.Wiring.{IsLooping, IsSinking};
 ghost use Rattle.fate_eval.specs.Entries.{output_in, known_in};
+ghost use Rattle.fate_eval.specs.Refusals.{IsWithin};
 ghost use Rattle.fate_eval.specs.Passing.{IsLaid, OfInside, Laid, LaidBelow, IsAttempt, IsScopeAttempt, IsLast, AreAttempts, IsOpen, IsFound, IsPassed, AreFates, turn_of};
 
 use crate::accepted::{Entry, completion, entries_below, entries_of, entries_of_activity};
@@ -616,7 +617,8 @@ fn root_fates(
     input: &Container,
     facts: &[Fact],
 ) -> Result<Fates, FateFault>
-    ensures { Laid library.now.templates depth graph.now → IfOk result (λ v. AreFates library.now.templates depth graph.now root input.now facts.now v.rows v.output) }
+    ensures exact { Laid library.now.templates depth graph.now → IfOk result (λ v. AreFates library.now.templates depth graph.now root input.now facts.now v.rows v.output) }
+    ensures within { IfErr result (IsWithin (length facts.now)) }
 {
     let scope = Scope {
         graph,
@@ -659,7 +661,8 @@ pub fn fates(
     input: &Container,
     facts: &[Fact],
 ) -> Result<Fates, FateFault>
-    ensures { (t : Template) → slice_get library.now.templates template ≡ Some t → Laid library.now.templates deepest t.graph → IfOk result (λ v. AreFates library.now.templates deepest t.graph root input.now facts.now v.rows v.output) }
+    ensures exact { (t : Template) → slice_get library.now.templates template ≡ Some t → Laid library.now.templates deepest t.graph → IfOk result (λ v. AreFates library.now.templates deepest t.graph root input.now facts.now v.rows v.output) }
+    ensures within { IfErr result (IsWithin (length facts.now)) }
 {
     match library.templates.as_slice().get(template as usize) {
         None => Ok(Fates {

@@ -2,8 +2,8 @@ use Rattle.std.proofs.Common.{◌≡◌, Some, refl, sym, ◌∙◌}
 use Rattle.std.proofs.lemmas.Option.{slice_get_read}
 use Rattle.fate_eval.proofs.passes.fates.Goals as goal
 
-pub returns-in-Some : goal.returns-in-Some
-returns-in-Some c = λ t there laid.
+pub returns-in-Some-clause-exact : goal.returns-in-Some-clause-exact
+returns-in-Some-clause-exact c = λ t there laid.
     let found = rw c.as_slice.ensures at (slice_get_read c.as_slice.result.now _ c.args.template c.in-Some.template.now refl c.in-Some.ensures.lookup.3.0 c.in-Some.ensures.lookup.1) in
     let same : t ≡ c.in-Some.template.now = (let both : Some t ≡ Some c.in-Some.template.now = sym there ∙ found in cc) in
-    rw same (c.root_fates.ensures (rw same at laid))
+    rw same (c.root_fates.ensures.exact (rw same at laid))
