@@ -11,3 +11,6 @@ mod scopes;
 
 pub use passes::fates;
 pub use results::{FateFault, Fates};
+
+#[cfg(test)]
+mod tests;
