@@ -1,6 +1,8 @@
 //! The tokens that are left to read, and the parts that one or two of them make.
-ghost use Rattle.std.specs.Prelude.{◌≡◌, ◌<◌, ◌≤◌, ◌+◌, length, IfOk, ◌==◌};
+ghost use Rattle.std.specs.Prelude.{◌≡◌, ◌<◌, ◌≤◌, ◌+◌, List as Seq, ℕ, length, ◌∷◌, IfOk, ◌==◌};
+ghost use Rattle.fdl_lexer.specs.Bytes.{single_quoted};
 ghost use Rattle.fdl_parser.specs.declared.cursor.SyntaxFault.TheVariants.{NoMemory};
+ghost use Rattle.fdl_parser.specs.Tokens.{spell, IsToken, IsName, IsQuote, IsItemToken, IsNumber, IsSigned, IsFirstStep, IsNextStep, IsLeaf};
 
 use fdl_lexer::{Token, What, text_value};
 use flow_model::{Bytes, LeafAt, List, Name, NameAt, NameFault, NumberAt, StepTree, Txt};
@@ -62,7 +64,7 @@ impl From<AllocError> for SyntaxFault {
     }
 }
 
-/// The tokens of a text that are left to read; contracts see it as their list.
+/// The tokens of a text that are left to read; contracts see it as their list, each with its bytes.
 #[derive(Drop)]
 pub struct Cursor<'a> {
     alloc: Global,
@@ -71,18 +73,17 @@ pub struct Cursor<'a> {
 }
 
 impl<'a> Model for Cursor<'a> {
-    ghost use Rattle.std.specs.Prelude.{List as Seq};
-    ghost use Rattle.fdl_lexer.specs.declared.kinds.Token.{Token};
+    ghost use Rattle.fdl_parser.specs.Tokens.{Tokens, spell};
 
-    ghost Value = { Seq Token };
+    ghost Value = { Tokens };
 
-    ghost view = { λ c. c.left.now };
+    ghost view = { λ c. spell c.text.now c.left.now };
 }
 
 impl<'a> Cursor<'a> {
     /// All tokens of a text.
     pub fn new(alloc: Global, text: &'a [u8], tokens: &'a [Token]) -> Cursor<'a>
-        ensures { result ≡ tokens.now }
+        ensures { result ≡ spell text.now tokens.now }
     {
         Cursor {
             alloc,
@@ -138,7 +139,8 @@ impl<'a> Cursor<'a> {
 
     /// Takes the next token, if it is this one; gives its place.
     pub fn token(&mut self, what: What) -> Result<u32, SyntaxFault>
-        ensures { IfOk result (λ _. length self.new < length self.old) }
+        ensures shorter { IfOk result (λ _. length self.new < length self.old) }
+        ensures read { IfOk result (λ place. IsToken what place self.old self.new) }
     {
         match self.left {
             [token, rest @ ..] if token.what == what => {
@@ -151,21 +153,24 @@ impl<'a> Cursor<'a> {
 
     /// Takes the next token, if it is this word; gives its place.
     pub fn word(&mut self, word: u8) -> Result<u32, SyntaxFault>
-        ensures { IfOk result (λ _. length self.new < length self.old) }
+        ensures shorter { IfOk result (λ _. length self.new < length self.old) }
+        ensures read { IfOk result (λ place. IsToken (What.Word word) place self.old self.new) }
     {
         self.token(What::Word(word))
     }
 
     /// Takes the next token, if it is this mark; gives its place.
     pub fn mark(&mut self, mark: u8) -> Result<u32, SyntaxFault>
-        ensures { IfOk result (λ _. length self.new < length self.old) }
+        ensures shorter { IfOk result (λ _. length self.new < length self.old) }
+        ensures read { IfOk result (λ place. IsToken (What.Mark mark) place self.old self.new) }
     {
         self.token(What::Mark(mark))
     }
 
     /// Takes the next token, if it is of a kind that is read from its bytes; gives these and its place.
     fn spelled(&mut self, what: What) -> Result<(&'a [u8], u32), SyntaxFault>
-        ensures { IfOk result (λ _. length self.new < length self.old) }
+        ensures shorter { IfOk result (λ _. length self.new < length self.old) }
+        ensures read { IfOk result (λ read. self.old ≡ record { kind = what; place = read.1; bytes = read.0.now } ∷ self.new) }
     {
         match self.left {
             [token, rest @ ..] if token.what == what => {
@@ -181,7 +186,8 @@ impl<'a> Cursor<'a> {
 
     /// Takes a name.
     pub fn name(&mut self) -> Result<NameAt, SyntaxFault>
-        ensures { IfOk result (λ _. length self.new < length self.old) }
+        ensures shorter { IfOk result (λ _. length self.new < length self.old) }
+        ensures read { IfOk result (λ name. IsName name self.old self.new) }
     {
         let (bytes, place) = self.spelled(What::Name)?;
         match Name::new(self.alloc, unquoted(bytes)) {
@@ -193,7 +199,8 @@ impl<'a> Cursor<'a> {
 
     /// Takes a text; gives its place too.
     pub fn text(&mut self) -> Result<(Txt, u32), SyntaxFault>
-        ensures { IfOk result (λ _. length self.new < length self.old) }
+        ensures shorter { IfOk result (λ _. length self.new < length self.old) }
+        ensures read { IfOk result (λ read. IsQuote read.0 read.1 self.old self.new) }
     {
         let (bytes, place) = self.spelled(What::Text)?;
         let value = text_value(self.alloc, bytes)?;
@@ -206,7 +213,8 @@ impl<'a> Cursor<'a> {
 
     /// Takes an item, with its quotes.
     pub fn item(&mut self) -> Result<Bytes, SyntaxFault>
-        ensures { IfOk result (λ _. length self.new < length self.old) }
+        ensures shorter { IfOk result (λ _. length self.new < length self.old) }
+        ensures read { IfOk result (λ bytes. IsItemToken bytes self.old self.new) }
     {
         let (bytes, _place) = self.spelled(What::Item)?;
         Ok(Bytes::new(self.alloc, bytes)?)
@@ -214,7 +222,8 @@ impl<'a> Cursor<'a> {
 
     /// Takes a number without a sign.
     pub fn number(&mut self) -> Result<NumberAt, SyntaxFault>
-        ensures { IfOk result (λ _. length self.new < length self.old) }
+        ensures shorter { IfOk result (λ _. length self.new < length self.old) }
+        ensures read { IfOk result (λ number. IsNumber number self.old self.new) }
     {
         match self.peek() {
             Some(What::Number(size)) => {
@@ -231,10 +240,12 @@ impl<'a> Cursor<'a> {
 
     /// Takes a number, with a `-` before it or without.
     pub fn signed(&mut self) -> Result<NumberAt, SyntaxFault>
-        ensures { IfOk result (λ _. length self.new < length self.old) }
+        ensures shorter { IfOk result (λ _. length self.new < length self.old) }
+        ensures read { IfOk result (λ number. IsSigned number self.old self.new) }
     {
         if !self.is_mark(mark::MINUS) {
-            return self.number();
+            let unsigned = self.number()?;
+            return Ok(unsigned);
         }
         let minus = self.mark(mark::MINUS)?;
         let number = self.number()?;
@@ -247,7 +258,8 @@ impl<'a> Cursor<'a> {
 
     /// Takes the first step of a leaf: a name or `'_RC'`; gives its place too.
     fn first_step(&mut self) -> Result<(StepTree, u32), SyntaxFault>
-        ensures { IfOk result (λ _. length self.new < length self.old) }
+        ensures shorter { IfOk result (λ _. length self.new < length self.old) }
+        ensures read { IfOk result (λ step. IsFirstStep step.0 step.1 self.old self.new) }
     {
         if self.is_next(What::Rc) {
             let place = self.token(What::Rc)?;
@@ -259,7 +271,8 @@ impl<'a> Cursor<'a> {
 
     /// Takes `. name` or `[ number ]`.
     fn next_step(&mut self) -> Result<StepTree, SyntaxFault>
-        ensures { IfOk result (λ _. length self.new < length self.old) }
+        ensures shorter { IfOk result (λ _. length self.new < length self.old) }
+        ensures read { IfOk result (λ step. IsNextStep step self.old self.new) }
     {
         if self.is_mark(mark::DOT) {
             self.mark(mark::DOT)?;
@@ -274,7 +287,8 @@ impl<'a> Cursor<'a> {
 
     /// Takes a leaf.
     pub fn leaf(&mut self) -> Result<LeafAt, SyntaxFault>
-        ensures { IfOk result (λ _. length self.new < length self.old) }
+        ensures shorter { IfOk result (λ _. length self.new < length self.old) }
+        ensures read { IfOk result (λ leaf. IsLeaf leaf self.old self.new) }
     {
         let (first, place) = self.first_step()?;
         let mut steps = List::new(self.alloc);
@@ -287,7 +301,9 @@ impl<'a> Cursor<'a> {
 }
 
 /// The bytes between the quotes.
-fn unquoted(bytes: &[u8]) -> &[u8] {
+fn unquoted(bytes: &[u8]) -> &[u8]
+    ensures { (value : Seq ℕ) → bytes.now ≡ single_quoted value → result.now ≡ value }
+{
     match bytes {
         [_, inner @ .., _] => inner,
         _ => bytes,

@@ -1,4 +1,5 @@
-use Rattle.std.proofs.Common.{◌≤◌, ◌<◌, ◌+◌, ◌*◌, length}
+use Rattle.std.proofs.Common.{◌≤◌, ◌+◌, ◌*◌, length}
+use Rattle.fdl_parser.specs.Activities.{AreElements}
 use Rattle.fdl_parser.proofs.cursor.Cursor.+elements.Given as goal
 
 abbrev pub decreases-block : goal.decreases-block
@@ -11,7 +12,10 @@ abbrev pub decreases-elements : goal.decreases-elements
 decreases-elements l = 3 * l.levels + 2
 
 abbrev pub invariant-elements-loop-elements : goal.invariant-elements-loop-elements
-invariant-elements-loop-elements l = length l.self ≤ length l.fn.self
+invariant-elements-loop-elements l = record {
+  shorter : length l.self ≤ length l.fn.self;
+  read : AreElements l.levels l.elements l.fn.self l.self;
+}
 
 abbrev pub decreases-elements-loop-elements : goal.decreases-elements-loop-elements
 decreases-elements-loop-elements l = length l.self
