@@ -1,5 +1,7 @@
 pub mod Tokens
+pub mod Lexed
 pub mod Conditions
 pub mod Lines
 pub mod Activities
 pub mod Items
+pub mod Alike

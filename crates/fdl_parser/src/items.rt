@@ -1,7 +1,9 @@
 //! The items of a text: structures, persons, processes.
 ghost use Rattle.std.specs.Prelude.{◌≡◌, ◌<◌, ◌≤◌, length, IfOk};
+ghost use Rattle.fdl_lexer.specs.Tokens.{AreTokens};
 ghost use Rattle.fdl_parser.specs.Tokens.{spell};
 ghost use Rattle.fdl_parser.specs.Items.{IsKind, IsCount, IsMember, IsStructure, AreRoles, IsPerson, IsProcess, IsItem, IsTree};
+ghost use Rattle.fdl_parser.specs.Alike.{AlikeTree};
 
 use crate::activities::LEVELS;
 use crate::cursor::{Cursor, SyntaxFault, mark};
@@ -138,10 +140,13 @@ impl<'a> Cursor<'a> {
 
 /// The tree of a text's tokens: the one that the grammar relates to them.
 ///
+/// There is no other, where the tokens are the lexer's.
+///
 /// `At` comes where they have none, with the place of the first token with which they begin no text of
 /// the grammar, or else the text's length.
 pub fn parse(alloc: Global, text: &[u8], tokens: &Tokens) -> Result<Tree, SyntaxFault>
-    ensures { IfOk result (λ tree. IsTree tree (spell text.now tokens.now.items)) }
+    ensures tree { IfOk result (λ tree. IsTree tree (spell text.now tokens.now.items)) }
+    ensures one { IfOk result (λ tree. AreTokens text.now tokens.now.items → (other : Tree) → IsTree other (spell text.now tokens.now.items) → AlikeTree tree other) }
 {
     let mut cursor = Cursor::new(alloc, text, tokens.items.as_slice());
     let mut items = List::new(alloc);
