@@ -1,5 +1,6 @@
 pub mod Tokens
 pub mod Lexed
+pub mod Faults
 pub mod Conditions
 pub mod Lines
 pub mod Activities

@@ -1,5 +1,5 @@
 -- The tokens as the grammar sees them, and the parts that one or two of them make.
-use Rattle.std.specs.Prelude.{◌≡◌, ℕ, List, [], ◌∷◌, ◌++◌, map, slice_range, Some, None}
+use Rattle.std.specs.Prelude.{◌≡◌, ℕ, List, [], ◌∷◌, ◌++◌, map, slice_range, Some, None, Option}
 use Rattle.fdl_lexer.specs.Bytes.{single_quoted, double_quoted}
 use Rattle.fdl_lexer.specs.declared.kinds.Token.{Token}
 use Rattle.fdl_lexer.specs.declared.kinds.What.{What}
@@ -29,10 +29,20 @@ spelled text t = record { kind = t.what; place = t.from; bytes = slice_range tex
 abbrev pub spell : List ℕ → List Token → Tokens
 spell text tokens = map (spelled text) tokens
 
+-- what the first token is
+abbrev pub first_kind : Tokens → Option What
+first_kind [] = None
+first_kind (t ∷ ts) = Some t.kind
+
 -- this token comes first, at this place, and the second row is left behind it
 pub record IsToken (kind : What) (place : ℕ) (before after : Tokens) : Type 0 where
   pub bytes : List ℕ
   pub first : before ≡ record { kind = kind; place = place; bytes = bytes } ∷ after
+
+-- a token of this kind and these bytes comes first
+abbrev pub HasBytes : What → List ℕ → Tokens → Type 0
+HasBytes kind bytes [] = ⊥
+HasBytes kind bytes (t ∷ ts) = (t.kind ≡ kind) × (t.bytes ≡ bytes)
 
 -- this word comes first
 abbrev pub IsWord : ℕ → ℕ → Tokens → Tokens → Type 0

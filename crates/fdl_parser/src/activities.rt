@@ -1,5 +1,6 @@
 //! Activities with their attributes, and the elements of a process or a block.
-ghost use Rattle.std.specs.Prelude.{◌≡◌, ◌<◌, ◌≤◌, length, IfOk};
+ghost use Rattle.std.specs.Prelude.{◌≡◌, ◌<◌, ◌≤◌, length, IfOk, IfErr};
+ghost use Rattle.fdl_parser.specs.Faults.{Names};
 ghost use Rattle.fdl_parser.specs.Activities.{AreStructures, IsClosing, IsJoin, ConnectorsTrue, IsCommonAttribute, AreCommonAttributes, IsDoneBy, IsStart, IsAttribute, AreAttributes, IsProgramActivity, IsProcessActivity, IsBlock, IsElement, AreElements};
 
 use crate::cursor::{Cursor, SyntaxFault, mark};
@@ -14,6 +15,7 @@ impl<'a> Cursor<'a> {
     pub(crate) fn structures(&mut self) -> Result<(NameAt, NameAt), SyntaxFault>
         ensures shorter { IfOk result (λ _. length self.new < length self.old) }
         ensures read { IfOk result (λ both. AreStructures both.0 both.1 self.old self.new) }
+        ensures names { IfErr result (Names self.new) }
     {
         self.mark(mark::OPEN)?;
         let input = self.name()?;
@@ -27,6 +29,7 @@ impl<'a> Cursor<'a> {
     pub(crate) fn closing(&mut self) -> Result<NameAt, SyntaxFault>
         ensures shorter { IfOk result (λ _. length self.new < length self.old) }
         ensures read { IfOk result (λ name. IsClosing name self.old self.new) }
+        ensures names { IfErr result (Names self.new) }
     {
         self.word(keyword::END)?;
         let name = self.name()?;
@@ -37,6 +40,7 @@ impl<'a> Cursor<'a> {
     fn join(&mut self) -> Result<JoinTree, SyntaxFault>
         ensures shorter { IfOk result (λ _. length self.new < length self.old) }
         ensures read { IfOk result (λ join. IsJoin join self.old self.new) }
+        ensures names { IfErr result (Names self.new) }
     {
         if self.is_word(keyword::AT_LEAST_ONE) {
             self.word(keyword::AT_LEAST_ONE)?;
@@ -58,6 +62,7 @@ impl<'a> Cursor<'a> {
     fn connectors_true(&mut self) -> Result<(), SyntaxFault>
         ensures shorter { IfOk result (λ _. length self.new < length self.old) }
         ensures read { IfOk result (λ _. ConnectorsTrue self.old self.new) }
+        ensures names { IfErr result (Names self.new) }
     {
         self.word(keyword::CONNECTORS)?;
         self.word(keyword::TRUE)?;
@@ -73,6 +78,7 @@ impl<'a> Cursor<'a> {
     fn common_attribute(&mut self) -> Result<AttrAt, SyntaxFault>
         ensures shorter { IfOk result (λ _. length self.new < length self.old) }
         ensures read { IfOk result (λ attribute. IsCommonAttribute attribute self.old self.new) }
+        ensures names { IfErr result (Names self.new) }
     {
         if self.is_word(keyword::WHEN) {
             let place = self.word(keyword::WHEN)?;
@@ -90,6 +96,7 @@ impl<'a> Cursor<'a> {
     fn common_attributes(&mut self) -> Result<List<AttrAt>, SyntaxFault>
         ensures shorter { IfOk result (λ _. length self.new ≤ length self.old) }
         ensures read { IfOk result (λ attributes. AreCommonAttributes attributes self.old self.new) }
+        ensures names { IfErr result (Names self.new) }
     {
         let mut attributes = List::new(self.alloc());
         while self.is_common_attribute() {
@@ -102,6 +109,7 @@ impl<'a> Cursor<'a> {
     fn done_by(&mut self) -> Result<AttrTree, SyntaxFault>
         ensures shorter { IfOk result (λ _. length self.new < length self.old) }
         ensures read { IfOk result (λ attribute. IsDoneBy attribute self.old self.new) }
+        ensures names { IfErr result (Names self.new) }
     {
         if self.is_word(keyword::ROLE) {
             self.word(keyword::ROLE)?;
@@ -127,6 +135,7 @@ impl<'a> Cursor<'a> {
     fn start(&mut self) -> Result<AttrTree, SyntaxFault>
         ensures shorter { IfOk result (λ _. length self.new < length self.old) }
         ensures read { IfOk result (λ attribute. IsStart attribute self.old self.new) }
+        ensures names { IfErr result (Names self.new) }
     {
         if self.is_word(keyword::MANUAL) {
             self.word(keyword::MANUAL)?;
@@ -147,6 +156,7 @@ impl<'a> Cursor<'a> {
     fn attribute(&mut self) -> Result<AttrAt, SyntaxFault>
         ensures shorter { IfOk result (λ _. length self.new < length self.old) }
         ensures read { IfOk result (λ attribute. IsAttribute attribute self.old self.new) }
+        ensures names { IfErr result (Names self.new) }
     {
         if self.is_common_attribute() {
             let attribute = self.common_attribute()?;
@@ -171,6 +181,7 @@ impl<'a> Cursor<'a> {
     fn attributes(&mut self) -> Result<List<AttrAt>, SyntaxFault>
         ensures shorter { IfOk result (λ _. length self.new ≤ length self.old) }
         ensures read { IfOk result (λ attributes. AreAttributes attributes self.old self.new) }
+        ensures names { IfErr result (Names self.new) }
     {
         let mut attributes = List::new(self.alloc());
         while self.is_attribute() {
@@ -182,6 +193,7 @@ impl<'a> Cursor<'a> {
     fn program_activity(&mut self) -> Result<ActivityTree, SyntaxFault>
         ensures shorter { IfOk result (λ _. length self.new < length self.old) }
         ensures read { IfOk result (λ activity. IsProgramActivity activity self.old self.new) }
+        ensures names { IfErr result (Names self.new) }
     {
         let place = self.word(keyword::PROGRAM_ACTIVITY)?;
         let name = self.name()?;
@@ -202,6 +214,7 @@ impl<'a> Cursor<'a> {
     fn process_activity(&mut self) -> Result<ActivityTree, SyntaxFault>
         ensures shorter { IfOk result (λ _. length self.new < length self.old) }
         ensures read { IfOk result (λ activity. IsProcessActivity activity self.old self.new) }
+        ensures names { IfErr result (Names self.new) }
     {
         let place = self.word(keyword::PROCESS_ACTIVITY)?;
         let name = self.name()?;
@@ -225,6 +238,7 @@ impl<'a> Cursor<'a> {
     fn block(&mut self, levels: u32) -> Result<ActivityTree, SyntaxFault>
         ensures shorter { IfOk result (λ _. length self.new < length self.old) }
         ensures read { IfOk result (λ activity. IsBlock levels activity self.old self.new) }
+        ensures names { IfErr result (Names self.new) }
     {
         if levels == 0 {
             return Err(self.fault());
@@ -259,6 +273,7 @@ impl<'a> Cursor<'a> {
     fn element(&mut self, levels: u32) -> Result<ElementTree, SyntaxFault>
         ensures shorter { IfOk result (λ _. length self.new < length self.old) }
         ensures read { IfOk result (λ element. IsElement levels element self.old self.new) }
+        ensures names { IfErr result (Names self.new) }
     {
         if self.is_word(keyword::BLOCK) {
             let block = self.block(levels)?;
@@ -285,6 +300,7 @@ impl<'a> Cursor<'a> {
     pub(crate) fn elements(&mut self, levels: u32) -> Result<List<ElementTree>, SyntaxFault>
         ensures shorter { IfOk result (λ _. length self.new ≤ length self.old) }
         ensures read { IfOk result (λ elements. AreElements levels elements self.old self.new) }
+        ensures names { IfErr result (Names self.new) }
     {
         let mut elements = List::new(self.alloc());
         while self.is_element() {

@@ -1,5 +1,6 @@
 //! Conditions.
-ghost use Rattle.std.specs.Prelude.{◌≡◌, ◌<◌, length, IfOk};
+ghost use Rattle.std.specs.Prelude.{◌≡◌, ◌<◌, length, IfOk, IfErr};
+ghost use Rattle.fdl_parser.specs.Faults.{Names};
 ghost use Rattle.fdl_parser.specs.Conditions.{mark_of, Denies, IsOperand, IsNextTerm, IsSide, IsComparison, IsNegation, IsConjunction, IsDisjunction, IsCondition};
 
 use crate::cursor::{Cursor, SyntaxFault, mark};
@@ -42,6 +43,7 @@ impl<'a> Cursor<'a> {
     fn operand(&mut self) -> Result<OperandTree, SyntaxFault>
         ensures shorter { IfOk result (λ _. length self.new < length self.old) }
         ensures read { IfOk result (λ operand. IsOperand operand self.old self.new) }
+        ensures names { IfErr result (Names self.new) }
     {
         if self.is_next(What::Name) || self.is_next(What::Rc) {
             let leaf = self.leaf()?;
@@ -55,6 +57,7 @@ impl<'a> Cursor<'a> {
     fn next_term(&mut self) -> Result<TermTree, SyntaxFault>
         ensures shorter { IfOk result (λ _. length self.new < length self.old) }
         ensures read { IfOk result (λ term. IsNextTerm term self.old self.new) }
+        ensures names { IfErr result (Names self.new) }
     {
         if self.is_mark(mark::MINUS) {
             self.mark(mark::MINUS)?;
@@ -75,6 +78,7 @@ impl<'a> Cursor<'a> {
     fn side(&mut self) -> Result<Side, SyntaxFault>
         ensures shorter { IfOk result (λ _. length self.new < length self.old) }
         ensures read { IfOk result (λ side. IsSide side self.old self.new) }
+        ensures names { IfErr result (Names self.new) }
     {
         if self.is_next(What::Text) {
             let (text, place) = self.text()?;
@@ -95,6 +99,7 @@ impl<'a> Cursor<'a> {
     fn comparison(&mut self) -> Result<Cond, SyntaxFault>
         ensures shorter { IfOk result (λ _. length self.new < length self.old) }
         ensures read { IfOk result (λ cond. IsComparison cond self.old self.new) }
+        ensures names { IfErr result (Names self.new) }
     {
         let left = self.side()?;
         let Some(operator) = operator_of(self.peek()) else {
@@ -110,6 +115,7 @@ impl<'a> Cursor<'a> {
     fn negation(&mut self, levels: u32) -> Result<Cond, SyntaxFault>
         ensures shorter { IfOk result (λ _. length self.new < length self.old) }
         ensures read { IfOk result (λ cond. IsNegation levels cond self.old self.new) }
+        ensures names { IfErr result (Names self.new) }
     {
         let denies = self.is_word(keyword::NOT);
         if !denies && !self.is_mark(mark::OPEN) {
@@ -135,6 +141,7 @@ impl<'a> Cursor<'a> {
     fn conjunction(&mut self, levels: u32) -> Result<Cond, SyntaxFault>
         ensures shorter { IfOk result (λ _. length self.new < length self.old) }
         ensures read { IfOk result (λ cond. IsConjunction levels cond self.old self.new) }
+        ensures names { IfErr result (Names self.new) }
     {
         let first = self.negation(levels)?;
         if !self.is_word(keyword::AND) {
@@ -155,6 +162,7 @@ impl<'a> Cursor<'a> {
     fn disjunction(&mut self, levels: u32) -> Result<Cond, SyntaxFault>
         ensures shorter { IfOk result (λ _. length self.new < length self.old) }
         ensures read { IfOk result (λ cond. IsDisjunction levels cond self.old self.new) }
+        ensures names { IfErr result (Names self.new) }
     {
         let first = self.conjunction(levels)?;
         if !self.is_word(keyword::OR) {
@@ -175,6 +183,7 @@ impl<'a> Cursor<'a> {
     pub(crate) fn condition(&mut self) -> Result<CondAt, SyntaxFault>
         ensures shorter { IfOk result (λ _. length self.new < length self.old) }
         ensures read { IfOk result (λ cond. IsCondition cond self.old self.new) }
+        ensures names { IfErr result (Names self.new) }
     {
         let place = self.mark(mark::OPEN)?;
         let cond = self.disjunction(LEVELS)?;
@@ -184,7 +193,8 @@ impl<'a> Cursor<'a> {
 }
 
 fn not_of(alloc: Global, denied: Cond) -> Result<Cond, SyntaxFault>
-    ensures { IfOk result (λ denial. Denies denial denied) }
+    ensures denies { IfOk result (λ denial. Denies denial denied) }
+    ensures memory { IfErr result (λ e. e ≡ SyntaxFault.NoMemory) }
 {
     match Box::new(alloc, denied) {
         Ok(boxed) => Ok(Cond::Not(boxed)),

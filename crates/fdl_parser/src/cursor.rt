@@ -1,8 +1,9 @@
 //! The tokens that are left to read, and the parts that one or two of them make.
-ghost use Rattle.std.specs.Prelude.{◌≡◌, ◌<◌, ◌≤◌, ◌+◌, List as Seq, ℕ, length, ◌∷◌, IfOk, ◌==◌};
+ghost use Rattle.std.specs.Prelude.{◌≡◌, ◌≢◌, ◌<◌, ◌≤◌, ◌+◌, List as Seq, ℕ, length, ◌∷◌, true, false, IfOk, IfErr, ◌==◌};
 ghost use Rattle.fdl_lexer.specs.Bytes.{single_quoted};
 ghost use Rattle.fdl_parser.specs.declared.cursor.SyntaxFault.TheVariants.{NoMemory};
-ghost use Rattle.fdl_parser.specs.Tokens.{spell, IsToken, IsName, IsQuote, IsItemToken, IsNumber, IsSigned, IsFirstStep, IsNextStep, IsLeaf};
+ghost use Rattle.fdl_parser.specs.Faults.{Names};
+ghost use Rattle.fdl_parser.specs.Tokens.{spell, first_kind, HasBytes, IsToken, IsName, IsQuote, IsItemToken, IsNumber, IsSigned, IsFirstStep, IsNextStep, IsLeaf};
 
 use fdl_lexer::{Token, What, text_value};
 use flow_model::{Bytes, LeafAt, List, Name, NameAt, NameFault, NumberAt, StepTree, Txt};
@@ -98,8 +99,13 @@ impl<'a> Cursor<'a> {
     }
 
     /// What the next token is.
-    pub fn peek(&self) -> Option<What> {
-        self.left.first().map(|token| token.what)
+    pub fn peek(&self) -> Option<What>
+        ensures { result ≡ first_kind self.now }
+    {
+        match self.left {
+            [token, ..] => Some(token.what),
+            [] => None,
+        }
     }
 
     /// Whether no token is left.
@@ -110,30 +116,46 @@ impl<'a> Cursor<'a> {
     }
 
     /// Where the next token stands, or the text's length.
-    pub fn place(&self) -> u32 {
-        match self.left.first() {
-            Some(token) => token.from,
-            None => u32::try_from(self.text.len()).unwrap_or(u32::MAX),
+    pub fn place(&self) -> u32
+        ensures { Names self.now (SyntaxFault.At result) }
+    {
+        match self.left {
+            [token, ..] => token.from,
+            [] => u32::try_from(self.text.len()).unwrap_or(u32::MAX),
         }
     }
 
     /// The fault of the next token.
-    pub fn fault(&self) -> SyntaxFault {
+    pub fn fault(&self) -> SyntaxFault
+        ensures { Names self.now result }
+    {
         SyntaxFault::At(self.place())
     }
 
     /// Whether the next token is this one.
-    pub fn is_next(&self, what: What) -> bool {
-        self.peek() == Some(what)
+    pub fn is_next(&self, what: What) -> bool
+        ensures yes { result ≡ true → first_kind self.now ≡ Some what }
+        ensures no { result ≡ false → first_kind self.now ≢ Some what }
+    {
+        match self.left {
+            [token, ..] => token.what == what,
+            [] => false,
+        }
     }
 
     /// Whether the next token is this word.
-    pub fn is_word(&self, word: u8) -> bool {
+    pub fn is_word(&self, word: u8) -> bool
+        ensures yes { result ≡ true → first_kind self.now ≡ Some (What.Word word) }
+        ensures no { result ≡ false → first_kind self.now ≢ Some (What.Word word) }
+    {
         self.is_next(What::Word(word))
     }
 
     /// Whether the next token is this mark.
-    pub fn is_mark(&self, mark: u8) -> bool {
+    pub fn is_mark(&self, mark: u8) -> bool
+        ensures yes { result ≡ true → first_kind self.now ≡ Some (What.Mark mark) }
+        ensures no { result ≡ false → first_kind self.now ≢ Some (What.Mark mark) }
+    {
         self.is_next(What::Mark(mark))
     }
 
@@ -141,6 +163,7 @@ impl<'a> Cursor<'a> {
     pub fn token(&mut self, what: What) -> Result<u32, SyntaxFault>
         ensures shorter { IfOk result (λ _. length self.new < length self.old) }
         ensures read { IfOk result (λ place. IsToken what place self.old self.new) }
+        ensures refused { IfErr result (λ e. Names self.old e × (self.new ≡ self.old) × (first_kind self.old ≢ Some what)) }
     {
         match self.left {
             [token, rest @ ..] if token.what == what => {
@@ -155,6 +178,7 @@ impl<'a> Cursor<'a> {
     pub fn word(&mut self, word: u8) -> Result<u32, SyntaxFault>
         ensures shorter { IfOk result (λ _. length self.new < length self.old) }
         ensures read { IfOk result (λ place. IsToken (What.Word word) place self.old self.new) }
+        ensures refused { IfErr result (λ e. Names self.old e × (self.new ≡ self.old) × (first_kind self.old ≢ Some (What.Word word))) }
     {
         self.token(What::Word(word))
     }
@@ -163,22 +187,22 @@ impl<'a> Cursor<'a> {
     pub fn mark(&mut self, mark: u8) -> Result<u32, SyntaxFault>
         ensures shorter { IfOk result (λ _. length self.new < length self.old) }
         ensures read { IfOk result (λ place. IsToken (What.Mark mark) place self.old self.new) }
+        ensures refused { IfErr result (λ e. Names self.old e × (self.new ≡ self.old) × (first_kind self.old ≢ Some (What.Mark mark))) }
     {
         self.token(What::Mark(mark))
     }
 
-    /// Takes the next token, if it is of a kind that is read from its bytes; gives these and its place.
-    fn spelled(&mut self, what: What) -> Result<(&'a [u8], u32), SyntaxFault>
-        ensures shorter { IfOk result (λ _. length self.new < length self.old) }
-        ensures read { IfOk result (λ read. self.old ≡ record { kind = what; place = read.1; bytes = read.0.now } ∷ self.new) }
+    /// The bytes of the next token, if it is of a kind that is read from them.
+    fn spelled(&self, what: What) -> Result<&'a [u8], SyntaxFault>
+        ensures read { IfOk result (λ bytes. HasBytes what bytes.now self.now) }
+        ensures names { IfErr result (Names self.now) }
     {
         match self.left {
-            [token, rest @ ..] if token.what == what => {
-                let Some(bytes) = self.text.get(token.from as usize..token.to as usize) else {
-                    return Err(self.fault());
-                };
-                self.left = rest;
-                Ok((bytes, token.from))
+            [token, ..] if token.what == what => {
+                match self.text.get(token.from as usize..token.to as usize) {
+                    Some(bytes) => Ok(bytes),
+                    None => Err(self.fault()),
+                }
             }
             _ => Err(self.fault()),
         }
@@ -188,11 +212,15 @@ impl<'a> Cursor<'a> {
     pub fn name(&mut self) -> Result<NameAt, SyntaxFault>
         ensures shorter { IfOk result (λ _. length self.new < length self.old) }
         ensures read { IfOk result (λ name. IsName name self.old self.new) }
+        ensures names { IfErr result (Names self.new) }
     {
-        let (bytes, place) = self.spelled(What::Name)?;
+        let bytes = self.spelled(What::Name)?;
         match Name::new(self.alloc, unquoted(bytes)) {
-            Ok(name) => Ok(NameAt { name, place }),
-            Err(NameFault::Bad) => Err(SyntaxFault::At(place)),
+            Ok(name) => {
+                let place = self.token(What::Name)?;
+                Ok(NameAt { name, place })
+            }
+            Err(NameFault::Bad) => Err(self.fault()),
             Err(NameFault::NoMemory) => Err(SyntaxFault::NoMemory),
         }
     }
@@ -201,12 +229,16 @@ impl<'a> Cursor<'a> {
     pub fn text(&mut self) -> Result<(Txt, u32), SyntaxFault>
         ensures shorter { IfOk result (λ _. length self.new < length self.old) }
         ensures read { IfOk result (λ read. IsQuote read.0 read.1 self.old self.new) }
+        ensures names { IfErr result (Names self.new) }
     {
-        let (bytes, place) = self.spelled(What::Text)?;
+        let bytes = self.spelled(What::Text)?;
         let value = text_value(self.alloc, bytes)?;
         match Txt::new(self.alloc, &value) {
-            Ok(text) => Ok((text, place)),
-            Err(NameFault::Bad) => Err(SyntaxFault::At(place)),
+            Ok(text) => {
+                let place = self.token(What::Text)?;
+                Ok((text, place))
+            }
+            Err(NameFault::Bad) => Err(self.fault()),
             Err(NameFault::NoMemory) => Err(SyntaxFault::NoMemory),
         }
     }
@@ -215,15 +247,18 @@ impl<'a> Cursor<'a> {
     pub fn item(&mut self) -> Result<Bytes, SyntaxFault>
         ensures shorter { IfOk result (λ _. length self.new < length self.old) }
         ensures read { IfOk result (λ bytes. IsItemToken bytes self.old self.new) }
+        ensures names { IfErr result (Names self.new) }
     {
-        let (bytes, _place) = self.spelled(What::Item)?;
-        Ok(Bytes::new(self.alloc, bytes)?)
+        let bytes = Bytes::new(self.alloc, self.spelled(What::Item)?)?;
+        self.token(What::Item)?;
+        Ok(bytes)
     }
 
     /// Takes a number without a sign.
     pub fn number(&mut self) -> Result<NumberAt, SyntaxFault>
         ensures shorter { IfOk result (λ _. length self.new < length self.old) }
         ensures read { IfOk result (λ number. IsNumber number self.old self.new) }
+        ensures names { IfErr result (Names self.new) }
     {
         match self.peek() {
             Some(What::Number(size)) => {
@@ -242,6 +277,7 @@ impl<'a> Cursor<'a> {
     pub fn signed(&mut self) -> Result<NumberAt, SyntaxFault>
         ensures shorter { IfOk result (λ _. length self.new < length self.old) }
         ensures read { IfOk result (λ number. IsSigned number self.old self.new) }
+        ensures names { IfErr result (Names self.new) }
     {
         if !self.is_mark(mark::MINUS) {
             let unsigned = self.number()?;
@@ -260,6 +296,7 @@ impl<'a> Cursor<'a> {
     fn first_step(&mut self) -> Result<(StepTree, u32), SyntaxFault>
         ensures shorter { IfOk result (λ _. length self.new < length self.old) }
         ensures read { IfOk result (λ step. IsFirstStep step.0 step.1 self.old self.new) }
+        ensures names { IfErr result (Names self.new) }
     {
         if self.is_next(What::Rc) {
             let place = self.token(What::Rc)?;
@@ -273,6 +310,7 @@ impl<'a> Cursor<'a> {
     fn next_step(&mut self) -> Result<StepTree, SyntaxFault>
         ensures shorter { IfOk result (λ _. length self.new < length self.old) }
         ensures read { IfOk result (λ step. IsNextStep step self.old self.new) }
+        ensures names { IfErr result (Names self.new) }
     {
         if self.is_mark(mark::DOT) {
             self.mark(mark::DOT)?;
@@ -289,6 +327,7 @@ impl<'a> Cursor<'a> {
     pub fn leaf(&mut self) -> Result<LeafAt, SyntaxFault>
         ensures shorter { IfOk result (λ _. length self.new < length self.old) }
         ensures read { IfOk result (λ leaf. IsLeaf leaf self.old self.new) }
+        ensures names { IfErr result (Names self.new) }
     {
         let (first, place) = self.first_step()?;
         let mut steps = List::new(self.alloc);

@@ -1,6 +1,7 @@
 //! The items of a text: structures, persons, processes.
-ghost use Rattle.std.specs.Prelude.{◌≡◌, ◌<◌, ◌≤◌, length, IfOk};
+ghost use Rattle.std.specs.Prelude.{◌≡◌, ◌<◌, ◌≤◌, length, IfOk, IfErr};
 ghost use Rattle.fdl_lexer.specs.Tokens.{AreTokens};
+ghost use Rattle.fdl_parser.specs.Faults.{Names};
 ghost use Rattle.fdl_parser.specs.Tokens.{spell};
 ghost use Rattle.fdl_parser.specs.Items.{IsKind, IsCount, IsMember, IsStructure, AreRoles, IsPerson, IsProcess, IsItem, IsTree};
 ghost use Rattle.fdl_parser.specs.Alike.{AlikeTree};
@@ -18,6 +19,7 @@ impl<'a> Cursor<'a> {
     fn kind(&mut self) -> Result<KindTree, SyntaxFault>
         ensures shorter { IfOk result (λ _. length self.new < length self.old) }
         ensures read { IfOk result (λ kind. IsKind kind self.old self.new) }
+        ensures names { IfErr result (Names self.new) }
     {
         if self.is_word(keyword::LONG) {
             self.word(keyword::LONG)?;
@@ -35,6 +37,7 @@ impl<'a> Cursor<'a> {
     fn count(&mut self) -> Result<Option<NumberAt>, SyntaxFault>
         ensures shorter { IfOk result (λ _. length self.new ≤ length self.old) }
         ensures read { IfOk result (λ count. IsCount count self.old self.new) }
+        ensures names { IfErr result (Names self.new) }
     {
         if !self.is_mark(mark::OPEN) {
             return Ok(None);
@@ -48,6 +51,7 @@ impl<'a> Cursor<'a> {
     fn member(&mut self) -> Result<Member, SyntaxFault>
         ensures shorter { IfOk result (λ _. length self.new < length self.old) }
         ensures read { IfOk result (λ member. IsMember member self.old self.new) }
+        ensures names { IfErr result (Names self.new) }
     {
         let name = self.name()?;
         self.mark(mark::COLON)?;
@@ -60,6 +64,7 @@ impl<'a> Cursor<'a> {
     fn structure(&mut self) -> Result<StructDef, SyntaxFault>
         ensures shorter { IfOk result (λ _. length self.new < length self.old) }
         ensures read { IfOk result (λ structure. IsStructure structure self.old self.new) }
+        ensures names { IfErr result (Names self.new) }
     {
         self.word(keyword::STRUCTURE)?;
         let name = self.name()?;
@@ -75,6 +80,7 @@ impl<'a> Cursor<'a> {
     fn roles(&mut self) -> Result<List<NameAt>, SyntaxFault>
         ensures shorter { IfOk result (λ _. length self.new ≤ length self.old) }
         ensures read { IfOk result (λ roles. AreRoles roles self.old self.new) }
+        ensures names { IfErr result (Names self.new) }
     {
         let mut roles = List::new(self.alloc());
         if !self.is_word(keyword::ROLES) {
@@ -94,6 +100,7 @@ impl<'a> Cursor<'a> {
     fn person(&mut self) -> Result<PersonTree, SyntaxFault>
         ensures shorter { IfOk result (λ _. length self.new < length self.old) }
         ensures read { IfOk result (λ person. IsPerson person self.old self.new) }
+        ensures names { IfErr result (Names self.new) }
     {
         self.word(keyword::PERSON)?;
         let name = self.name()?;
@@ -105,6 +112,7 @@ impl<'a> Cursor<'a> {
     fn process(&mut self) -> Result<ProcessTree, SyntaxFault>
         ensures shorter { IfOk result (λ _. length self.new < length self.old) }
         ensures read { IfOk result (λ process. IsProcess process self.old self.new) }
+        ensures names { IfErr result (Names self.new) }
     {
         let place = self.word(keyword::PROCESS)?;
         let name = self.name()?;
@@ -124,6 +132,7 @@ impl<'a> Cursor<'a> {
     fn text_item(&mut self) -> Result<ItemTree, SyntaxFault>
         ensures shorter { IfOk result (λ _. length self.new < length self.old) }
         ensures read { IfOk result (λ item. IsItem item self.old self.new) }
+        ensures names { IfErr result (Names self.new) }
     {
         if self.is_word(keyword::STRUCTURE) {
             let structure = self.structure()?;

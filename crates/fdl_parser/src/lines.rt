@@ -1,5 +1,6 @@
 //! CONTROL and DATA lines.
-ghost use Rattle.std.specs.Prelude.{◌≡◌, ◌<◌, ◌≤◌, length, IfOk};
+ghost use Rattle.std.specs.Prelude.{◌≡◌, ◌<◌, ◌≤◌, length, IfOk, IfErr};
+ghost use Rattle.fdl_parser.specs.Faults.{Names};
 ghost use Rattle.fdl_parser.specs.Lines.{IsTransition, IsControl, IsEnd, AreEnds, IsMap, AreMaps, IsDataLine};
 
 use crate::cursor::{Cursor, SyntaxFault, mark};
@@ -11,6 +12,7 @@ impl<'a> Cursor<'a> {
     fn transition(&mut self) -> Result<WhenTree, SyntaxFault>
         ensures shorter { IfOk result (λ _. length self.new ≤ length self.old) }
         ensures read { IfOk result (λ when. IsTransition when self.old self.new) }
+        ensures names { IfErr result (Names self.new) }
     {
         if self.is_word(keyword::OTHERWISE) {
             self.word(keyword::OTHERWISE)?;
@@ -27,6 +29,7 @@ impl<'a> Cursor<'a> {
     pub(crate) fn control(&mut self) -> Result<ControlTree, SyntaxFault>
         ensures shorter { IfOk result (λ _. length self.new < length self.old) }
         ensures read { IfOk result (λ control. IsControl control self.old self.new) }
+        ensures names { IfErr result (Names self.new) }
     {
         let place = self.word(keyword::CONTROL)?;
         self.word(keyword::FROM)?;
@@ -46,6 +49,7 @@ impl<'a> Cursor<'a> {
     fn end(&mut self, border: u8) -> Result<EndTree, SyntaxFault>
         ensures shorter { IfOk result (λ _. length self.new < length self.old) }
         ensures read { IfOk result (λ end. IsEnd border end self.old self.new) }
+        ensures names { IfErr result (Names self.new) }
     {
         if self.is_word(border) {
             self.word(border)?;
@@ -59,6 +63,7 @@ impl<'a> Cursor<'a> {
     fn ends(&mut self) -> Result<EndsTree, SyntaxFault>
         ensures shorter { IfOk result (λ _. length self.new < length self.old) }
         ensures read { IfOk result (λ ends. AreEnds ends self.old self.new) }
+        ensures names { IfErr result (Names self.new) }
     {
         if self.is_word(keyword::LOOP) {
             self.word(keyword::LOOP)?;
@@ -75,6 +80,7 @@ impl<'a> Cursor<'a> {
     fn map(&mut self) -> Result<MapTree, SyntaxFault>
         ensures shorter { IfOk result (λ _. length self.new < length self.old) }
         ensures read { IfOk result (λ map. IsMap map self.old self.new) }
+        ensures names { IfErr result (Names self.new) }
     {
         let from = self.leaf()?;
         self.word(keyword::TO)?;
@@ -85,6 +91,7 @@ impl<'a> Cursor<'a> {
     fn maps(&mut self) -> Result<List<MapTree>, SyntaxFault>
         ensures shorter { IfOk result (λ _. length self.new < length self.old) }
         ensures read { IfOk result (λ maps. AreMaps maps self.old self.new) }
+        ensures names { IfErr result (Names self.new) }
     {
         self.word(keyword::MAP)?;
         let mut maps = List::new(self.alloc());
@@ -101,6 +108,7 @@ impl<'a> Cursor<'a> {
     pub(crate) fn data_line(&mut self) -> Result<DataTree, SyntaxFault>
         ensures shorter { IfOk result (λ _. length self.new < length self.old) }
         ensures read { IfOk result (λ line. IsDataLine line self.old self.new) }
+        ensures names { IfErr result (Names self.new) }
     {
         let place = self.word(keyword::DATA)?;
         let ends = self.ends()?;
