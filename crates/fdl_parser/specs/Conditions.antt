@@ -15,8 +15,11 @@ use Rattle.flow_model.specs.declared.trees.Cond.{Cond}
 use Rattle.flow_model.specs.declared.trees.Cond.TheVariants as cond
 use Rattle.flow_model.specs.declared.trees.CondAt.{CondAt}
 use Rattle.fdl_parser.specs.declared.cursor.mark.TheConstants as mark
-use Rattle.fdl_parser.specs.declared.conditions.TheConstants.{LEVELS}
 use Rattle.fdl_parser.specs.Tokens.{Tokens, IsWord, IsMark, IsQuote, IsSigned, IsLeaf}
+
+-- how many levels of NOT and parentheses a condition may have
+abbrev pub condition_levels : ℕ
+condition_levels = 64
 
 -- the mark of a comparison
 abbrev pub mark_of : Operator → ℕ
@@ -87,4 +90,4 @@ mutual
 
 -- ( cond ), behind WHEN
 pub data IsCondition : CondAt → Tokens → Tokens → Type 0 where
-  Whole : {x : Cond} {p q : ℕ} {a b c d : Tokens} → IsMark mark.OPEN p a b → IsDisjunction LEVELS x b c → IsMark mark.CLOSE q c d → IsCondition (record { place = p; cond = x }) a d
+  Whole : {x : Cond} {p q : ℕ} {a b c d : Tokens} → IsMark mark.OPEN p a b → IsDisjunction condition_levels x b c → IsMark mark.CLOSE q c d → IsCondition (record { place = p; cond = x }) a d

@@ -14,9 +14,12 @@ use Rattle.flow_model.specs.declared.trees.ItemTree.{ItemTree}
 use Rattle.flow_model.specs.declared.trees.ItemTree.TheVariants as item
 use Rattle.flow_model.specs.declared.trees.Tree.{Tree}
 use Rattle.fdl_parser.specs.declared.cursor.mark.TheConstants as mark
-use Rattle.fdl_parser.specs.declared.activities.TheConstants.{LEVELS}
 use Rattle.fdl_parser.specs.Tokens.{Tokens, IsWord, IsMark, IsName, IsNumber}
 use Rattle.fdl_parser.specs.Activities.{AreStructures, IsClosing, AreElements}
+
+-- how many levels of BLOCK a text may have
+abbrev pub block_levels : ℕ
+block_levels = 64
 
 -- the kind of a member: LONG | STRING | name
 pub data IsKind : KindTree → Tokens → Tokens → Type 0 where
@@ -58,7 +61,7 @@ pub data IsPerson : PersonTree → Tokens → Tokens → Type 0 where
 
 -- PROCESS name ( name , name ) element* END name
 pub data IsProcess : ProcessTree → Tokens → Tokens → Type 0 where
-  OneProcess : {name input output end : NameAt} {elements : List ElementTree} {p : ℕ} {a b c d e f : Tokens} → IsWord word.PROCESS p a b → IsName name b c → AreStructures input output c d → AreElements LEVELS elements d e → IsClosing end e f → IsProcess (record { place = p; name = name; input = input; output = output; elements = elements; end = end }) a f
+  OneProcess : {name input output end : NameAt} {elements : List ElementTree} {p : ℕ} {a b c d e f : Tokens} → IsWord word.PROCESS p a b → IsName name b c → AreStructures input output c d → AreElements block_levels elements d e → IsClosing end e f → IsProcess (record { place = p; name = name; input = input; output = output; elements = elements; end = end }) a f
 
 -- item = structure | person | process
 pub data IsItem : ItemTree → Tokens → Tokens → Type 0 where
