@@ -1,5 +1,5 @@
 -- The tokens as the grammar sees them, and the parts that one or two of them make.
-use Rattle.std.specs.Prelude.{◌≡◌, ℕ, List, [], ◌∷◌, ◌++◌, map, slice_range, Some, None, Option}
+use Rattle.std.specs.Prelude.{◌≡◌, ℕ, List, [], ◌∷◌, ◌++◌, map, slice_range, Some, None, Option, length, min}
 use Rattle.fdl_lexer.specs.Bytes.{single_quoted, double_quoted}
 use Rattle.fdl_lexer.specs.declared.kinds.Token.{Token}
 use Rattle.fdl_lexer.specs.declared.kinds.What.{What}
@@ -28,6 +28,25 @@ spelled text t = record { kind = t.what; place = t.from; bytes = slice_range tex
 -- the tokens of a text with their bytes
 abbrev pub spell : List ℕ → List Token → Tokens
 spell text tokens = map (spelled text) tokens
+
+-- the tokens that are left to read, and the place where the text ends
+pub record Reading : Type 0 where
+  pub left : Tokens
+  pub end : ℕ
+
+-- a text before it is read; a place is below 2 ^ 32
+abbrev pub reading : List ℕ → List Token → Reading
+reading text tokens = record { left = spell text tokens; end = min (length text) 4294967295 }
+
+-- the place of the next token, or of the text's end
+abbrev pub place_in : Tokens → ℕ → ℕ
+place_in [] end = end
+place_in (t ∷ ts) end = t.place
+
+-- the second is what is left of the first, some tokens on
+pub data IsRest (all : Reading) : Tokens → ℕ → Type 0 where
+  Unread : IsRest all all.left all.end
+  Less : {t : Spelled} {ts : Tokens} {end : ℕ} → IsRest all (t ∷ ts) end → IsRest all ts end
 
 -- what the first token is
 abbrev pub first_kind : Tokens → Option What

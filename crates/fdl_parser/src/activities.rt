@@ -1,6 +1,7 @@
 //! Activities with their attributes, and the elements of a process or a block.
 ghost use Rattle.std.specs.Prelude.{◌≡◌, ◌<◌, ◌≤◌, length, IfOk, IfErr};
 ghost use Rattle.fdl_parser.specs.Faults.{Names};
+ghost use Rattle.fdl_parser.specs.Tokens.{Reading, IsRest};
 ghost use Rattle.fdl_parser.specs.Activities.{AreStructures, IsClosing, IsJoin, ConnectorsTrue, IsCommonAttribute, AreCommonAttributes, IsDoneBy, IsStart, IsAttribute, AreAttributes, IsProgramActivity, IsProcessActivity, IsBlock, IsElement, AreElements};
 
 use crate::cursor::{Cursor, SyntaxFault, mark};
@@ -13,8 +14,9 @@ pub(crate) const LEVELS: u32 = 64;
 impl<'a> Cursor<'a> {
     /// Takes the two structures of a container in their parentheses.
     pub(crate) fn structures(&mut self) -> Result<(NameAt, NameAt), SyntaxFault>
-        ensures shorter { IfOk result (λ _. length self.new < length self.old) }
-        ensures read { IfOk result (λ both. AreStructures both.0 both.1 self.old self.new) }
+        ensures shorter { IfOk result (λ _. length self.new.left < length self.old.left) }
+        ensures within { (all : Reading) → IsRest all self.old.left self.old.end → IsRest all self.new.left self.new.end }
+        ensures read { IfOk result (λ both. AreStructures both.0 both.1 self.old.left self.new.left) }
         ensures names { IfErr result (Names self.new) }
     {
         self.mark(mark::OPEN)?;
@@ -27,8 +29,9 @@ impl<'a> Cursor<'a> {
 
     /// Takes END and the name behind it.
     pub(crate) fn closing(&mut self) -> Result<NameAt, SyntaxFault>
-        ensures shorter { IfOk result (λ _. length self.new < length self.old) }
-        ensures read { IfOk result (λ name. IsClosing name self.old self.new) }
+        ensures shorter { IfOk result (λ _. length self.new.left < length self.old.left) }
+        ensures within { (all : Reading) → IsRest all self.old.left self.old.end → IsRest all self.new.left self.new.end }
+        ensures read { IfOk result (λ name. IsClosing name self.old.left self.new.left) }
         ensures names { IfErr result (Names self.new) }
     {
         self.word(keyword::END)?;
@@ -38,8 +41,9 @@ impl<'a> Cursor<'a> {
 
     /// Takes what a join asks, behind WHEN.
     fn join(&mut self) -> Result<JoinTree, SyntaxFault>
-        ensures shorter { IfOk result (λ _. length self.new < length self.old) }
-        ensures read { IfOk result (λ join. IsJoin join self.old self.new) }
+        ensures shorter { IfOk result (λ _. length self.new.left < length self.old.left) }
+        ensures within { (all : Reading) → IsRest all self.old.left self.old.end → IsRest all self.new.left self.new.end }
+        ensures read { IfOk result (λ join. IsJoin join self.old.left self.new.left) }
         ensures names { IfErr result (Names self.new) }
     {
         if self.is_word(keyword::AT_LEAST_ONE) {
@@ -60,8 +64,9 @@ impl<'a> Cursor<'a> {
     }
 
     fn connectors_true(&mut self) -> Result<(), SyntaxFault>
-        ensures shorter { IfOk result (λ _. length self.new < length self.old) }
-        ensures read { IfOk result (λ _. ConnectorsTrue self.old self.new) }
+        ensures shorter { IfOk result (λ _. length self.new.left < length self.old.left) }
+        ensures within { (all : Reading) → IsRest all self.old.left self.old.end → IsRest all self.new.left self.new.end }
+        ensures read { IfOk result (λ _. ConnectorsTrue self.old.left self.new.left) }
         ensures names { IfErr result (Names self.new) }
     {
         self.word(keyword::CONNECTORS)?;
@@ -76,8 +81,9 @@ impl<'a> Cursor<'a> {
 
     /// Takes a start condition or an exit condition.
     fn common_attribute(&mut self) -> Result<AttrAt, SyntaxFault>
-        ensures shorter { IfOk result (λ _. length self.new < length self.old) }
-        ensures read { IfOk result (λ attribute. IsCommonAttribute attribute self.old self.new) }
+        ensures shorter { IfOk result (λ _. length self.new.left < length self.old.left) }
+        ensures within { (all : Reading) → IsRest all self.old.left self.old.end → IsRest all self.new.left self.new.end }
+        ensures read { IfOk result (λ attribute. IsCommonAttribute attribute self.old.left self.new.left) }
         ensures names { IfErr result (Names self.new) }
     {
         if self.is_word(keyword::WHEN) {
@@ -94,8 +100,9 @@ impl<'a> Cursor<'a> {
     }
 
     fn common_attributes(&mut self) -> Result<List<AttrAt>, SyntaxFault>
-        ensures shorter { IfOk result (λ _. length self.new ≤ length self.old) }
-        ensures read { IfOk result (λ attributes. AreCommonAttributes attributes self.old self.new) }
+        ensures shorter { IfOk result (λ _. length self.new.left ≤ length self.old.left) }
+        ensures within { (all : Reading) → IsRest all self.old.left self.old.end → IsRest all self.new.left self.new.end }
+        ensures read { IfOk result (λ attributes. AreCommonAttributes attributes self.old.left self.new.left) }
         ensures names { IfErr result (Names self.new) }
     {
         let mut attributes = List::new(self.alloc());
@@ -107,8 +114,9 @@ impl<'a> Cursor<'a> {
 
     /// Takes who may do an activity, behind DONE_BY.
     fn done_by(&mut self) -> Result<AttrTree, SyntaxFault>
-        ensures shorter { IfOk result (λ _. length self.new < length self.old) }
-        ensures read { IfOk result (λ attribute. IsDoneBy attribute self.old self.new) }
+        ensures shorter { IfOk result (λ _. length self.new.left < length self.old.left) }
+        ensures within { (all : Reading) → IsRest all self.old.left self.old.end → IsRest all self.new.left self.new.end }
+        ensures read { IfOk result (λ attribute. IsDoneBy attribute self.old.left self.new.left) }
         ensures names { IfErr result (Names self.new) }
     {
         if self.is_word(keyword::ROLE) {
@@ -133,8 +141,9 @@ impl<'a> Cursor<'a> {
 
     /// Takes how an activity is started, behind START.
     fn start(&mut self) -> Result<AttrTree, SyntaxFault>
-        ensures shorter { IfOk result (λ _. length self.new < length self.old) }
-        ensures read { IfOk result (λ attribute. IsStart attribute self.old self.new) }
+        ensures shorter { IfOk result (λ _. length self.new.left < length self.old.left) }
+        ensures within { (all : Reading) → IsRest all self.old.left self.old.end → IsRest all self.new.left self.new.end }
+        ensures read { IfOk result (λ attribute. IsStart attribute self.old.left self.new.left) }
         ensures names { IfErr result (Names self.new) }
     {
         if self.is_word(keyword::MANUAL) {
@@ -154,8 +163,9 @@ impl<'a> Cursor<'a> {
     }
 
     fn attribute(&mut self) -> Result<AttrAt, SyntaxFault>
-        ensures shorter { IfOk result (λ _. length self.new < length self.old) }
-        ensures read { IfOk result (λ attribute. IsAttribute attribute self.old self.new) }
+        ensures shorter { IfOk result (λ _. length self.new.left < length self.old.left) }
+        ensures within { (all : Reading) → IsRest all self.old.left self.old.end → IsRest all self.new.left self.new.end }
+        ensures read { IfOk result (λ attribute. IsAttribute attribute self.old.left self.new.left) }
         ensures names { IfErr result (Names self.new) }
     {
         if self.is_common_attribute() {
@@ -179,8 +189,9 @@ impl<'a> Cursor<'a> {
     }
 
     fn attributes(&mut self) -> Result<List<AttrAt>, SyntaxFault>
-        ensures shorter { IfOk result (λ _. length self.new ≤ length self.old) }
-        ensures read { IfOk result (λ attributes. AreAttributes attributes self.old self.new) }
+        ensures shorter { IfOk result (λ _. length self.new.left ≤ length self.old.left) }
+        ensures within { (all : Reading) → IsRest all self.old.left self.old.end → IsRest all self.new.left self.new.end }
+        ensures read { IfOk result (λ attributes. AreAttributes attributes self.old.left self.new.left) }
         ensures names { IfErr result (Names self.new) }
     {
         let mut attributes = List::new(self.alloc());
@@ -191,8 +202,9 @@ impl<'a> Cursor<'a> {
     }
 
     fn program_activity(&mut self) -> Result<ActivityTree, SyntaxFault>
-        ensures shorter { IfOk result (λ _. length self.new < length self.old) }
-        ensures read { IfOk result (λ activity. IsProgramActivity activity self.old self.new) }
+        ensures shorter { IfOk result (λ _. length self.new.left < length self.old.left) }
+        ensures within { (all : Reading) → IsRest all self.old.left self.old.end → IsRest all self.new.left self.new.end }
+        ensures read { IfOk result (λ activity. IsProgramActivity activity self.old.left self.new.left) }
         ensures names { IfErr result (Names self.new) }
     {
         let place = self.word(keyword::PROGRAM_ACTIVITY)?;
@@ -212,8 +224,9 @@ impl<'a> Cursor<'a> {
     }
 
     fn process_activity(&mut self) -> Result<ActivityTree, SyntaxFault>
-        ensures shorter { IfOk result (λ _. length self.new < length self.old) }
-        ensures read { IfOk result (λ activity. IsProcessActivity activity self.old self.new) }
+        ensures shorter { IfOk result (λ _. length self.new.left < length self.old.left) }
+        ensures within { (all : Reading) → IsRest all self.old.left self.old.end → IsRest all self.new.left self.new.end }
+        ensures read { IfOk result (λ activity. IsProcessActivity activity self.old.left self.new.left) }
         ensures names { IfErr result (Names self.new) }
     {
         let place = self.word(keyword::PROCESS_ACTIVITY)?;
@@ -236,8 +249,9 @@ impl<'a> Cursor<'a> {
 
     #[cycle(elements)]
     fn block(&mut self, levels: u32) -> Result<ActivityTree, SyntaxFault>
-        ensures shorter { IfOk result (λ _. length self.new < length self.old) }
-        ensures read { IfOk result (λ activity. IsBlock levels activity self.old self.new) }
+        ensures shorter { IfOk result (λ _. length self.new.left < length self.old.left) }
+        ensures within { (all : Reading) → IsRest all self.old.left self.old.end → IsRest all self.new.left self.new.end }
+        ensures read { IfOk result (λ activity. IsBlock levels activity self.old.left self.new.left) }
         ensures names { IfErr result (Names self.new) }
     {
         if levels == 0 {
@@ -271,8 +285,9 @@ impl<'a> Cursor<'a> {
 
     #[cycle(elements)]
     fn element(&mut self, levels: u32) -> Result<ElementTree, SyntaxFault>
-        ensures shorter { IfOk result (λ _. length self.new < length self.old) }
-        ensures read { IfOk result (λ element. IsElement levels element self.old self.new) }
+        ensures shorter { IfOk result (λ _. length self.new.left < length self.old.left) }
+        ensures within { (all : Reading) → IsRest all self.old.left self.old.end → IsRest all self.new.left self.new.end }
+        ensures read { IfOk result (λ element. IsElement levels element self.old.left self.new.left) }
         ensures names { IfErr result (Names self.new) }
     {
         if self.is_word(keyword::BLOCK) {
@@ -298,8 +313,9 @@ impl<'a> Cursor<'a> {
     /// Takes the elements of a process or a block, in which so many levels of blocks may stand.
     #[cycle(elements)]
     pub(crate) fn elements(&mut self, levels: u32) -> Result<List<ElementTree>, SyntaxFault>
-        ensures shorter { IfOk result (λ _. length self.new ≤ length self.old) }
-        ensures read { IfOk result (λ elements. AreElements levels elements self.old self.new) }
+        ensures shorter { IfOk result (λ _. length self.new.left ≤ length self.old.left) }
+        ensures within { (all : Reading) → IsRest all self.old.left self.old.end → IsRest all self.new.left self.new.end }
+        ensures read { IfOk result (λ elements. AreElements levels elements self.old.left self.new.left) }
         ensures names { IfErr result (Names self.new) }
     {
         let mut elements = List::new(self.alloc());

@@ -1,6 +1,7 @@
 //! Conditions.
 ghost use Rattle.std.specs.Prelude.{◌≡◌, ◌<◌, length, IfOk, IfErr};
 ghost use Rattle.fdl_parser.specs.Faults.{Names};
+ghost use Rattle.fdl_parser.specs.Tokens.{Reading, IsRest};
 ghost use Rattle.fdl_parser.specs.Conditions.{mark_of, Denies, IsOperand, IsNextTerm, IsSide, IsComparison, IsNegation, IsConjunction, IsDisjunction, IsCondition};
 
 use crate::cursor::{Cursor, SyntaxFault, mark};
@@ -41,8 +42,9 @@ fn mark_of(operator: Operator) -> u8
 
 impl<'a> Cursor<'a> {
     fn operand(&mut self) -> Result<OperandTree, SyntaxFault>
-        ensures shorter { IfOk result (λ _. length self.new < length self.old) }
-        ensures read { IfOk result (λ operand. IsOperand operand self.old self.new) }
+        ensures shorter { IfOk result (λ _. length self.new.left < length self.old.left) }
+        ensures within { (all : Reading) → IsRest all self.old.left self.old.end → IsRest all self.new.left self.new.end }
+        ensures read { IfOk result (λ operand. IsOperand operand self.old.left self.new.left) }
         ensures names { IfErr result (Names self.new) }
     {
         if self.is_next(What::Name) || self.is_next(What::Rc) {
@@ -55,8 +57,9 @@ impl<'a> Cursor<'a> {
 
     /// Takes `+` or `-` and an operand.
     fn next_term(&mut self) -> Result<TermTree, SyntaxFault>
-        ensures shorter { IfOk result (λ _. length self.new < length self.old) }
-        ensures read { IfOk result (λ term. IsNextTerm term self.old self.new) }
+        ensures shorter { IfOk result (λ _. length self.new.left < length self.old.left) }
+        ensures within { (all : Reading) → IsRest all self.old.left self.old.end → IsRest all self.new.left self.new.end }
+        ensures read { IfOk result (λ term. IsNextTerm term self.old.left self.new.left) }
         ensures names { IfErr result (Names self.new) }
     {
         if self.is_mark(mark::MINUS) {
@@ -76,8 +79,9 @@ impl<'a> Cursor<'a> {
     }
 
     fn side(&mut self) -> Result<Side, SyntaxFault>
-        ensures shorter { IfOk result (λ _. length self.new < length self.old) }
-        ensures read { IfOk result (λ side. IsSide side self.old self.new) }
+        ensures shorter { IfOk result (λ _. length self.new.left < length self.old.left) }
+        ensures within { (all : Reading) → IsRest all self.old.left self.old.end → IsRest all self.new.left self.new.end }
+        ensures read { IfOk result (λ side. IsSide side self.old.left self.new.left) }
         ensures names { IfErr result (Names self.new) }
     {
         if self.is_next(What::Text) {
@@ -97,8 +101,9 @@ impl<'a> Cursor<'a> {
     }
 
     fn comparison(&mut self) -> Result<Cond, SyntaxFault>
-        ensures shorter { IfOk result (λ _. length self.new < length self.old) }
-        ensures read { IfOk result (λ cond. IsComparison cond self.old self.new) }
+        ensures shorter { IfOk result (λ _. length self.new.left < length self.old.left) }
+        ensures within { (all : Reading) → IsRest all self.old.left self.old.end → IsRest all self.new.left self.new.end }
+        ensures read { IfOk result (λ cond. IsComparison cond self.old.left self.new.left) }
         ensures names { IfErr result (Names self.new) }
     {
         let left = self.side()?;
@@ -113,8 +118,9 @@ impl<'a> Cursor<'a> {
     /// Takes NOT and what it denies, or a condition in parentheses, or a comparison.
     #[cycle(condition)]
     fn negation(&mut self, levels: u32) -> Result<Cond, SyntaxFault>
-        ensures shorter { IfOk result (λ _. length self.new < length self.old) }
-        ensures read { IfOk result (λ cond. IsNegation levels cond self.old self.new) }
+        ensures shorter { IfOk result (λ _. length self.new.left < length self.old.left) }
+        ensures within { (all : Reading) → IsRest all self.old.left self.old.end → IsRest all self.new.left self.new.end }
+        ensures read { IfOk result (λ cond. IsNegation levels cond self.old.left self.new.left) }
         ensures names { IfErr result (Names self.new) }
     {
         let denies = self.is_word(keyword::NOT);
@@ -139,8 +145,9 @@ impl<'a> Cursor<'a> {
 
     #[cycle(condition)]
     fn conjunction(&mut self, levels: u32) -> Result<Cond, SyntaxFault>
-        ensures shorter { IfOk result (λ _. length self.new < length self.old) }
-        ensures read { IfOk result (λ cond. IsConjunction levels cond self.old self.new) }
+        ensures shorter { IfOk result (λ _. length self.new.left < length self.old.left) }
+        ensures within { (all : Reading) → IsRest all self.old.left self.old.end → IsRest all self.new.left self.new.end }
+        ensures read { IfOk result (λ cond. IsConjunction levels cond self.old.left self.new.left) }
         ensures names { IfErr result (Names self.new) }
     {
         let first = self.negation(levels)?;
@@ -160,8 +167,9 @@ impl<'a> Cursor<'a> {
 
     #[cycle(condition)]
     fn disjunction(&mut self, levels: u32) -> Result<Cond, SyntaxFault>
-        ensures shorter { IfOk result (λ _. length self.new < length self.old) }
-        ensures read { IfOk result (λ cond. IsDisjunction levels cond self.old self.new) }
+        ensures shorter { IfOk result (λ _. length self.new.left < length self.old.left) }
+        ensures within { (all : Reading) → IsRest all self.old.left self.old.end → IsRest all self.new.left self.new.end }
+        ensures read { IfOk result (λ cond. IsDisjunction levels cond self.old.left self.new.left) }
         ensures names { IfErr result (Names self.new) }
     {
         let first = self.conjunction(levels)?;
@@ -181,8 +189,9 @@ impl<'a> Cursor<'a> {
 
     /// Takes a condition in the parentheses of WHEN.
     pub(crate) fn condition(&mut self) -> Result<CondAt, SyntaxFault>
-        ensures shorter { IfOk result (λ _. length self.new < length self.old) }
-        ensures read { IfOk result (λ cond. IsCondition cond self.old self.new) }
+        ensures shorter { IfOk result (λ _. length self.new.left < length self.old.left) }
+        ensures within { (all : Reading) → IsRest all self.old.left self.old.end → IsRest all self.new.left self.new.end }
+        ensures read { IfOk result (λ cond. IsCondition cond self.old.left self.new.left) }
         ensures names { IfErr result (Names self.new) }
     {
         let place = self.mark(mark::OPEN)?;

@@ -3,7 +3,7 @@ ghost use Rattle.std.specs.Prelude.{◌≡◌, ◌≢◌, ◌<◌, ◌≤◌, �
 ghost use Rattle.fdl_lexer.specs.Bytes.{single_quoted};
 ghost use Rattle.fdl_parser.specs.declared.cursor.SyntaxFault.TheVariants.{NoMemory};
 ghost use Rattle.fdl_parser.specs.Faults.{Names};
-ghost use Rattle.fdl_parser.specs.Tokens.{spell, first_kind, HasBytes, IsToken, IsName, IsQuote, IsItemToken, IsNumber, IsSigned, IsFirstStep, IsNextStep, IsLeaf};
+ghost use Rattle.fdl_parser.specs.Tokens.{Reading, reading, IsRest, first_kind, HasBytes, IsToken, IsName, IsQuote, IsItemToken, IsNumber, IsSigned, IsFirstStep, IsNextStep, IsLeaf};
 
 use fdl_lexer::{Token, What, text_value};
 use flow_model::{Bytes, LeafAt, List, Name, NameAt, NameFault, NumberAt, StepTree, Txt};
@@ -65,7 +65,8 @@ impl From<AllocError> for SyntaxFault {
     }
 }
 
-/// The tokens of a text that are left to read; contracts see it as their list, each with its bytes.
+/// The tokens of a text that are left to read; contracts see it as their list, each with its bytes,
+/// and the place where the text ends.
 #[derive(Drop)]
 pub struct Cursor<'a> {
     alloc: Global,
@@ -74,17 +75,17 @@ pub struct Cursor<'a> {
 }
 
 impl<'a> Model for Cursor<'a> {
-    ghost use Rattle.fdl_parser.specs.Tokens.{Tokens, spell};
+    ghost use Rattle.fdl_parser.specs.Tokens.{Reading, reading};
 
-    ghost Value = { Tokens };
+    ghost Value = { Reading };
 
-    ghost view = { λ c. spell c.text.now c.left.now };
+    ghost view = { λ c. reading c.text.now c.left.now };
 }
 
 impl<'a> Cursor<'a> {
     /// All tokens of a text.
     pub fn new(alloc: Global, text: &'a [u8], tokens: &'a [Token]) -> Cursor<'a>
-        ensures { result ≡ spell text.now tokens.now }
+        ensures { result ≡ reading text.now tokens.now }
     {
         Cursor {
             alloc,
@@ -100,7 +101,7 @@ impl<'a> Cursor<'a> {
 
     /// What the next token is.
     pub fn peek(&self) -> Option<What>
-        ensures { result ≡ first_kind self.now }
+        ensures { result ≡ first_kind self.now.left }
     {
         match self.left {
             [token, ..] => Some(token.what),
@@ -110,7 +111,7 @@ impl<'a> Cursor<'a> {
 
     /// Whether no token is left.
     pub fn is_at_end(&self) -> bool
-        ensures { result ≡ (length self.now == 0) }
+        ensures { result ≡ (length self.now.left == 0) }
     {
         self.left.is_empty()
     }
@@ -121,7 +122,7 @@ impl<'a> Cursor<'a> {
     {
         match self.left {
             [token, ..] => token.from,
-            [] => u32::try_from(self.text.len()).unwrap_or(u32::MAX),
+            [] => self.text.len().min(u32::MAX as usize) as u32,
         }
     }
 
@@ -134,8 +135,8 @@ impl<'a> Cursor<'a> {
 
     /// Whether the next token is this one.
     pub fn is_next(&self, what: What) -> bool
-        ensures yes { result ≡ true → first_kind self.now ≡ Some what }
-        ensures no { result ≡ false → first_kind self.now ≢ Some what }
+        ensures yes { result ≡ true → first_kind self.now.left ≡ Some what }
+        ensures no { result ≡ false → first_kind self.now.left ≢ Some what }
     {
         match self.left {
             [token, ..] => token.what == what,
@@ -145,25 +146,26 @@ impl<'a> Cursor<'a> {
 
     /// Whether the next token is this word.
     pub fn is_word(&self, word: u8) -> bool
-        ensures yes { result ≡ true → first_kind self.now ≡ Some (What.Word word) }
-        ensures no { result ≡ false → first_kind self.now ≢ Some (What.Word word) }
+        ensures yes { result ≡ true → first_kind self.now.left ≡ Some (What.Word word) }
+        ensures no { result ≡ false → first_kind self.now.left ≢ Some (What.Word word) }
     {
         self.is_next(What::Word(word))
     }
 
     /// Whether the next token is this mark.
     pub fn is_mark(&self, mark: u8) -> bool
-        ensures yes { result ≡ true → first_kind self.now ≡ Some (What.Mark mark) }
-        ensures no { result ≡ false → first_kind self.now ≢ Some (What.Mark mark) }
+        ensures yes { result ≡ true → first_kind self.now.left ≡ Some (What.Mark mark) }
+        ensures no { result ≡ false → first_kind self.now.left ≢ Some (What.Mark mark) }
     {
         self.is_next(What::Mark(mark))
     }
 
     /// Takes the next token, if it is this one; gives its place.
     pub fn token(&mut self, what: What) -> Result<u32, SyntaxFault>
-        ensures shorter { IfOk result (λ _. length self.new < length self.old) }
-        ensures read { IfOk result (λ place. IsToken what place self.old self.new) }
-        ensures refused { IfErr result (λ e. Names self.old e × (self.new ≡ self.old) × (first_kind self.old ≢ Some what)) }
+        ensures shorter { IfOk result (λ _. length self.new.left < length self.old.left) }
+        ensures within { (all : Reading) → IsRest all self.old.left self.old.end → IsRest all self.new.left self.new.end }
+        ensures read { IfOk result (λ place. IsToken what place self.old.left self.new.left) }
+        ensures refused { IfErr result (λ e. Names self.old e × (self.new ≡ self.old) × (first_kind self.old.left ≢ Some what)) }
     {
         match self.left {
             [token, rest @ ..] if token.what == what => {
@@ -176,25 +178,27 @@ impl<'a> Cursor<'a> {
 
     /// Takes the next token, if it is this word; gives its place.
     pub fn word(&mut self, word: u8) -> Result<u32, SyntaxFault>
-        ensures shorter { IfOk result (λ _. length self.new < length self.old) }
-        ensures read { IfOk result (λ place. IsToken (What.Word word) place self.old self.new) }
-        ensures refused { IfErr result (λ e. Names self.old e × (self.new ≡ self.old) × (first_kind self.old ≢ Some (What.Word word))) }
+        ensures shorter { IfOk result (λ _. length self.new.left < length self.old.left) }
+        ensures within { (all : Reading) → IsRest all self.old.left self.old.end → IsRest all self.new.left self.new.end }
+        ensures read { IfOk result (λ place. IsToken (What.Word word) place self.old.left self.new.left) }
+        ensures refused { IfErr result (λ e. Names self.old e × (self.new ≡ self.old) × (first_kind self.old.left ≢ Some (What.Word word))) }
     {
         self.token(What::Word(word))
     }
 
     /// Takes the next token, if it is this mark; gives its place.
     pub fn mark(&mut self, mark: u8) -> Result<u32, SyntaxFault>
-        ensures shorter { IfOk result (λ _. length self.new < length self.old) }
-        ensures read { IfOk result (λ place. IsToken (What.Mark mark) place self.old self.new) }
-        ensures refused { IfErr result (λ e. Names self.old e × (self.new ≡ self.old) × (first_kind self.old ≢ Some (What.Mark mark))) }
+        ensures shorter { IfOk result (λ _. length self.new.left < length self.old.left) }
+        ensures within { (all : Reading) → IsRest all self.old.left self.old.end → IsRest all self.new.left self.new.end }
+        ensures read { IfOk result (λ place. IsToken (What.Mark mark) place self.old.left self.new.left) }
+        ensures refused { IfErr result (λ e. Names self.old e × (self.new ≡ self.old) × (first_kind self.old.left ≢ Some (What.Mark mark))) }
     {
         self.token(What::Mark(mark))
     }
 
     /// The bytes of the next token, if it is of a kind that is read from them.
     fn spelled(&self, what: What) -> Result<&'a [u8], SyntaxFault>
-        ensures read { IfOk result (λ bytes. HasBytes what bytes.now self.now) }
+        ensures read { IfOk result (λ bytes. HasBytes what bytes.now self.now.left) }
         ensures names { IfErr result (Names self.now) }
     {
         match self.left {
@@ -210,8 +214,9 @@ impl<'a> Cursor<'a> {
 
     /// Takes a name.
     pub fn name(&mut self) -> Result<NameAt, SyntaxFault>
-        ensures shorter { IfOk result (λ _. length self.new < length self.old) }
-        ensures read { IfOk result (λ name. IsName name self.old self.new) }
+        ensures shorter { IfOk result (λ _. length self.new.left < length self.old.left) }
+        ensures within { (all : Reading) → IsRest all self.old.left self.old.end → IsRest all self.new.left self.new.end }
+        ensures read { IfOk result (λ name. IsName name self.old.left self.new.left) }
         ensures names { IfErr result (Names self.new) }
     {
         let bytes = self.spelled(What::Name)?;
@@ -227,8 +232,9 @@ impl<'a> Cursor<'a> {
 
     /// Takes a text; gives its place too.
     pub fn text(&mut self) -> Result<(Txt, u32), SyntaxFault>
-        ensures shorter { IfOk result (λ _. length self.new < length self.old) }
-        ensures read { IfOk result (λ read. IsQuote read.0 read.1 self.old self.new) }
+        ensures shorter { IfOk result (λ _. length self.new.left < length self.old.left) }
+        ensures within { (all : Reading) → IsRest all self.old.left self.old.end → IsRest all self.new.left self.new.end }
+        ensures read { IfOk result (λ read. IsQuote read.0 read.1 self.old.left self.new.left) }
         ensures names { IfErr result (Names self.new) }
     {
         let bytes = self.spelled(What::Text)?;
@@ -245,8 +251,9 @@ impl<'a> Cursor<'a> {
 
     /// Takes an item, with its quotes.
     pub fn item(&mut self) -> Result<Bytes, SyntaxFault>
-        ensures shorter { IfOk result (λ _. length self.new < length self.old) }
-        ensures read { IfOk result (λ bytes. IsItemToken bytes self.old self.new) }
+        ensures shorter { IfOk result (λ _. length self.new.left < length self.old.left) }
+        ensures within { (all : Reading) → IsRest all self.old.left self.old.end → IsRest all self.new.left self.new.end }
+        ensures read { IfOk result (λ bytes. IsItemToken bytes self.old.left self.new.left) }
         ensures names { IfErr result (Names self.new) }
     {
         let bytes = Bytes::new(self.alloc, self.spelled(What::Item)?)?;
@@ -256,8 +263,9 @@ impl<'a> Cursor<'a> {
 
     /// Takes a number without a sign.
     pub fn number(&mut self) -> Result<NumberAt, SyntaxFault>
-        ensures shorter { IfOk result (λ _. length self.new < length self.old) }
-        ensures read { IfOk result (λ number. IsNumber number self.old self.new) }
+        ensures shorter { IfOk result (λ _. length self.new.left < length self.old.left) }
+        ensures within { (all : Reading) → IsRest all self.old.left self.old.end → IsRest all self.new.left self.new.end }
+        ensures read { IfOk result (λ number. IsNumber number self.old.left self.new.left) }
         ensures names { IfErr result (Names self.new) }
     {
         match self.peek() {
@@ -275,8 +283,9 @@ impl<'a> Cursor<'a> {
 
     /// Takes a number, with a `-` before it or without.
     pub fn signed(&mut self) -> Result<NumberAt, SyntaxFault>
-        ensures shorter { IfOk result (λ _. length self.new < length self.old) }
-        ensures read { IfOk result (λ number. IsSigned number self.old self.new) }
+        ensures shorter { IfOk result (λ _. length self.new.left < length self.old.left) }
+        ensures within { (all : Reading) → IsRest all self.old.left self.old.end → IsRest all self.new.left self.new.end }
+        ensures read { IfOk result (λ number. IsSigned number self.old.left self.new.left) }
         ensures names { IfErr result (Names self.new) }
     {
         if !self.is_mark(mark::MINUS) {
@@ -294,8 +303,9 @@ impl<'a> Cursor<'a> {
 
     /// Takes the first step of a leaf: a name or `'_RC'`; gives its place too.
     fn first_step(&mut self) -> Result<(StepTree, u32), SyntaxFault>
-        ensures shorter { IfOk result (λ _. length self.new < length self.old) }
-        ensures read { IfOk result (λ step. IsFirstStep step.0 step.1 self.old self.new) }
+        ensures shorter { IfOk result (λ _. length self.new.left < length self.old.left) }
+        ensures within { (all : Reading) → IsRest all self.old.left self.old.end → IsRest all self.new.left self.new.end }
+        ensures read { IfOk result (λ step. IsFirstStep step.0 step.1 self.old.left self.new.left) }
         ensures names { IfErr result (Names self.new) }
     {
         if self.is_next(What::Rc) {
@@ -308,8 +318,9 @@ impl<'a> Cursor<'a> {
 
     /// Takes `. name` or `[ number ]`.
     fn next_step(&mut self) -> Result<StepTree, SyntaxFault>
-        ensures shorter { IfOk result (λ _. length self.new < length self.old) }
-        ensures read { IfOk result (λ step. IsNextStep step self.old self.new) }
+        ensures shorter { IfOk result (λ _. length self.new.left < length self.old.left) }
+        ensures within { (all : Reading) → IsRest all self.old.left self.old.end → IsRest all self.new.left self.new.end }
+        ensures read { IfOk result (λ step. IsNextStep step self.old.left self.new.left) }
         ensures names { IfErr result (Names self.new) }
     {
         if self.is_mark(mark::DOT) {
@@ -325,8 +336,9 @@ impl<'a> Cursor<'a> {
 
     /// Takes a leaf.
     pub fn leaf(&mut self) -> Result<LeafAt, SyntaxFault>
-        ensures shorter { IfOk result (λ _. length self.new < length self.old) }
-        ensures read { IfOk result (λ leaf. IsLeaf leaf self.old self.new) }
+        ensures shorter { IfOk result (λ _. length self.new.left < length self.old.left) }
+        ensures within { (all : Reading) → IsRest all self.old.left self.old.end → IsRest all self.new.left self.new.end }
+        ensures read { IfOk result (λ leaf. IsLeaf leaf self.old.left self.new.left) }
         ensures names { IfErr result (Names self.new) }
     {
         let (first, place) = self.first_step()?;

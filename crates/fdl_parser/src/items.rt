@@ -1,8 +1,8 @@
 //! The items of a text: structures, persons, processes.
 ghost use Rattle.std.specs.Prelude.{◌≡◌, ◌<◌, ◌≤◌, length, IfOk, IfErr};
 ghost use Rattle.fdl_lexer.specs.Tokens.{AreTokens};
-ghost use Rattle.fdl_parser.specs.Faults.{Names};
-ghost use Rattle.fdl_parser.specs.Tokens.{spell};
+ghost use Rattle.fdl_parser.specs.Faults.{Names, NamesOne};
+ghost use Rattle.fdl_parser.specs.Tokens.{spell, Reading, reading, IsRest};
 ghost use Rattle.fdl_parser.specs.Items.{IsKind, IsCount, IsMember, IsStructure, AreRoles, IsPerson, IsProcess, IsItem, IsTree};
 ghost use Rattle.fdl_parser.specs.Alike.{AlikeTree};
 
@@ -17,8 +17,9 @@ use std::alloc::Global;
 
 impl<'a> Cursor<'a> {
     fn kind(&mut self) -> Result<KindTree, SyntaxFault>
-        ensures shorter { IfOk result (λ _. length self.new < length self.old) }
-        ensures read { IfOk result (λ kind. IsKind kind self.old self.new) }
+        ensures shorter { IfOk result (λ _. length self.new.left < length self.old.left) }
+        ensures within { (all : Reading) → IsRest all self.old.left self.old.end → IsRest all self.new.left self.new.end }
+        ensures read { IfOk result (λ kind. IsKind kind self.old.left self.new.left) }
         ensures names { IfErr result (Names self.new) }
     {
         if self.is_word(keyword::LONG) {
@@ -35,8 +36,9 @@ impl<'a> Cursor<'a> {
 
     /// Takes the count of an array, if one stands there.
     fn count(&mut self) -> Result<Option<NumberAt>, SyntaxFault>
-        ensures shorter { IfOk result (λ _. length self.new ≤ length self.old) }
-        ensures read { IfOk result (λ count. IsCount count self.old self.new) }
+        ensures shorter { IfOk result (λ _. length self.new.left ≤ length self.old.left) }
+        ensures within { (all : Reading) → IsRest all self.old.left self.old.end → IsRest all self.new.left self.new.end }
+        ensures read { IfOk result (λ count. IsCount count self.old.left self.new.left) }
         ensures names { IfErr result (Names self.new) }
     {
         if !self.is_mark(mark::OPEN) {
@@ -49,8 +51,9 @@ impl<'a> Cursor<'a> {
     }
 
     fn member(&mut self) -> Result<Member, SyntaxFault>
-        ensures shorter { IfOk result (λ _. length self.new < length self.old) }
-        ensures read { IfOk result (λ member. IsMember member self.old self.new) }
+        ensures shorter { IfOk result (λ _. length self.new.left < length self.old.left) }
+        ensures within { (all : Reading) → IsRest all self.old.left self.old.end → IsRest all self.new.left self.new.end }
+        ensures read { IfOk result (λ member. IsMember member self.old.left self.new.left) }
         ensures names { IfErr result (Names self.new) }
     {
         let name = self.name()?;
@@ -62,8 +65,9 @@ impl<'a> Cursor<'a> {
     }
 
     fn structure(&mut self) -> Result<StructDef, SyntaxFault>
-        ensures shorter { IfOk result (λ _. length self.new < length self.old) }
-        ensures read { IfOk result (λ structure. IsStructure structure self.old self.new) }
+        ensures shorter { IfOk result (λ _. length self.new.left < length self.old.left) }
+        ensures within { (all : Reading) → IsRest all self.old.left self.old.end → IsRest all self.new.left self.new.end }
+        ensures read { IfOk result (λ structure. IsStructure structure self.old.left self.new.left) }
         ensures names { IfErr result (Names self.new) }
     {
         self.word(keyword::STRUCTURE)?;
@@ -78,8 +82,9 @@ impl<'a> Cursor<'a> {
 
     /// Takes the roles of a person, if there are any.
     fn roles(&mut self) -> Result<List<NameAt>, SyntaxFault>
-        ensures shorter { IfOk result (λ _. length self.new ≤ length self.old) }
-        ensures read { IfOk result (λ roles. AreRoles roles self.old self.new) }
+        ensures shorter { IfOk result (λ _. length self.new.left ≤ length self.old.left) }
+        ensures within { (all : Reading) → IsRest all self.old.left self.old.end → IsRest all self.new.left self.new.end }
+        ensures read { IfOk result (λ roles. AreRoles roles self.old.left self.new.left) }
         ensures names { IfErr result (Names self.new) }
     {
         let mut roles = List::new(self.alloc());
@@ -98,8 +103,9 @@ impl<'a> Cursor<'a> {
     }
 
     fn person(&mut self) -> Result<PersonTree, SyntaxFault>
-        ensures shorter { IfOk result (λ _. length self.new < length self.old) }
-        ensures read { IfOk result (λ person. IsPerson person self.old self.new) }
+        ensures shorter { IfOk result (λ _. length self.new.left < length self.old.left) }
+        ensures within { (all : Reading) → IsRest all self.old.left self.old.end → IsRest all self.new.left self.new.end }
+        ensures read { IfOk result (λ person. IsPerson person self.old.left self.new.left) }
         ensures names { IfErr result (Names self.new) }
     {
         self.word(keyword::PERSON)?;
@@ -110,8 +116,9 @@ impl<'a> Cursor<'a> {
     }
 
     fn process(&mut self) -> Result<ProcessTree, SyntaxFault>
-        ensures shorter { IfOk result (λ _. length self.new < length self.old) }
-        ensures read { IfOk result (λ process. IsProcess process self.old self.new) }
+        ensures shorter { IfOk result (λ _. length self.new.left < length self.old.left) }
+        ensures within { (all : Reading) → IsRest all self.old.left self.old.end → IsRest all self.new.left self.new.end }
+        ensures read { IfOk result (λ process. IsProcess process self.old.left self.new.left) }
         ensures names { IfErr result (Names self.new) }
     {
         let place = self.word(keyword::PROCESS)?;
@@ -130,8 +137,9 @@ impl<'a> Cursor<'a> {
     }
 
     fn text_item(&mut self) -> Result<ItemTree, SyntaxFault>
-        ensures shorter { IfOk result (λ _. length self.new < length self.old) }
-        ensures read { IfOk result (λ item. IsItem item self.old self.new) }
+        ensures shorter { IfOk result (λ _. length self.new.left < length self.old.left) }
+        ensures within { (all : Reading) → IsRest all self.old.left self.old.end → IsRest all self.new.left self.new.end }
+        ensures read { IfOk result (λ item. IsItem item self.old.left self.new.left) }
         ensures names { IfErr result (Names self.new) }
     {
         if self.is_word(keyword::STRUCTURE) {
@@ -156,6 +164,7 @@ impl<'a> Cursor<'a> {
 pub fn parse(alloc: Global, text: &[u8], tokens: &Tokens) -> Result<Tree, SyntaxFault>
     ensures tree { IfOk result (λ tree. IsTree tree (spell text.now tokens.now.items)) }
     ensures one { IfOk result (λ tree. AreTokens text.now tokens.now.items → (other : Tree) → IsTree other (spell text.now tokens.now.items) → AlikeTree tree other) }
+    ensures names { IfErr result (NamesOne (reading text.now tokens.now.items)) }
 {
     let mut cursor = Cursor::new(alloc, text, tokens.items.as_slice());
     let mut items = List::new(alloc);

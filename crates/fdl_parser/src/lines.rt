@@ -1,6 +1,7 @@
 //! CONTROL and DATA lines.
 ghost use Rattle.std.specs.Prelude.{◌≡◌, ◌<◌, ◌≤◌, length, IfOk, IfErr};
 ghost use Rattle.fdl_parser.specs.Faults.{Names};
+ghost use Rattle.fdl_parser.specs.Tokens.{Reading, IsRest};
 ghost use Rattle.fdl_parser.specs.Lines.{IsTransition, IsControl, IsEnd, AreEnds, IsMap, AreMaps, IsDataLine};
 
 use crate::cursor::{Cursor, SyntaxFault, mark};
@@ -10,8 +11,9 @@ use flow_table::keyword;
 impl<'a> Cursor<'a> {
     /// Takes the transition condition of a connector, if one stands there.
     fn transition(&mut self) -> Result<WhenTree, SyntaxFault>
-        ensures shorter { IfOk result (λ _. length self.new ≤ length self.old) }
-        ensures read { IfOk result (λ when. IsTransition when self.old self.new) }
+        ensures shorter { IfOk result (λ _. length self.new.left ≤ length self.old.left) }
+        ensures within { (all : Reading) → IsRest all self.old.left self.old.end → IsRest all self.new.left self.new.end }
+        ensures read { IfOk result (λ when. IsTransition when self.old.left self.new.left) }
         ensures names { IfErr result (Names self.new) }
     {
         if self.is_word(keyword::OTHERWISE) {
@@ -27,8 +29,9 @@ impl<'a> Cursor<'a> {
     }
 
     pub(crate) fn control(&mut self) -> Result<ControlTree, SyntaxFault>
-        ensures shorter { IfOk result (λ _. length self.new < length self.old) }
-        ensures read { IfOk result (λ control. IsControl control self.old self.new) }
+        ensures shorter { IfOk result (λ _. length self.new.left < length self.old.left) }
+        ensures within { (all : Reading) → IsRest all self.old.left self.old.end → IsRest all self.new.left self.new.end }
+        ensures read { IfOk result (λ control. IsControl control self.old.left self.new.left) }
         ensures names { IfErr result (Names self.new) }
     {
         let place = self.word(keyword::CONTROL)?;
@@ -47,8 +50,9 @@ impl<'a> Cursor<'a> {
 
     /// Takes an activity's name, or the word for the scope's own container.
     fn end(&mut self, border: u8) -> Result<EndTree, SyntaxFault>
-        ensures shorter { IfOk result (λ _. length self.new < length self.old) }
-        ensures read { IfOk result (λ end. IsEnd border end self.old self.new) }
+        ensures shorter { IfOk result (λ _. length self.new.left < length self.old.left) }
+        ensures within { (all : Reading) → IsRest all self.old.left self.old.end → IsRest all self.new.left self.new.end }
+        ensures read { IfOk result (λ end. IsEnd border end self.old.left self.new.left) }
         ensures names { IfErr result (Names self.new) }
     {
         if self.is_word(border) {
@@ -61,8 +65,9 @@ impl<'a> Cursor<'a> {
 
     /// Takes what stands between DATA and MAP.
     fn ends(&mut self) -> Result<EndsTree, SyntaxFault>
-        ensures shorter { IfOk result (λ _. length self.new < length self.old) }
-        ensures read { IfOk result (λ ends. AreEnds ends self.old self.new) }
+        ensures shorter { IfOk result (λ _. length self.new.left < length self.old.left) }
+        ensures within { (all : Reading) → IsRest all self.old.left self.old.end → IsRest all self.new.left self.new.end }
+        ensures read { IfOk result (λ ends. AreEnds ends self.old.left self.new.left) }
         ensures names { IfErr result (Names self.new) }
     {
         if self.is_word(keyword::LOOP) {
@@ -78,8 +83,9 @@ impl<'a> Cursor<'a> {
     }
 
     fn map(&mut self) -> Result<MapTree, SyntaxFault>
-        ensures shorter { IfOk result (λ _. length self.new < length self.old) }
-        ensures read { IfOk result (λ map. IsMap map self.old self.new) }
+        ensures shorter { IfOk result (λ _. length self.new.left < length self.old.left) }
+        ensures within { (all : Reading) → IsRest all self.old.left self.old.end → IsRest all self.new.left self.new.end }
+        ensures read { IfOk result (λ map. IsMap map self.old.left self.new.left) }
         ensures names { IfErr result (Names self.new) }
     {
         let from = self.leaf()?;
@@ -89,8 +95,9 @@ impl<'a> Cursor<'a> {
     }
 
     fn maps(&mut self) -> Result<List<MapTree>, SyntaxFault>
-        ensures shorter { IfOk result (λ _. length self.new < length self.old) }
-        ensures read { IfOk result (λ maps. AreMaps maps self.old self.new) }
+        ensures shorter { IfOk result (λ _. length self.new.left < length self.old.left) }
+        ensures within { (all : Reading) → IsRest all self.old.left self.old.end → IsRest all self.new.left self.new.end }
+        ensures read { IfOk result (λ maps. AreMaps maps self.old.left self.new.left) }
         ensures names { IfErr result (Names self.new) }
     {
         self.word(keyword::MAP)?;
@@ -106,8 +113,9 @@ impl<'a> Cursor<'a> {
     }
 
     pub(crate) fn data_line(&mut self) -> Result<DataTree, SyntaxFault>
-        ensures shorter { IfOk result (λ _. length self.new < length self.old) }
-        ensures read { IfOk result (λ line. IsDataLine line self.old self.new) }
+        ensures shorter { IfOk result (λ _. length self.new.left < length self.old.left) }
+        ensures within { (all : Reading) → IsRest all self.old.left self.old.end → IsRest all self.new.left self.new.end }
+        ensures read { IfOk result (λ line. IsDataLine line self.old.left self.new.left) }
         ensures names { IfErr result (Names self.new) }
     {
         let place = self.word(keyword::DATA)?;

@@ -19,12 +19,14 @@ conjunction-returns-then-not-is_word-clause-read t c = OneNegation c.in_ok-first
 pub conjunction-loop-self-init : goal.conjunction-loop-self-init
 conjunction-loop-self-init t c = record {
   shorter = omega (arith, c.in_ok-first.ensures.shorter, c.in_ok-word.ensures.shorter, c.in_ok-negation.ensures.shorter);
+  within = λ all h. c.in_ok-negation.ensures.within all (c.in_ok-word.ensures.within all (c.in_ok-first.ensures.within all h));
   read = rw (c.in_ok-push-2.ensures.ok, c.in_ok-push.ensures.ok, c.new-members.ensures) (TwoNegations c.in_ok-first.ensures.read c.in_ok-word.ensures.read c.in_ok-negation.ensures.read);
 }
 
 pub conjunction-loop-self-preserved : goal.conjunction-loop-self-preserved
 conjunction-loop-self-preserved t c = record {
   shorter = omega (arith, c.loop-self.invariant.shorter, c.in_ok-word-2.ensures.shorter, c.in_ok-negation-2.ensures.shorter);
+  within = λ all h. c.in_ok-negation-2.ensures.within all (c.in_ok-word-2.ensures.within all (c.loop-self.invariant.within all h));
   read = rw (c.in_ok-push-3.ensures.ok) (MoreNegations c.loop-self.invariant.read c.in_ok-word-2.ensures.read c.in_ok-negation-2.ensures.read);
 }
 
@@ -37,12 +39,14 @@ disjunction-returns-then-not-is_word-clause-read t c = OneConjunction c.in_ok-fi
 pub disjunction-loop-self-init : goal.disjunction-loop-self-init
 disjunction-loop-self-init t c = record {
   shorter = omega (arith, c.in_ok-first.ensures.shorter, c.in_ok-word.ensures.shorter, c.in_ok-conjunction.ensures.shorter);
+  within = λ all h. c.in_ok-conjunction.ensures.within all (c.in_ok-word.ensures.within all (c.in_ok-first.ensures.within all h));
   read = rw (c.in_ok-push-2.ensures.ok, c.in_ok-push.ensures.ok, c.new-members.ensures) (TwoConjunctions c.in_ok-first.ensures.read c.in_ok-word.ensures.read c.in_ok-conjunction.ensures.read);
 }
 
 pub disjunction-loop-self-preserved : goal.disjunction-loop-self-preserved
 disjunction-loop-self-preserved t c = record {
   shorter = omega (arith, c.loop-self.invariant.shorter, c.in_ok-word-2.ensures.shorter, c.in_ok-conjunction-2.ensures.shorter);
+  within = λ all h. c.in_ok-conjunction-2.ensures.within all (c.in_ok-word-2.ensures.within all (c.loop-self.invariant.within all h));
   read = rw (c.in_ok-push-3.ensures.ok) (MoreConjunctions c.loop-self.invariant.read c.in_ok-word-2.ensures.read c.in_ok-conjunction-2.ensures.read);
 }
 

@@ -24,11 +24,13 @@ element-returns-clause-read t c = ProgramElement c.in_ok-program.ensures.read
 pub elements-loop-elements-init : goal.elements-loop-elements-init
 elements-loop-elements-init t c = record {
   shorter = omega arith;
+  within = λ all h. h;
   read = rw (c.new-elements.ensures) (NoElement);
 }
 
 pub elements-loop-elements-preserved : goal.elements-loop-elements-preserved
 elements-loop-elements-preserved t c = record {
   shorter = omega (arith, c.loop-elements.invariant.shorter, c.in_ok-element.ensures.shorter);
+  within = λ all h. c.in_ok-element.ensures.within all (c.loop-elements.invariant.within all h);
   read = rw (c.in_ok-push.ensures.ok) (MoreElements c.loop-elements.invariant.read c.in_ok-element.ensures.read);
 }

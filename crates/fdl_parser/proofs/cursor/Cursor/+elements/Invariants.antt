@@ -1,3 +1,4 @@
+use Rattle.fdl_parser.specs.Tokens.{Reading, IsRest}
 use Rattle.std.proofs.Common.{◌≤◌, ◌+◌, ◌*◌, length}
 use Rattle.fdl_parser.specs.Activities.{AreElements}
 use Rattle.fdl_parser.proofs.cursor.Cursor.+elements.Given as goal
@@ -13,9 +14,10 @@ decreases-elements l = 3 * l.levels + 2
 
 abbrev pub invariant-elements-loop-elements : goal.invariant-elements-loop-elements
 invariant-elements-loop-elements l = record {
-  shorter : length l.self ≤ length l.fn.self;
-  read : AreElements l.levels l.elements l.fn.self l.self;
+  shorter : length l.self.left ≤ length l.fn.self.left;
+  within : (all : Reading) → IsRest all l.fn.self.left l.fn.self.end → IsRest all l.self.left l.self.end;
+  read : AreElements l.levels l.elements l.fn.self.left l.self.left;
 }
 
 abbrev pub decreases-elements-loop-elements : goal.decreases-elements-loop-elements
-decreases-elements-loop-elements l = length l.self
+decreases-elements-loop-elements l = length l.self.left
