@@ -48,6 +48,10 @@ pub data IsRest (all : Reading) : Tokens → ℕ → Type 0 where
   Unread : IsRest all all.left all.end
   Less : {t : Spelled} {ts : Tokens} {end : ℕ} → IsRest all (t ∷ ts) end → IsRest all ts end
 
+-- what is left in the second is left in the first, too, some tokens on
+abbrev pub StaysWithin : Reading → Reading → Type 0
+StaysWithin before after = (all : Reading) → IsRest all before.left before.end → IsRest all after.left after.end
+
 -- what the first token is
 abbrev pub first_kind : Tokens → Option What
 first_kind [] = None

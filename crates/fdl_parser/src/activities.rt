@@ -1,7 +1,7 @@
 //! Activities with their attributes, and the elements of a process or a block.
 ghost use Rattle.std.specs.Prelude.{◌≡◌, ◌<◌, ◌≤◌, length, IfOk, IfErr};
 ghost use Rattle.fdl_parser.specs.Faults.{Names};
-ghost use Rattle.fdl_parser.specs.Tokens.{Reading, IsRest};
+ghost use Rattle.fdl_parser.specs.Tokens.{StaysWithin};
 ghost use Rattle.fdl_parser.specs.Activities.{AreStructures, IsClosing, IsJoin, ConnectorsTrue, IsCommonAttribute, AreCommonAttributes, IsDoneBy, IsStart, IsAttribute, AreAttributes, IsProgramActivity, IsProcessActivity, IsBlock, IsElement, AreElements};
 
 use crate::cursor::{Cursor, SyntaxFault, mark};
@@ -15,7 +15,7 @@ impl<'a> Cursor<'a> {
     /// Takes the two structures of a container in their parentheses.
     pub(crate) fn structures(&mut self) -> Result<(NameAt, NameAt), SyntaxFault>
         ensures shorter { IfOk result (λ _. length self.new.left < length self.old.left) }
-        ensures within { (all : Reading) → IsRest all self.old.left self.old.end → IsRest all self.new.left self.new.end }
+        ensures within { StaysWithin self.old self.new }
         ensures read { IfOk result (λ both. AreStructures both.0 both.1 self.old.left self.new.left) }
         ensures names { IfErr result (Names self.new) }
     {
@@ -30,7 +30,7 @@ impl<'a> Cursor<'a> {
     /// Takes END and the name behind it.
     pub(crate) fn closing(&mut self) -> Result<NameAt, SyntaxFault>
         ensures shorter { IfOk result (λ _. length self.new.left < length self.old.left) }
-        ensures within { (all : Reading) → IsRest all self.old.left self.old.end → IsRest all self.new.left self.new.end }
+        ensures within { StaysWithin self.old self.new }
         ensures read { IfOk result (λ name. IsClosing name self.old.left self.new.left) }
         ensures names { IfErr result (Names self.new) }
     {
@@ -42,7 +42,7 @@ impl<'a> Cursor<'a> {
     /// Takes what a join asks, behind WHEN.
     fn join(&mut self) -> Result<JoinTree, SyntaxFault>
         ensures shorter { IfOk result (λ _. length self.new.left < length self.old.left) }
-        ensures within { (all : Reading) → IsRest all self.old.left self.old.end → IsRest all self.new.left self.new.end }
+        ensures within { StaysWithin self.old self.new }
         ensures read { IfOk result (λ join. IsJoin join self.old.left self.new.left) }
         ensures names { IfErr result (Names self.new) }
     {
@@ -65,7 +65,7 @@ impl<'a> Cursor<'a> {
 
     fn connectors_true(&mut self) -> Result<(), SyntaxFault>
         ensures shorter { IfOk result (λ _. length self.new.left < length self.old.left) }
-        ensures within { (all : Reading) → IsRest all self.old.left self.old.end → IsRest all self.new.left self.new.end }
+        ensures within { StaysWithin self.old self.new }
         ensures read { IfOk result (λ _. ConnectorsTrue self.old.left self.new.left) }
         ensures names { IfErr result (Names self.new) }
     {
@@ -82,7 +82,7 @@ impl<'a> Cursor<'a> {
     /// Takes a start condition or an exit condition.
     fn common_attribute(&mut self) -> Result<AttrAt, SyntaxFault>
         ensures shorter { IfOk result (λ _. length self.new.left < length self.old.left) }
-        ensures within { (all : Reading) → IsRest all self.old.left self.old.end → IsRest all self.new.left self.new.end }
+        ensures within { StaysWithin self.old self.new }
         ensures read { IfOk result (λ attribute. IsCommonAttribute attribute self.old.left self.new.left) }
         ensures names { IfErr result (Names self.new) }
     {
@@ -101,7 +101,7 @@ impl<'a> Cursor<'a> {
 
     fn common_attributes(&mut self) -> Result<List<AttrAt>, SyntaxFault>
         ensures shorter { IfOk result (λ _. length self.new.left ≤ length self.old.left) }
-        ensures within { (all : Reading) → IsRest all self.old.left self.old.end → IsRest all self.new.left self.new.end }
+        ensures within { StaysWithin self.old self.new }
         ensures read { IfOk result (λ attributes. AreCommonAttributes attributes self.old.left self.new.left) }
         ensures names { IfErr result (Names self.new) }
     {
@@ -115,7 +115,7 @@ impl<'a> Cursor<'a> {
     /// Takes who may do an activity, behind DONE_BY.
     fn done_by(&mut self) -> Result<AttrTree, SyntaxFault>
         ensures shorter { IfOk result (λ _. length self.new.left < length self.old.left) }
-        ensures within { (all : Reading) → IsRest all self.old.left self.old.end → IsRest all self.new.left self.new.end }
+        ensures within { StaysWithin self.old self.new }
         ensures read { IfOk result (λ attribute. IsDoneBy attribute self.old.left self.new.left) }
         ensures names { IfErr result (Names self.new) }
     {
@@ -142,7 +142,7 @@ impl<'a> Cursor<'a> {
     /// Takes how an activity is started, behind START.
     fn start(&mut self) -> Result<AttrTree, SyntaxFault>
         ensures shorter { IfOk result (λ _. length self.new.left < length self.old.left) }
-        ensures within { (all : Reading) → IsRest all self.old.left self.old.end → IsRest all self.new.left self.new.end }
+        ensures within { StaysWithin self.old self.new }
         ensures read { IfOk result (λ attribute. IsStart attribute self.old.left self.new.left) }
         ensures names { IfErr result (Names self.new) }
     {
@@ -164,7 +164,7 @@ impl<'a> Cursor<'a> {
 
     fn attribute(&mut self) -> Result<AttrAt, SyntaxFault>
         ensures shorter { IfOk result (λ _. length self.new.left < length self.old.left) }
-        ensures within { (all : Reading) → IsRest all self.old.left self.old.end → IsRest all self.new.left self.new.end }
+        ensures within { StaysWithin self.old self.new }
         ensures read { IfOk result (λ attribute. IsAttribute attribute self.old.left self.new.left) }
         ensures names { IfErr result (Names self.new) }
     {
@@ -190,7 +190,7 @@ impl<'a> Cursor<'a> {
 
     fn attributes(&mut self) -> Result<List<AttrAt>, SyntaxFault>
         ensures shorter { IfOk result (λ _. length self.new.left ≤ length self.old.left) }
-        ensures within { (all : Reading) → IsRest all self.old.left self.old.end → IsRest all self.new.left self.new.end }
+        ensures within { StaysWithin self.old self.new }
         ensures read { IfOk result (λ attributes. AreAttributes attributes self.old.left self.new.left) }
         ensures names { IfErr result (Names self.new) }
     {
@@ -203,7 +203,7 @@ impl<'a> Cursor<'a> {
 
     fn program_activity(&mut self) -> Result<ActivityTree, SyntaxFault>
         ensures shorter { IfOk result (λ _. length self.new.left < length self.old.left) }
-        ensures within { (all : Reading) → IsRest all self.old.left self.old.end → IsRest all self.new.left self.new.end }
+        ensures within { StaysWithin self.old self.new }
         ensures read { IfOk result (λ activity. IsProgramActivity activity self.old.left self.new.left) }
         ensures names { IfErr result (Names self.new) }
     {
@@ -225,7 +225,7 @@ impl<'a> Cursor<'a> {
 
     fn process_activity(&mut self) -> Result<ActivityTree, SyntaxFault>
         ensures shorter { IfOk result (λ _. length self.new.left < length self.old.left) }
-        ensures within { (all : Reading) → IsRest all self.old.left self.old.end → IsRest all self.new.left self.new.end }
+        ensures within { StaysWithin self.old self.new }
         ensures read { IfOk result (λ activity. IsProcessActivity activity self.old.left self.new.left) }
         ensures names { IfErr result (Names self.new) }
     {
@@ -250,7 +250,7 @@ impl<'a> Cursor<'a> {
     #[cycle(elements)]
     fn block(&mut self, levels: u32) -> Result<ActivityTree, SyntaxFault>
         ensures shorter { IfOk result (λ _. length self.new.left < length self.old.left) }
-        ensures within { (all : Reading) → IsRest all self.old.left self.old.end → IsRest all self.new.left self.new.end }
+        ensures within { StaysWithin self.old self.new }
         ensures read { IfOk result (λ activity. IsBlock levels activity self.old.left self.new.left) }
         ensures names { IfErr result (Names self.new) }
     {
@@ -286,7 +286,7 @@ impl<'a> Cursor<'a> {
     #[cycle(elements)]
     fn element(&mut self, levels: u32) -> Result<ElementTree, SyntaxFault>
         ensures shorter { IfOk result (λ _. length self.new.left < length self.old.left) }
-        ensures within { (all : Reading) → IsRest all self.old.left self.old.end → IsRest all self.new.left self.new.end }
+        ensures within { StaysWithin self.old self.new }
         ensures read { IfOk result (λ element. IsElement levels element self.old.left self.new.left) }
         ensures names { IfErr result (Names self.new) }
     {
@@ -314,7 +314,7 @@ impl<'a> Cursor<'a> {
     #[cycle(elements)]
     pub(crate) fn elements(&mut self, levels: u32) -> Result<List<ElementTree>, SyntaxFault>
         ensures shorter { IfOk result (λ _. length self.new.left ≤ length self.old.left) }
-        ensures within { (all : Reading) → IsRest all self.old.left self.old.end → IsRest all self.new.left self.new.end }
+        ensures within { StaysWithin self.old self.new }
         ensures read { IfOk result (λ elements. AreElements levels elements self.old.left self.new.left) }
         ensures names { IfErr result (Names self.new) }
     {

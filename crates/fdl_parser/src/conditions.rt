@@ -1,7 +1,7 @@
 //! Conditions.
 ghost use Rattle.std.specs.Prelude.{◌≡◌, ◌<◌, length, IfOk, IfErr};
 ghost use Rattle.fdl_parser.specs.Faults.{Names};
-ghost use Rattle.fdl_parser.specs.Tokens.{Reading, IsRest};
+ghost use Rattle.fdl_parser.specs.Tokens.{StaysWithin};
 ghost use Rattle.fdl_parser.specs.Conditions.{mark_of, Denies, IsOperand, IsNextTerm, IsSide, IsComparison, IsNegation, IsConjunction, IsDisjunction, IsCondition};
 
 use crate::cursor::{Cursor, SyntaxFault, mark};
@@ -43,7 +43,7 @@ fn mark_of(operator: Operator) -> u8
 impl<'a> Cursor<'a> {
     fn operand(&mut self) -> Result<OperandTree, SyntaxFault>
         ensures shorter { IfOk result (λ _. length self.new.left < length self.old.left) }
-        ensures within { (all : Reading) → IsRest all self.old.left self.old.end → IsRest all self.new.left self.new.end }
+        ensures within { StaysWithin self.old self.new }
         ensures read { IfOk result (λ operand. IsOperand operand self.old.left self.new.left) }
         ensures names { IfErr result (Names self.new) }
     {
@@ -58,7 +58,7 @@ impl<'a> Cursor<'a> {
     /// Takes `+` or `-` and an operand.
     fn next_term(&mut self) -> Result<TermTree, SyntaxFault>
         ensures shorter { IfOk result (λ _. length self.new.left < length self.old.left) }
-        ensures within { (all : Reading) → IsRest all self.old.left self.old.end → IsRest all self.new.left self.new.end }
+        ensures within { StaysWithin self.old self.new }
         ensures read { IfOk result (λ term. IsNextTerm term self.old.left self.new.left) }
         ensures names { IfErr result (Names self.new) }
     {
@@ -80,7 +80,7 @@ impl<'a> Cursor<'a> {
 
     fn side(&mut self) -> Result<Side, SyntaxFault>
         ensures shorter { IfOk result (λ _. length self.new.left < length self.old.left) }
-        ensures within { (all : Reading) → IsRest all self.old.left self.old.end → IsRest all self.new.left self.new.end }
+        ensures within { StaysWithin self.old self.new }
         ensures read { IfOk result (λ side. IsSide side self.old.left self.new.left) }
         ensures names { IfErr result (Names self.new) }
     {
@@ -102,7 +102,7 @@ impl<'a> Cursor<'a> {
 
     fn comparison(&mut self) -> Result<Cond, SyntaxFault>
         ensures shorter { IfOk result (λ _. length self.new.left < length self.old.left) }
-        ensures within { (all : Reading) → IsRest all self.old.left self.old.end → IsRest all self.new.left self.new.end }
+        ensures within { StaysWithin self.old self.new }
         ensures read { IfOk result (λ cond. IsComparison cond self.old.left self.new.left) }
         ensures names { IfErr result (Names self.new) }
     {
@@ -119,7 +119,7 @@ impl<'a> Cursor<'a> {
     #[cycle(condition)]
     fn negation(&mut self, levels: u32) -> Result<Cond, SyntaxFault>
         ensures shorter { IfOk result (λ _. length self.new.left < length self.old.left) }
-        ensures within { (all : Reading) → IsRest all self.old.left self.old.end → IsRest all self.new.left self.new.end }
+        ensures within { StaysWithin self.old self.new }
         ensures read { IfOk result (λ cond. IsNegation levels cond self.old.left self.new.left) }
         ensures names { IfErr result (Names self.new) }
     {
@@ -146,7 +146,7 @@ impl<'a> Cursor<'a> {
     #[cycle(condition)]
     fn conjunction(&mut self, levels: u32) -> Result<Cond, SyntaxFault>
         ensures shorter { IfOk result (λ _. length self.new.left < length self.old.left) }
-        ensures within { (all : Reading) → IsRest all self.old.left self.old.end → IsRest all self.new.left self.new.end }
+        ensures within { StaysWithin self.old self.new }
         ensures read { IfOk result (λ cond. IsConjunction levels cond self.old.left self.new.left) }
         ensures names { IfErr result (Names self.new) }
     {
@@ -168,7 +168,7 @@ impl<'a> Cursor<'a> {
     #[cycle(condition)]
     fn disjunction(&mut self, levels: u32) -> Result<Cond, SyntaxFault>
         ensures shorter { IfOk result (λ _. length self.new.left < length self.old.left) }
-        ensures within { (all : Reading) → IsRest all self.old.left self.old.end → IsRest all self.new.left self.new.end }
+        ensures within { StaysWithin self.old self.new }
         ensures read { IfOk result (λ cond. IsDisjunction levels cond self.old.left self.new.left) }
         ensures names { IfErr result (Names self.new) }
     {
@@ -190,7 +190,7 @@ impl<'a> Cursor<'a> {
     /// Takes a condition in the parentheses of WHEN.
     pub(crate) fn condition(&mut self) -> Result<CondAt, SyntaxFault>
         ensures shorter { IfOk result (λ _. length self.new.left < length self.old.left) }
-        ensures within { (all : Reading) → IsRest all self.old.left self.old.end → IsRest all self.new.left self.new.end }
+        ensures within { StaysWithin self.old self.new }
         ensures read { IfOk result (λ cond. IsCondition cond self.old.left self.new.left) }
         ensures names { IfErr result (Names self.new) }
     {

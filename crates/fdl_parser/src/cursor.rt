@@ -3,7 +3,7 @@ ghost use Rattle.std.specs.Prelude.{◌≡◌, ◌≢◌, ◌<◌, ◌≤◌, �
 ghost use Rattle.fdl_lexer.specs.Bytes.{single_quoted};
 ghost use Rattle.fdl_parser.specs.declared.cursor.SyntaxFault.TheVariants.{NoMemory};
 ghost use Rattle.fdl_parser.specs.Faults.{Names};
-ghost use Rattle.fdl_parser.specs.Tokens.{Reading, reading, IsRest, first_kind, HasBytes, IsToken, IsName, IsQuote, IsItemToken, IsNumber, IsSigned, IsFirstStep, IsNextStep, IsLeaf};
+ghost use Rattle.fdl_parser.specs.Tokens.{reading, StaysWithin, first_kind, HasBytes, IsToken, IsName, IsQuote, IsItemToken, IsNumber, IsSigned, IsFirstStep, IsNextStep, IsLeaf};
 
 use fdl_lexer::{Token, What, text_value};
 use flow_model::{Bytes, LeafAt, List, Name, NameAt, NameFault, NumberAt, StepTree, Txt};
@@ -163,7 +163,7 @@ impl<'a> Cursor<'a> {
     /// Takes the next token, if it is this one; gives its place.
     pub fn token(&mut self, what: What) -> Result<u32, SyntaxFault>
         ensures shorter { IfOk result (λ _. length self.new.left < length self.old.left) }
-        ensures within { (all : Reading) → IsRest all self.old.left self.old.end → IsRest all self.new.left self.new.end }
+        ensures within { StaysWithin self.old self.new }
         ensures read { IfOk result (λ place. IsToken what place self.old.left self.new.left) }
         ensures refused { IfErr result (λ e. Names self.old e × (self.new ≡ self.old) × (first_kind self.old.left ≢ Some what)) }
     {
@@ -179,7 +179,7 @@ impl<'a> Cursor<'a> {
     /// Takes the next token, if it is this word; gives its place.
     pub fn word(&mut self, word: u8) -> Result<u32, SyntaxFault>
         ensures shorter { IfOk result (λ _. length self.new.left < length self.old.left) }
-        ensures within { (all : Reading) → IsRest all self.old.left self.old.end → IsRest all self.new.left self.new.end }
+        ensures within { StaysWithin self.old self.new }
         ensures read { IfOk result (λ place. IsToken (What.Word word) place self.old.left self.new.left) }
         ensures refused { IfErr result (λ e. Names self.old e × (self.new ≡ self.old) × (first_kind self.old.left ≢ Some (What.Word word))) }
     {
@@ -189,7 +189,7 @@ impl<'a> Cursor<'a> {
     /// Takes the next token, if it is this mark; gives its place.
     pub fn mark(&mut self, mark: u8) -> Result<u32, SyntaxFault>
         ensures shorter { IfOk result (λ _. length self.new.left < length self.old.left) }
-        ensures within { (all : Reading) → IsRest all self.old.left self.old.end → IsRest all self.new.left self.new.end }
+        ensures within { StaysWithin self.old self.new }
         ensures read { IfOk result (λ place. IsToken (What.Mark mark) place self.old.left self.new.left) }
         ensures refused { IfErr result (λ e. Names self.old e × (self.new ≡ self.old) × (first_kind self.old.left ≢ Some (What.Mark mark))) }
     {
@@ -215,7 +215,7 @@ impl<'a> Cursor<'a> {
     /// Takes a name.
     pub fn name(&mut self) -> Result<NameAt, SyntaxFault>
         ensures shorter { IfOk result (λ _. length self.new.left < length self.old.left) }
-        ensures within { (all : Reading) → IsRest all self.old.left self.old.end → IsRest all self.new.left self.new.end }
+        ensures within { StaysWithin self.old self.new }
         ensures read { IfOk result (λ name. IsName name self.old.left self.new.left) }
         ensures names { IfErr result (Names self.new) }
     {
@@ -233,7 +233,7 @@ impl<'a> Cursor<'a> {
     /// Takes a text; gives its place too.
     pub fn text(&mut self) -> Result<(Txt, u32), SyntaxFault>
         ensures shorter { IfOk result (λ _. length self.new.left < length self.old.left) }
-        ensures within { (all : Reading) → IsRest all self.old.left self.old.end → IsRest all self.new.left self.new.end }
+        ensures within { StaysWithin self.old self.new }
         ensures read { IfOk result (λ read. IsQuote read.0 read.1 self.old.left self.new.left) }
         ensures names { IfErr result (Names self.new) }
     {
@@ -252,7 +252,7 @@ impl<'a> Cursor<'a> {
     /// Takes an item, with its quotes.
     pub fn item(&mut self) -> Result<Bytes, SyntaxFault>
         ensures shorter { IfOk result (λ _. length self.new.left < length self.old.left) }
-        ensures within { (all : Reading) → IsRest all self.old.left self.old.end → IsRest all self.new.left self.new.end }
+        ensures within { StaysWithin self.old self.new }
         ensures read { IfOk result (λ bytes. IsItemToken bytes self.old.left self.new.left) }
         ensures names { IfErr result (Names self.new) }
     {
@@ -264,7 +264,7 @@ impl<'a> Cursor<'a> {
     /// Takes a number without a sign.
     pub fn number(&mut self) -> Result<NumberAt, SyntaxFault>
         ensures shorter { IfOk result (λ _. length self.new.left < length self.old.left) }
-        ensures within { (all : Reading) → IsRest all self.old.left self.old.end → IsRest all self.new.left self.new.end }
+        ensures within { StaysWithin self.old self.new }
         ensures read { IfOk result (λ number. IsNumber number self.old.left self.new.left) }
         ensures names { IfErr result (Names self.new) }
     {
@@ -284,7 +284,7 @@ impl<'a> Cursor<'a> {
     /// Takes a number, with a `-` before it or without.
     pub fn signed(&mut self) -> Result<NumberAt, SyntaxFault>
         ensures shorter { IfOk result (λ _. length self.new.left < length self.old.left) }
-        ensures within { (all : Reading) → IsRest all self.old.left self.old.end → IsRest all self.new.left self.new.end }
+        ensures within { StaysWithin self.old self.new }
         ensures read { IfOk result (λ number. IsSigned number self.old.left self.new.left) }
         ensures names { IfErr result (Names self.new) }
     {
@@ -304,7 +304,7 @@ impl<'a> Cursor<'a> {
     /// Takes the first step of a leaf: a name or `'_RC'`; gives its place too.
     fn first_step(&mut self) -> Result<(StepTree, u32), SyntaxFault>
         ensures shorter { IfOk result (λ _. length self.new.left < length self.old.left) }
-        ensures within { (all : Reading) → IsRest all self.old.left self.old.end → IsRest all self.new.left self.new.end }
+        ensures within { StaysWithin self.old self.new }
         ensures read { IfOk result (λ step. IsFirstStep step.0 step.1 self.old.left self.new.left) }
         ensures names { IfErr result (Names self.new) }
     {
@@ -319,7 +319,7 @@ impl<'a> Cursor<'a> {
     /// Takes `. name` or `[ number ]`.
     fn next_step(&mut self) -> Result<StepTree, SyntaxFault>
         ensures shorter { IfOk result (λ _. length self.new.left < length self.old.left) }
-        ensures within { (all : Reading) → IsRest all self.old.left self.old.end → IsRest all self.new.left self.new.end }
+        ensures within { StaysWithin self.old self.new }
         ensures read { IfOk result (λ step. IsNextStep step self.old.left self.new.left) }
         ensures names { IfErr result (Names self.new) }
     {
@@ -337,7 +337,7 @@ impl<'a> Cursor<'a> {
     /// Takes a leaf.
     pub fn leaf(&mut self) -> Result<LeafAt, SyntaxFault>
         ensures shorter { IfOk result (λ _. length self.new.left < length self.old.left) }
-        ensures within { (all : Reading) → IsRest all self.old.left self.old.end → IsRest all self.new.left self.new.end }
+        ensures within { StaysWithin self.old self.new }
         ensures read { IfOk result (λ leaf. IsLeaf leaf self.old.left self.new.left) }
         ensures names { IfErr result (Names self.new) }
     {

@@ -2,7 +2,7 @@
 ghost use Rattle.std.specs.Prelude.{◌≡◌, ◌<◌, ◌≤◌, length, IfOk, IfErr};
 ghost use Rattle.fdl_lexer.specs.Tokens.{AreTokens};
 ghost use Rattle.fdl_parser.specs.Faults.{Names, NamesOne};
-ghost use Rattle.fdl_parser.specs.Tokens.{spell, Reading, reading, IsRest};
+ghost use Rattle.fdl_parser.specs.Tokens.{spell, reading, StaysWithin};
 ghost use Rattle.fdl_parser.specs.Items.{IsKind, IsCount, IsMember, IsStructure, AreRoles, IsPerson, IsProcess, IsItem, IsTree};
 ghost use Rattle.fdl_parser.specs.Alike.{AlikeTree};
 
@@ -18,7 +18,7 @@ use std::alloc::Global;
 impl<'a> Cursor<'a> {
     fn kind(&mut self) -> Result<KindTree, SyntaxFault>
         ensures shorter { IfOk result (λ _. length self.new.left < length self.old.left) }
-        ensures within { (all : Reading) → IsRest all self.old.left self.old.end → IsRest all self.new.left self.new.end }
+        ensures within { StaysWithin self.old self.new }
         ensures read { IfOk result (λ kind. IsKind kind self.old.left self.new.left) }
         ensures names { IfErr result (Names self.new) }
     {
@@ -37,7 +37,7 @@ impl<'a> Cursor<'a> {
     /// Takes the count of an array, if one stands there.
     fn count(&mut self) -> Result<Option<NumberAt>, SyntaxFault>
         ensures shorter { IfOk result (λ _. length self.new.left ≤ length self.old.left) }
-        ensures within { (all : Reading) → IsRest all self.old.left self.old.end → IsRest all self.new.left self.new.end }
+        ensures within { StaysWithin self.old self.new }
         ensures read { IfOk result (λ count. IsCount count self.old.left self.new.left) }
         ensures names { IfErr result (Names self.new) }
     {
@@ -52,7 +52,7 @@ impl<'a> Cursor<'a> {
 
     fn member(&mut self) -> Result<Member, SyntaxFault>
         ensures shorter { IfOk result (λ _. length self.new.left < length self.old.left) }
-        ensures within { (all : Reading) → IsRest all self.old.left self.old.end → IsRest all self.new.left self.new.end }
+        ensures within { StaysWithin self.old self.new }
         ensures read { IfOk result (λ member. IsMember member self.old.left self.new.left) }
         ensures names { IfErr result (Names self.new) }
     {
@@ -66,7 +66,7 @@ impl<'a> Cursor<'a> {
 
     fn structure(&mut self) -> Result<StructDef, SyntaxFault>
         ensures shorter { IfOk result (λ _. length self.new.left < length self.old.left) }
-        ensures within { (all : Reading) → IsRest all self.old.left self.old.end → IsRest all self.new.left self.new.end }
+        ensures within { StaysWithin self.old self.new }
         ensures read { IfOk result (λ structure. IsStructure structure self.old.left self.new.left) }
         ensures names { IfErr result (Names self.new) }
     {
@@ -83,7 +83,7 @@ impl<'a> Cursor<'a> {
     /// Takes the roles of a person, if there are any.
     fn roles(&mut self) -> Result<List<NameAt>, SyntaxFault>
         ensures shorter { IfOk result (λ _. length self.new.left ≤ length self.old.left) }
-        ensures within { (all : Reading) → IsRest all self.old.left self.old.end → IsRest all self.new.left self.new.end }
+        ensures within { StaysWithin self.old self.new }
         ensures read { IfOk result (λ roles. AreRoles roles self.old.left self.new.left) }
         ensures names { IfErr result (Names self.new) }
     {
@@ -104,7 +104,7 @@ impl<'a> Cursor<'a> {
 
     fn person(&mut self) -> Result<PersonTree, SyntaxFault>
         ensures shorter { IfOk result (λ _. length self.new.left < length self.old.left) }
-        ensures within { (all : Reading) → IsRest all self.old.left self.old.end → IsRest all self.new.left self.new.end }
+        ensures within { StaysWithin self.old self.new }
         ensures read { IfOk result (λ person. IsPerson person self.old.left self.new.left) }
         ensures names { IfErr result (Names self.new) }
     {
@@ -117,7 +117,7 @@ impl<'a> Cursor<'a> {
 
     fn process(&mut self) -> Result<ProcessTree, SyntaxFault>
         ensures shorter { IfOk result (λ _. length self.new.left < length self.old.left) }
-        ensures within { (all : Reading) → IsRest all self.old.left self.old.end → IsRest all self.new.left self.new.end }
+        ensures within { StaysWithin self.old self.new }
         ensures read { IfOk result (λ process. IsProcess process self.old.left self.new.left) }
         ensures names { IfErr result (Names self.new) }
     {
@@ -138,7 +138,7 @@ impl<'a> Cursor<'a> {
 
     fn text_item(&mut self) -> Result<ItemTree, SyntaxFault>
         ensures shorter { IfOk result (λ _. length self.new.left < length self.old.left) }
-        ensures within { (all : Reading) → IsRest all self.old.left self.old.end → IsRest all self.new.left self.new.end }
+        ensures within { StaysWithin self.old self.new }
         ensures read { IfOk result (λ item. IsItem item self.old.left self.new.left) }
         ensures names { IfErr result (Names self.new) }
     {

@@ -1,7 +1,7 @@
 //! CONTROL and DATA lines.
 ghost use Rattle.std.specs.Prelude.{◌≡◌, ◌<◌, ◌≤◌, length, IfOk, IfErr};
 ghost use Rattle.fdl_parser.specs.Faults.{Names};
-ghost use Rattle.fdl_parser.specs.Tokens.{Reading, IsRest};
+ghost use Rattle.fdl_parser.specs.Tokens.{StaysWithin};
 ghost use Rattle.fdl_parser.specs.Lines.{IsTransition, IsControl, IsEnd, AreEnds, IsMap, AreMaps, IsDataLine};
 
 use crate::cursor::{Cursor, SyntaxFault, mark};
@@ -12,7 +12,7 @@ impl<'a> Cursor<'a> {
     /// Takes the transition condition of a connector, if one stands there.
     fn transition(&mut self) -> Result<WhenTree, SyntaxFault>
         ensures shorter { IfOk result (λ _. length self.new.left ≤ length self.old.left) }
-        ensures within { (all : Reading) → IsRest all self.old.left self.old.end → IsRest all self.new.left self.new.end }
+        ensures within { StaysWithin self.old self.new }
         ensures read { IfOk result (λ when. IsTransition when self.old.left self.new.left) }
         ensures names { IfErr result (Names self.new) }
     {
@@ -30,7 +30,7 @@ impl<'a> Cursor<'a> {
 
     pub(crate) fn control(&mut self) -> Result<ControlTree, SyntaxFault>
         ensures shorter { IfOk result (λ _. length self.new.left < length self.old.left) }
-        ensures within { (all : Reading) → IsRest all self.old.left self.old.end → IsRest all self.new.left self.new.end }
+        ensures within { StaysWithin self.old self.new }
         ensures read { IfOk result (λ control. IsControl control self.old.left self.new.left) }
         ensures names { IfErr result (Names self.new) }
     {
@@ -51,7 +51,7 @@ impl<'a> Cursor<'a> {
     /// Takes an activity's name, or the word for the scope's own container.
     fn end(&mut self, border: u8) -> Result<EndTree, SyntaxFault>
         ensures shorter { IfOk result (λ _. length self.new.left < length self.old.left) }
-        ensures within { (all : Reading) → IsRest all self.old.left self.old.end → IsRest all self.new.left self.new.end }
+        ensures within { StaysWithin self.old self.new }
         ensures read { IfOk result (λ end. IsEnd border end self.old.left self.new.left) }
         ensures names { IfErr result (Names self.new) }
     {
@@ -66,7 +66,7 @@ impl<'a> Cursor<'a> {
     /// Takes what stands between DATA and MAP.
     fn ends(&mut self) -> Result<EndsTree, SyntaxFault>
         ensures shorter { IfOk result (λ _. length self.new.left < length self.old.left) }
-        ensures within { (all : Reading) → IsRest all self.old.left self.old.end → IsRest all self.new.left self.new.end }
+        ensures within { StaysWithin self.old self.new }
         ensures read { IfOk result (λ ends. AreEnds ends self.old.left self.new.left) }
         ensures names { IfErr result (Names self.new) }
     {
@@ -84,7 +84,7 @@ impl<'a> Cursor<'a> {
 
     fn map(&mut self) -> Result<MapTree, SyntaxFault>
         ensures shorter { IfOk result (λ _. length self.new.left < length self.old.left) }
-        ensures within { (all : Reading) → IsRest all self.old.left self.old.end → IsRest all self.new.left self.new.end }
+        ensures within { StaysWithin self.old self.new }
         ensures read { IfOk result (λ map. IsMap map self.old.left self.new.left) }
         ensures names { IfErr result (Names self.new) }
     {
@@ -96,7 +96,7 @@ impl<'a> Cursor<'a> {
 
     fn maps(&mut self) -> Result<List<MapTree>, SyntaxFault>
         ensures shorter { IfOk result (λ _. length self.new.left < length self.old.left) }
-        ensures within { (all : Reading) → IsRest all self.old.left self.old.end → IsRest all self.new.left self.new.end }
+        ensures within { StaysWithin self.old self.new }
         ensures read { IfOk result (λ maps. AreMaps maps self.old.left self.new.left) }
         ensures names { IfErr result (Names self.new) }
     {
@@ -114,7 +114,7 @@ impl<'a> Cursor<'a> {
 
     pub(crate) fn data_line(&mut self) -> Result<DataTree, SyntaxFault>
         ensures shorter { IfOk result (λ _. length self.new.left < length self.old.left) }
-        ensures within { (all : Reading) → IsRest all self.old.left self.old.end → IsRest all self.new.left self.new.end }
+        ensures within { StaysWithin self.old self.new }
         ensures read { IfOk result (λ line. IsDataLine line self.old.left self.new.left) }
         ensures names { IfErr result (Names self.new) }
     {

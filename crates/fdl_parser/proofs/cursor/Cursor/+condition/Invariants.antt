@@ -1,4 +1,4 @@
-use Rattle.fdl_parser.specs.Tokens.{Reading, IsRest}
+use Rattle.fdl_parser.specs.Tokens.{StaysWithin}
 use Rattle.std.proofs.Common.{◌<◌, ◌+◌, ◌*◌, length}
 use Rattle.fdl_parser.specs.Conditions.{AreConjoined, AreDisjoined}
 use Rattle.fdl_parser.proofs.cursor.Cursor.+condition.Given as goal
@@ -15,7 +15,7 @@ decreases-negation l = 3 * l.levels
 abbrev pub invariant-conjunction-loop-self : goal.invariant-conjunction-loop-self
 invariant-conjunction-loop-self l = record {
   shorter : length l.self.left < length l.fn.self.left;
-  within : (all : Reading) → IsRest all l.fn.self.left l.fn.self.end → IsRest all l.self.left l.self.end;
+  within : StaysWithin l.fn.self l.self;
   read : AreConjoined l.levels l.members l.fn.self.left l.self.left;
 }
 
@@ -25,7 +25,7 @@ decreases-conjunction-loop-self l = length l.self.left
 abbrev pub invariant-disjunction-loop-self : goal.invariant-disjunction-loop-self
 invariant-disjunction-loop-self l = record {
   shorter : length l.self.left < length l.fn.self.left;
-  within : (all : Reading) → IsRest all l.fn.self.left l.fn.self.end → IsRest all l.self.left l.self.end;
+  within : StaysWithin l.fn.self l.self;
   read : AreDisjoined l.levels l.members l.fn.self.left l.self.left;
 }
 

@@ -1,4 +1,4 @@
-use Rattle.fdl_parser.specs.Tokens.{Reading, IsRest}
+use Rattle.fdl_parser.specs.Tokens.{StaysWithin}
 use Rattle.std.proofs.Common.{◌≤◌, ◌+◌, ◌*◌, length}
 use Rattle.fdl_parser.specs.Activities.{AreElements}
 use Rattle.fdl_parser.proofs.cursor.Cursor.+elements.Given as goal
@@ -15,7 +15,7 @@ decreases-elements l = 3 * l.levels + 2
 abbrev pub invariant-elements-loop-elements : goal.invariant-elements-loop-elements
 invariant-elements-loop-elements l = record {
   shorter : length l.self.left ≤ length l.fn.self.left;
-  within : (all : Reading) → IsRest all l.fn.self.left l.fn.self.end → IsRest all l.self.left l.self.end;
+  within : StaysWithin l.fn.self l.self;
   read : AreElements l.levels l.elements l.fn.self.left l.self.left;
 }
 

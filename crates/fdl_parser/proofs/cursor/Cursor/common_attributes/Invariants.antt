@@ -1,4 +1,4 @@
-use Rattle.fdl_parser.specs.Tokens.{Reading, IsRest}
+use Rattle.fdl_parser.specs.Tokens.{StaysWithin}
 use Rattle.std.proofs.Common.{◌≤◌, length}
 use Rattle.fdl_parser.specs.Activities.{AreCommonAttributes}
 use Rattle.fdl_parser.proofs.cursor.Cursor.common_attributes.Given as goal
@@ -6,7 +6,7 @@ use Rattle.fdl_parser.proofs.cursor.Cursor.common_attributes.Given as goal
 abbrev pub invariant-loop-attributes : goal.invariant-loop-attributes
 invariant-loop-attributes l = record {
   shorter : length l.self.left ≤ length l.fn.self.left;
-  within : (all : Reading) → IsRest all l.fn.self.left l.fn.self.end → IsRest all l.self.left l.self.end;
+  within : StaysWithin l.fn.self l.self;
   read : AreCommonAttributes l.attributes l.fn.self.left l.self.left;
 }
 

@@ -1,4 +1,4 @@
-use Rattle.fdl_parser.specs.Tokens.{Reading, IsRest}
+use Rattle.fdl_parser.specs.Tokens.{StaysWithin}
 use Rattle.std.proofs.Common.{◌≤◌, length}
 use Rattle.fdl_parser.specs.Items.{AreNamed}
 use Rattle.fdl_parser.proofs.cursor.Cursor.roles.Given as goal
@@ -6,7 +6,7 @@ use Rattle.fdl_parser.proofs.cursor.Cursor.roles.Given as goal
 abbrev pub invariant-loop-self : goal.invariant-loop-self
 invariant-loop-self l = record {
   shorter : length l.self.left ≤ length l.fn.self.left;
-  within : (all : Reading) → IsRest all l.fn.self.left l.fn.self.end → IsRest all l.self.left l.self.end;
+  within : StaysWithin l.fn.self l.self;
   read : AreNamed l.roles l.fn.self.left l.self.left;
 }
 
