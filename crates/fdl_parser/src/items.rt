@@ -157,7 +157,7 @@ impl<'a> Cursor<'a> {
 
 /// The tree of a text's tokens: the one that the grammar relates to them.
 ///
-/// There is no other, where the tokens are the lexer's.
+/// Where the tokens are the lexer's there is no other, but for where in memory the operand of a NOT lies.
 ///
 /// `At` comes where they have none, with the place of the first token with which they begin no text of
 /// the grammar, or else the text's length.
