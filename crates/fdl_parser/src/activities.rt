@@ -1,8 +1,10 @@
 //! Activities with their attributes, and the elements of a process or a block.
-ghost use Rattle.std.specs.Prelude.{◌≡◌, ◌<◌, ◌≤◌, length, IfOk};
+ghost use Rattle.std.specs.Prelude.{◌≡◌, ◌<◌, ◌≤◌, length, IfOk, IfErr};
+ghost use Rattle.fdl_parser.specs.Faults.{Names};
+ghost use Rattle.fdl_parser.specs.Tokens.{StaysWithin};
+ghost use Rattle.fdl_parser.specs.Activities.{AreStructures, IsClosing, IsJoin, ConnectorsTrue, IsCommonAttribute, AreCommonAttributes, IsDoneBy, IsStart, IsAttribute, AreAttributes, IsProgramActivity, IsProcessActivity, IsBlock, IsElement, AreElements};
 
 use crate::cursor::{Cursor, SyntaxFault, mark};
-use fdl_lexer::What;
 use flow_model::{ActivityTree, AttrAt, AttrTree, ElementTree, JoinTree, List, NameAt, WorkTree};
 use flow_table::keyword;
 
@@ -12,7 +14,10 @@ pub(crate) const LEVELS: u32 = 64;
 impl<'a> Cursor<'a> {
     /// Takes the two structures of a container in their parentheses.
     pub(crate) fn structures(&mut self) -> Result<(NameAt, NameAt), SyntaxFault>
-        ensures { IfOk result (λ _. length self.new < length self.old) }
+        ensures shorter { IfOk result (λ _. length self.new.left < length self.old.left) }
+        ensures within { StaysWithin self.old self.new }
+        ensures read { IfOk result (λ both. AreStructures both.0 both.1 self.old.left self.new.left) }
+        ensures names { IfErr result (Names self.new) }
     {
         self.mark(mark::OPEN)?;
         let input = self.name()?;
@@ -24,15 +29,22 @@ impl<'a> Cursor<'a> {
 
     /// Takes END and the name behind it.
     pub(crate) fn closing(&mut self) -> Result<NameAt, SyntaxFault>
-        ensures { IfOk result (λ _. length self.new < length self.old) }
+        ensures shorter { IfOk result (λ _. length self.new.left < length self.old.left) }
+        ensures within { StaysWithin self.old self.new }
+        ensures read { IfOk result (λ name. IsClosing name self.old.left self.new.left) }
+        ensures names { IfErr result (Names self.new) }
     {
         self.word(keyword::END)?;
-        self.name()
+        let name = self.name()?;
+        Ok(name)
     }
 
     /// Takes what a join asks, behind WHEN.
     fn join(&mut self) -> Result<JoinTree, SyntaxFault>
-        ensures { IfOk result (λ _. length self.new < length self.old) }
+        ensures shorter { IfOk result (λ _. length self.new.left < length self.old.left) }
+        ensures within { StaysWithin self.old self.new }
+        ensures read { IfOk result (λ join. IsJoin join self.old.left self.new.left) }
+        ensures names { IfErr result (Names self.new) }
     {
         if self.is_word(keyword::AT_LEAST_ONE) {
             self.word(keyword::AT_LEAST_ONE)?;
@@ -52,7 +64,10 @@ impl<'a> Cursor<'a> {
     }
 
     fn connectors_true(&mut self) -> Result<(), SyntaxFault>
-        ensures { IfOk result (λ _. length self.new < length self.old) }
+        ensures shorter { IfOk result (λ _. length self.new.left < length self.old.left) }
+        ensures within { StaysWithin self.old self.new }
+        ensures read { IfOk result (λ _. ConnectorsTrue self.old.left self.new.left) }
+        ensures names { IfErr result (Names self.new) }
     {
         self.word(keyword::CONNECTORS)?;
         self.word(keyword::TRUE)?;
@@ -66,22 +81,29 @@ impl<'a> Cursor<'a> {
 
     /// Takes a start condition or an exit condition.
     fn common_attribute(&mut self) -> Result<AttrAt, SyntaxFault>
-        ensures { IfOk result (λ _. length self.new < length self.old) }
+        ensures shorter { IfOk result (λ _. length self.new.left < length self.old.left) }
+        ensures within { StaysWithin self.old self.new }
+        ensures read { IfOk result (λ attribute. IsCommonAttribute attribute self.old.left self.new.left) }
+        ensures names { IfErr result (Names self.new) }
     {
-        let place = self.place();
         if self.is_word(keyword::WHEN) {
-            self.word(keyword::WHEN)?;
-            let what = AttrTree::When(self.join()?);
+            let place = self.word(keyword::WHEN)?;
+            let join = self.join()?;
+            let what = AttrTree::When(join);
             return Ok(AttrAt { place, what });
         }
-        self.word(keyword::EXIT)?;
+        let place = self.word(keyword::EXIT)?;
         self.word(keyword::WHEN)?;
-        let what = AttrTree::Exit(self.condition()?);
+        let condition = self.condition()?;
+        let what = AttrTree::Exit(condition);
         Ok(AttrAt { place, what })
     }
 
     fn common_attributes(&mut self) -> Result<List<AttrAt>, SyntaxFault>
-        ensures { IfOk result (λ _. length self.new ≤ length self.old) }
+        ensures shorter { IfOk result (λ _. length self.new.left ≤ length self.old.left) }
+        ensures within { StaysWithin self.old self.new }
+        ensures read { IfOk result (λ attributes. AreCommonAttributes attributes self.old.left self.new.left) }
+        ensures names { IfErr result (Names self.new) }
     {
         let mut attributes = List::new(self.alloc());
         while self.is_common_attribute() {
@@ -92,32 +114,37 @@ impl<'a> Cursor<'a> {
 
     /// Takes who may do an activity, behind DONE_BY.
     fn done_by(&mut self) -> Result<AttrTree, SyntaxFault>
-        ensures { IfOk result (λ _. length self.new < length self.old) }
+        ensures shorter { IfOk result (λ _. length self.new.left < length self.old.left) }
+        ensures within { StaysWithin self.old self.new }
+        ensures read { IfOk result (λ attribute. IsDoneBy attribute self.old.left self.new.left) }
+        ensures names { IfErr result (Names self.new) }
     {
-        match self.peek() {
-            Some(What::Word(keyword::ROLE)) => {
-                self.word(keyword::ROLE)?;
-                Ok(AttrTree::Role(self.name()?))
-            }
-            Some(What::Word(keyword::PERSON)) => {
-                self.word(keyword::PERSON)?;
-                Ok(AttrTree::Person(self.name()?))
-            }
-            Some(What::Word(keyword::STARTER)) => {
-                self.word(keyword::STARTER)?;
-                Ok(AttrTree::Starter)
-            }
-            _ => {
-                self.word(keyword::PERFORMER)?;
-                self.word(keyword::OF)?;
-                Ok(AttrTree::Performer(self.name()?))
-            }
+        if self.is_word(keyword::ROLE) {
+            self.word(keyword::ROLE)?;
+            let role = self.name()?;
+            return Ok(AttrTree::Role(role));
         }
+        if self.is_word(keyword::PERSON) {
+            self.word(keyword::PERSON)?;
+            let person = self.name()?;
+            return Ok(AttrTree::Person(person));
+        }
+        if self.is_word(keyword::STARTER) {
+            self.word(keyword::STARTER)?;
+            return Ok(AttrTree::Starter);
+        }
+        self.word(keyword::PERFORMER)?;
+        self.word(keyword::OF)?;
+        let performer = self.name()?;
+        Ok(AttrTree::Performer(performer))
     }
 
     /// Takes how an activity is started, behind START.
     fn start(&mut self) -> Result<AttrTree, SyntaxFault>
-        ensures { IfOk result (λ _. length self.new < length self.old) }
+        ensures shorter { IfOk result (λ _. length self.new.left < length self.old.left) }
+        ensures within { StaysWithin self.old self.new }
+        ensures read { IfOk result (λ attribute. IsStart attribute self.old.left self.new.left) }
+        ensures names { IfErr result (Names self.new) }
     {
         if self.is_word(keyword::MANUAL) {
             self.word(keyword::MANUAL)?;
@@ -136,29 +163,36 @@ impl<'a> Cursor<'a> {
     }
 
     fn attribute(&mut self) -> Result<AttrAt, SyntaxFault>
-        ensures { IfOk result (λ _. length self.new < length self.old) }
+        ensures shorter { IfOk result (λ _. length self.new.left < length self.old.left) }
+        ensures within { StaysWithin self.old self.new }
+        ensures read { IfOk result (λ attribute. IsAttribute attribute self.old.left self.new.left) }
+        ensures names { IfErr result (Names self.new) }
     {
-        let place = self.place();
         if self.is_common_attribute() {
-            return self.common_attribute();
+            let attribute = self.common_attribute()?;
+            return Ok(attribute);
         }
         if self.is_word(keyword::START) {
-            self.word(keyword::START)?;
+            let place = self.word(keyword::START)?;
             let what = self.start()?;
             return Ok(AttrAt { place, what });
         }
         if self.is_word(keyword::EXPIRES) {
-            self.word(keyword::EXPIRES)?;
-            let what = AttrTree::Expires(self.number()?);
+            let place = self.word(keyword::EXPIRES)?;
+            let number = self.number()?;
+            let what = AttrTree::Expires(number);
             return Ok(AttrAt { place, what });
         }
-        self.word(keyword::DONE_BY)?;
+        let place = self.word(keyword::DONE_BY)?;
         let what = self.done_by()?;
         Ok(AttrAt { place, what })
     }
 
     fn attributes(&mut self) -> Result<List<AttrAt>, SyntaxFault>
-        ensures { IfOk result (λ _. length self.new ≤ length self.old) }
+        ensures shorter { IfOk result (λ _. length self.new.left ≤ length self.old.left) }
+        ensures within { StaysWithin self.old self.new }
+        ensures read { IfOk result (λ attributes. AreAttributes attributes self.old.left self.new.left) }
+        ensures names { IfErr result (Names self.new) }
     {
         let mut attributes = List::new(self.alloc());
         while self.is_attribute() {
@@ -168,7 +202,10 @@ impl<'a> Cursor<'a> {
     }
 
     fn program_activity(&mut self) -> Result<ActivityTree, SyntaxFault>
-        ensures { IfOk result (λ _. length self.new < length self.old) }
+        ensures shorter { IfOk result (λ _. length self.new.left < length self.old.left) }
+        ensures within { StaysWithin self.old self.new }
+        ensures read { IfOk result (λ activity. IsProgramActivity activity self.old.left self.new.left) }
+        ensures names { IfErr result (Names self.new) }
     {
         let place = self.word(keyword::PROGRAM_ACTIVITY)?;
         let name = self.name()?;
@@ -187,7 +224,10 @@ impl<'a> Cursor<'a> {
     }
 
     fn process_activity(&mut self) -> Result<ActivityTree, SyntaxFault>
-        ensures { IfOk result (λ _. length self.new < length self.old) }
+        ensures shorter { IfOk result (λ _. length self.new.left < length self.old.left) }
+        ensures within { StaysWithin self.old self.new }
+        ensures read { IfOk result (λ activity. IsProcessActivity activity self.old.left self.new.left) }
+        ensures names { IfErr result (Names self.new) }
     {
         let place = self.word(keyword::PROCESS_ACTIVITY)?;
         let name = self.name()?;
@@ -209,7 +249,10 @@ impl<'a> Cursor<'a> {
 
     #[cycle(elements)]
     fn block(&mut self, levels: u32) -> Result<ActivityTree, SyntaxFault>
-        ensures { IfOk result (λ _. length self.new < length self.old) }
+        ensures shorter { IfOk result (λ _. length self.new.left < length self.old.left) }
+        ensures within { StaysWithin self.old self.new }
+        ensures read { IfOk result (λ activity. IsBlock levels activity self.old.left self.new.left) }
+        ensures names { IfErr result (Names self.new) }
     {
         if levels == 0 {
             return Err(self.fault());
@@ -242,27 +285,38 @@ impl<'a> Cursor<'a> {
 
     #[cycle(elements)]
     fn element(&mut self, levels: u32) -> Result<ElementTree, SyntaxFault>
-        ensures { IfOk result (λ _. length self.new < length self.old) }
+        ensures shorter { IfOk result (λ _. length self.new.left < length self.old.left) }
+        ensures within { StaysWithin self.old self.new }
+        ensures read { IfOk result (λ element. IsElement levels element self.old.left self.new.left) }
+        ensures names { IfErr result (Names self.new) }
     {
         if self.is_word(keyword::BLOCK) {
-            return Ok(ElementTree::Activity(self.block(levels)?));
+            let block = self.block(levels)?;
+            return Ok(ElementTree::Activity(block));
         }
         if self.is_word(keyword::CONTROL) {
-            return Ok(ElementTree::Control(self.control()?));
+            let control = self.control()?;
+            return Ok(ElementTree::Control(control));
         }
         if self.is_word(keyword::DATA) {
-            return Ok(ElementTree::Line(self.data_line()?));
+            let line = self.data_line()?;
+            return Ok(ElementTree::Line(line));
         }
         if self.is_word(keyword::PROCESS_ACTIVITY) {
-            return Ok(ElementTree::Activity(self.process_activity()?));
+            let process = self.process_activity()?;
+            return Ok(ElementTree::Activity(process));
         }
-        Ok(ElementTree::Activity(self.program_activity()?))
+        let program = self.program_activity()?;
+        Ok(ElementTree::Activity(program))
     }
 
     /// Takes the elements of a process or a block, in which so many levels of blocks may stand.
     #[cycle(elements)]
     pub(crate) fn elements(&mut self, levels: u32) -> Result<List<ElementTree>, SyntaxFault>
-        ensures { IfOk result (λ _. length self.new ≤ length self.old) }
+        ensures shorter { IfOk result (λ _. length self.new.left ≤ length self.old.left) }
+        ensures within { StaysWithin self.old self.new }
+        ensures read { IfOk result (λ elements. AreElements levels elements self.old.left self.new.left) }
+        ensures names { IfErr result (Names self.new) }
     {
         let mut elements = List::new(self.alloc());
         while self.is_element() {

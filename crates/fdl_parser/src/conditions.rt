@@ -1,5 +1,8 @@
 //! Conditions.
-ghost use Rattle.std.specs.Prelude.{◌≡◌, ◌<◌, length, IfOk};
+ghost use Rattle.std.specs.Prelude.{◌≡◌, ◌<◌, length, IfOk, IfErr};
+ghost use Rattle.fdl_parser.specs.Faults.{Names};
+ghost use Rattle.fdl_parser.specs.Tokens.{StaysWithin};
+ghost use Rattle.fdl_parser.specs.Conditions.{mark_of, Denies, IsOperand, IsNextTerm, IsSide, IsComparison, IsNegation, IsConjunction, IsDisjunction, IsCondition};
 
 use crate::cursor::{Cursor, SyntaxFault, mark};
 use fdl_lexer::What;
@@ -24,7 +27,9 @@ fn operator_of(what: Option<What>) -> Option<Operator> {
 }
 
 /// The mark of a comparison.
-fn mark_of(operator: Operator) -> u8 {
+fn mark_of(operator: Operator) -> u8
+    ensures { result ≡ mark_of operator }
+{
     match operator {
         Operator::Eq => mark::EQUAL,
         Operator::Ne => mark::NOT_EQUAL,
@@ -37,26 +42,47 @@ fn mark_of(operator: Operator) -> u8 {
 
 impl<'a> Cursor<'a> {
     fn operand(&mut self) -> Result<OperandTree, SyntaxFault>
-        ensures { IfOk result (λ _. length self.new < length self.old) }
+        ensures shorter { IfOk result (λ _. length self.new.left < length self.old.left) }
+        ensures within { StaysWithin self.old self.new }
+        ensures read { IfOk result (λ operand. IsOperand operand self.old.left self.new.left) }
+        ensures names { IfErr result (Names self.new) }
     {
         if self.is_next(What::Name) || self.is_next(What::Rc) {
-            return Ok(OperandTree::Leaf(self.leaf()?));
+            let leaf = self.leaf()?;
+            return Ok(OperandTree::Leaf(leaf));
         }
-        Ok(OperandTree::Number(self.signed()?))
+        let number = self.signed()?;
+        Ok(OperandTree::Number(number))
     }
 
     /// Takes `+` or `-` and an operand.
     fn next_term(&mut self) -> Result<TermTree, SyntaxFault>
-        ensures { IfOk result (λ _. length self.new < length self.old) }
+        ensures shorter { IfOk result (λ _. length self.new.left < length self.old.left) }
+        ensures within { StaysWithin self.old self.new }
+        ensures read { IfOk result (λ term. IsNextTerm term self.old.left self.new.left) }
+        ensures names { IfErr result (Names self.new) }
     {
-        let minus = self.is_mark(mark::MINUS);
-        self.mark(if minus { mark::MINUS } else { mark::PLUS })?;
+        if self.is_mark(mark::MINUS) {
+            self.mark(mark::MINUS)?;
+            let operand = self.operand()?;
+            return Ok(TermTree {
+                minus: true,
+                operand,
+            });
+        }
+        self.mark(mark::PLUS)?;
         let operand = self.operand()?;
-        Ok(TermTree { minus, operand })
+        Ok(TermTree {
+            minus: false,
+            operand,
+        })
     }
 
     fn side(&mut self) -> Result<Side, SyntaxFault>
-        ensures { IfOk result (λ _. length self.new < length self.old) }
+        ensures shorter { IfOk result (λ _. length self.new.left < length self.old.left) }
+        ensures within { StaysWithin self.old self.new }
+        ensures read { IfOk result (λ side. IsSide side self.old.left self.new.left) }
+        ensures names { IfErr result (Names self.new) }
     {
         if self.is_next(What::Text) {
             let (text, place) = self.text()?;
@@ -75,7 +101,10 @@ impl<'a> Cursor<'a> {
     }
 
     fn comparison(&mut self) -> Result<Cond, SyntaxFault>
-        ensures { IfOk result (λ _. length self.new < length self.old) }
+        ensures shorter { IfOk result (λ _. length self.new.left < length self.old.left) }
+        ensures within { StaysWithin self.old self.new }
+        ensures read { IfOk result (λ cond. IsComparison cond self.old.left self.new.left) }
+        ensures names { IfErr result (Names self.new) }
     {
         let left = self.side()?;
         let Some(operator) = operator_of(self.peek()) else {
@@ -89,11 +118,15 @@ impl<'a> Cursor<'a> {
     /// Takes NOT and what it denies, or a condition in parentheses, or a comparison.
     #[cycle(condition)]
     fn negation(&mut self, levels: u32) -> Result<Cond, SyntaxFault>
-        ensures { IfOk result (λ _. length self.new < length self.old) }
+        ensures shorter { IfOk result (λ _. length self.new.left < length self.old.left) }
+        ensures within { StaysWithin self.old self.new }
+        ensures read { IfOk result (λ cond. IsNegation levels cond self.old.left self.new.left) }
+        ensures names { IfErr result (Names self.new) }
     {
         let denies = self.is_word(keyword::NOT);
         if !denies && !self.is_mark(mark::OPEN) {
-            return self.comparison();
+            let comparison = self.comparison()?;
+            return Ok(comparison);
         }
         if levels == 0 {
             return Err(self.fault());
@@ -101,7 +134,8 @@ impl<'a> Cursor<'a> {
         if denies {
             self.word(keyword::NOT)?;
             let denied = self.negation(levels - 1)?;
-            return not_of(self.alloc(), denied);
+            let denial = not_of(self.alloc(), denied)?;
+            return Ok(denial);
         }
         self.mark(mark::OPEN)?;
         let inner = self.disjunction(levels - 1)?;
@@ -111,7 +145,10 @@ impl<'a> Cursor<'a> {
 
     #[cycle(condition)]
     fn conjunction(&mut self, levels: u32) -> Result<Cond, SyntaxFault>
-        ensures { IfOk result (λ _. length self.new < length self.old) }
+        ensures shorter { IfOk result (λ _. length self.new.left < length self.old.left) }
+        ensures within { StaysWithin self.old self.new }
+        ensures read { IfOk result (λ cond. IsConjunction levels cond self.old.left self.new.left) }
+        ensures names { IfErr result (Names self.new) }
     {
         let first = self.negation(levels)?;
         if !self.is_word(keyword::AND) {
@@ -119,6 +156,8 @@ impl<'a> Cursor<'a> {
         }
         let mut members = List::new(self.alloc());
         members.push(first)?;
+        self.word(keyword::AND)?;
+        members.push(self.negation(levels)?)?;
         while self.is_word(keyword::AND) {
             self.word(keyword::AND)?;
             members.push(self.negation(levels)?)?;
@@ -128,7 +167,10 @@ impl<'a> Cursor<'a> {
 
     #[cycle(condition)]
     fn disjunction(&mut self, levels: u32) -> Result<Cond, SyntaxFault>
-        ensures { IfOk result (λ _. length self.new < length self.old) }
+        ensures shorter { IfOk result (λ _. length self.new.left < length self.old.left) }
+        ensures within { StaysWithin self.old self.new }
+        ensures read { IfOk result (λ cond. IsDisjunction levels cond self.old.left self.new.left) }
+        ensures names { IfErr result (Names self.new) }
     {
         let first = self.conjunction(levels)?;
         if !self.is_word(keyword::OR) {
@@ -136,6 +178,8 @@ impl<'a> Cursor<'a> {
         }
         let mut members = List::new(self.alloc());
         members.push(first)?;
+        self.word(keyword::OR)?;
+        members.push(self.conjunction(levels)?)?;
         while self.is_word(keyword::OR) {
             self.word(keyword::OR)?;
             members.push(self.conjunction(levels)?)?;
@@ -145,7 +189,10 @@ impl<'a> Cursor<'a> {
 
     /// Takes a condition in the parentheses of WHEN.
     pub(crate) fn condition(&mut self) -> Result<CondAt, SyntaxFault>
-        ensures { IfOk result (λ _. length self.new < length self.old) }
+        ensures shorter { IfOk result (λ _. length self.new.left < length self.old.left) }
+        ensures within { StaysWithin self.old self.new }
+        ensures read { IfOk result (λ cond. IsCondition cond self.old.left self.new.left) }
+        ensures names { IfErr result (Names self.new) }
     {
         let place = self.mark(mark::OPEN)?;
         let cond = self.disjunction(LEVELS)?;
@@ -154,7 +201,12 @@ impl<'a> Cursor<'a> {
     }
 }
 
-fn not_of(alloc: Global, denied: Cond) -> Result<Cond, SyntaxFault> {
-    let boxed = Box::new(alloc, denied).map_err(|_| SyntaxFault::NoMemory)?;
-    Ok(Cond::Not(boxed))
+fn not_of(alloc: Global, denied: Cond) -> Result<Cond, SyntaxFault>
+    ensures denies { IfOk result (λ denial. Denies denial denied) }
+    ensures memory { IfErr result (λ e. e ≡ SyntaxFault.NoMemory) }
+{
+    match Box::new(alloc, denied) {
+        Ok(boxed) => Ok(Cond::Not(boxed)),
+        Err(_) => Err(SyntaxFault::NoMemory),
+    }
 }

@@ -1,6 +1,9 @@
 //! The tokens that are left to read, and the parts that one or two of them make.
-ghost use Rattle.std.specs.Prelude.{◌≡◌, ◌<◌, ◌≤◌, ◌+◌, length, IfOk, ◌==◌};
+ghost use Rattle.std.specs.Prelude.{◌≡◌, ◌≢◌, ◌<◌, ◌≤◌, ◌+◌, List as Seq, ℕ, length, ◌∷◌, true, false, IfOk, IfErr, ◌==◌};
+ghost use Rattle.fdl_lexer.specs.Bytes.{single_quoted};
 ghost use Rattle.fdl_parser.specs.declared.cursor.SyntaxFault.TheVariants.{NoMemory};
+ghost use Rattle.fdl_parser.specs.Faults.{Names};
+ghost use Rattle.fdl_parser.specs.Tokens.{reading, StaysWithin, first_kind, HasBytes, IsToken, IsName, IsQuote, IsItemToken, IsNumber, IsSigned, IsFirstStep, IsNextStep, IsLeaf};
 
 use fdl_lexer::{Token, What, text_value};
 use flow_model::{Bytes, LeafAt, List, Name, NameAt, NameFault, NumberAt, StepTree, Txt};
@@ -62,7 +65,8 @@ impl From<AllocError> for SyntaxFault {
     }
 }
 
-/// The tokens of a text that are left to read; contracts see it as their list.
+/// The tokens of a text that are left to read; contracts see it as their list, each with its bytes,
+/// and the place where the text ends.
 #[derive(Drop)]
 pub struct Cursor<'a> {
     alloc: Global,
@@ -71,18 +75,17 @@ pub struct Cursor<'a> {
 }
 
 impl<'a> Model for Cursor<'a> {
-    ghost use Rattle.std.specs.Prelude.{List as Seq};
-    ghost use Rattle.fdl_lexer.specs.declared.kinds.Token.{Token};
+    ghost use Rattle.fdl_parser.specs.Tokens.{Reading, reading};
 
-    ghost Value = { Seq Token };
+    ghost Value = { Reading };
 
-    ghost view = { λ c. c.left.now };
+    ghost view = { λ c. reading c.text.now c.left.now };
 }
 
 impl<'a> Cursor<'a> {
     /// All tokens of a text.
     pub fn new(alloc: Global, text: &'a [u8], tokens: &'a [Token]) -> Cursor<'a>
-        ensures { result ≡ tokens.now }
+        ensures { result ≡ reading text.now tokens.now }
     {
         Cursor {
             alloc,
@@ -97,48 +100,72 @@ impl<'a> Cursor<'a> {
     }
 
     /// What the next token is.
-    pub fn peek(&self) -> Option<What> {
-        self.left.first().map(|token| token.what)
+    pub fn peek(&self) -> Option<What>
+        ensures { result ≡ first_kind self.now.left }
+    {
+        match self.left {
+            [token, ..] => Some(token.what),
+            [] => None,
+        }
     }
 
     /// Whether no token is left.
     pub fn is_at_end(&self) -> bool
-        ensures { result ≡ (length self.now == 0) }
+        ensures { result ≡ (length self.now.left == 0) }
     {
         self.left.is_empty()
     }
 
     /// Where the next token stands, or the text's length.
-    pub fn place(&self) -> u32 {
-        match self.left.first() {
-            Some(token) => token.from,
-            None => u32::try_from(self.text.len()).unwrap_or(u32::MAX),
+    pub fn place(&self) -> u32
+        ensures { Names self.now (SyntaxFault.At result) }
+    {
+        match self.left {
+            [token, ..] => token.from,
+            [] => self.text.len().min(u32::MAX as usize) as u32,
         }
     }
 
     /// The fault of the next token.
-    pub fn fault(&self) -> SyntaxFault {
+    pub fn fault(&self) -> SyntaxFault
+        ensures { Names self.now result }
+    {
         SyntaxFault::At(self.place())
     }
 
     /// Whether the next token is this one.
-    pub fn is_next(&self, what: What) -> bool {
-        self.peek() == Some(what)
+    pub fn is_next(&self, what: What) -> bool
+        ensures yes { result ≡ true → first_kind self.now.left ≡ Some what }
+        ensures no { result ≡ false → first_kind self.now.left ≢ Some what }
+    {
+        match self.left {
+            [token, ..] => token.what == what,
+            [] => false,
+        }
     }
 
     /// Whether the next token is this word.
-    pub fn is_word(&self, word: u8) -> bool {
+    pub fn is_word(&self, word: u8) -> bool
+        ensures yes { result ≡ true → first_kind self.now.left ≡ Some (What.Word word) }
+        ensures no { result ≡ false → first_kind self.now.left ≢ Some (What.Word word) }
+    {
         self.is_next(What::Word(word))
     }
 
     /// Whether the next token is this mark.
-    pub fn is_mark(&self, mark: u8) -> bool {
+    pub fn is_mark(&self, mark: u8) -> bool
+        ensures yes { result ≡ true → first_kind self.now.left ≡ Some (What.Mark mark) }
+        ensures no { result ≡ false → first_kind self.now.left ≢ Some (What.Mark mark) }
+    {
         self.is_next(What::Mark(mark))
     }
 
     /// Takes the next token, if it is this one; gives its place.
     pub fn token(&mut self, what: What) -> Result<u32, SyntaxFault>
-        ensures { IfOk result (λ _. length self.new < length self.old) }
+        ensures shorter { IfOk result (λ _. length self.new.left < length self.old.left) }
+        ensures within { StaysWithin self.old self.new }
+        ensures read { IfOk result (λ place. IsToken what place self.old.left self.new.left) }
+        ensures refused { IfErr result (λ e. Names self.old e × (self.new ≡ self.old) × (first_kind self.old.left ≢ Some what)) }
     {
         match self.left {
             [token, rest @ ..] if token.what == what => {
@@ -151,29 +178,35 @@ impl<'a> Cursor<'a> {
 
     /// Takes the next token, if it is this word; gives its place.
     pub fn word(&mut self, word: u8) -> Result<u32, SyntaxFault>
-        ensures { IfOk result (λ _. length self.new < length self.old) }
+        ensures shorter { IfOk result (λ _. length self.new.left < length self.old.left) }
+        ensures within { StaysWithin self.old self.new }
+        ensures read { IfOk result (λ place. IsToken (What.Word word) place self.old.left self.new.left) }
+        ensures refused { IfErr result (λ e. Names self.old e × (self.new ≡ self.old) × (first_kind self.old.left ≢ Some (What.Word word))) }
     {
         self.token(What::Word(word))
     }
 
     /// Takes the next token, if it is this mark; gives its place.
     pub fn mark(&mut self, mark: u8) -> Result<u32, SyntaxFault>
-        ensures { IfOk result (λ _. length self.new < length self.old) }
+        ensures shorter { IfOk result (λ _. length self.new.left < length self.old.left) }
+        ensures within { StaysWithin self.old self.new }
+        ensures read { IfOk result (λ place. IsToken (What.Mark mark) place self.old.left self.new.left) }
+        ensures refused { IfErr result (λ e. Names self.old e × (self.new ≡ self.old) × (first_kind self.old.left ≢ Some (What.Mark mark))) }
     {
         self.token(What::Mark(mark))
     }
 
-    /// Takes the next token, if it is of a kind that is read from its bytes; gives these and its place.
-    fn spelled(&mut self, what: What) -> Result<(&'a [u8], u32), SyntaxFault>
-        ensures { IfOk result (λ _. length self.new < length self.old) }
+    /// The bytes of the next token, if it is of a kind that is read from them.
+    fn spelled(&self, what: What) -> Result<&'a [u8], SyntaxFault>
+        ensures read { IfOk result (λ bytes. HasBytes what bytes.now self.now.left) }
+        ensures names { IfErr result (Names self.now) }
     {
         match self.left {
-            [token, rest @ ..] if token.what == what => {
-                let Some(bytes) = self.text.get(token.from as usize..token.to as usize) else {
-                    return Err(self.fault());
-                };
-                self.left = rest;
-                Ok((bytes, token.from))
+            [token, ..] if token.what == what => {
+                match self.text.get(token.from as usize..token.to as usize) {
+                    Some(bytes) => Ok(bytes),
+                    None => Err(self.fault()),
+                }
             }
             _ => Err(self.fault()),
         }
@@ -181,40 +214,59 @@ impl<'a> Cursor<'a> {
 
     /// Takes a name.
     pub fn name(&mut self) -> Result<NameAt, SyntaxFault>
-        ensures { IfOk result (λ _. length self.new < length self.old) }
+        ensures shorter { IfOk result (λ _. length self.new.left < length self.old.left) }
+        ensures within { StaysWithin self.old self.new }
+        ensures read { IfOk result (λ name. IsName name self.old.left self.new.left) }
+        ensures names { IfErr result (Names self.new) }
     {
-        let (bytes, place) = self.spelled(What::Name)?;
+        let bytes = self.spelled(What::Name)?;
         match Name::new(self.alloc, unquoted(bytes)) {
-            Ok(name) => Ok(NameAt { name, place }),
-            Err(NameFault::Bad) => Err(SyntaxFault::At(place)),
+            Ok(name) => {
+                let place = self.token(What::Name)?;
+                Ok(NameAt { name, place })
+            }
+            Err(NameFault::Bad) => Err(self.fault()),
             Err(NameFault::NoMemory) => Err(SyntaxFault::NoMemory),
         }
     }
 
     /// Takes a text; gives its place too.
     pub fn text(&mut self) -> Result<(Txt, u32), SyntaxFault>
-        ensures { IfOk result (λ _. length self.new < length self.old) }
+        ensures shorter { IfOk result (λ _. length self.new.left < length self.old.left) }
+        ensures within { StaysWithin self.old self.new }
+        ensures read { IfOk result (λ read. IsQuote read.0 read.1 self.old.left self.new.left) }
+        ensures names { IfErr result (Names self.new) }
     {
-        let (bytes, place) = self.spelled(What::Text)?;
+        let bytes = self.spelled(What::Text)?;
         let value = text_value(self.alloc, bytes)?;
         match Txt::new(self.alloc, &value) {
-            Ok(text) => Ok((text, place)),
-            Err(NameFault::Bad) => Err(SyntaxFault::At(place)),
+            Ok(text) => {
+                let place = self.token(What::Text)?;
+                Ok((text, place))
+            }
+            Err(NameFault::Bad) => Err(self.fault()),
             Err(NameFault::NoMemory) => Err(SyntaxFault::NoMemory),
         }
     }
 
     /// Takes an item, with its quotes.
     pub fn item(&mut self) -> Result<Bytes, SyntaxFault>
-        ensures { IfOk result (λ _. length self.new < length self.old) }
+        ensures shorter { IfOk result (λ _. length self.new.left < length self.old.left) }
+        ensures within { StaysWithin self.old self.new }
+        ensures read { IfOk result (λ bytes. IsItemToken bytes self.old.left self.new.left) }
+        ensures names { IfErr result (Names self.new) }
     {
-        let (bytes, _place) = self.spelled(What::Item)?;
-        Ok(Bytes::new(self.alloc, bytes)?)
+        let bytes = Bytes::new(self.alloc, self.spelled(What::Item)?)?;
+        self.token(What::Item)?;
+        Ok(bytes)
     }
 
     /// Takes a number without a sign.
     pub fn number(&mut self) -> Result<NumberAt, SyntaxFault>
-        ensures { IfOk result (λ _. length self.new < length self.old) }
+        ensures shorter { IfOk result (λ _. length self.new.left < length self.old.left) }
+        ensures within { StaysWithin self.old self.new }
+        ensures read { IfOk result (λ number. IsNumber number self.old.left self.new.left) }
+        ensures names { IfErr result (Names self.new) }
     {
         match self.peek() {
             Some(What::Number(size)) => {
@@ -231,10 +283,14 @@ impl<'a> Cursor<'a> {
 
     /// Takes a number, with a `-` before it or without.
     pub fn signed(&mut self) -> Result<NumberAt, SyntaxFault>
-        ensures { IfOk result (λ _. length self.new < length self.old) }
+        ensures shorter { IfOk result (λ _. length self.new.left < length self.old.left) }
+        ensures within { StaysWithin self.old self.new }
+        ensures read { IfOk result (λ number. IsSigned number self.old.left self.new.left) }
+        ensures names { IfErr result (Names self.new) }
     {
         if !self.is_mark(mark::MINUS) {
-            return self.number();
+            let unsigned = self.number()?;
+            return Ok(unsigned);
         }
         let minus = self.mark(mark::MINUS)?;
         let number = self.number()?;
@@ -247,7 +303,10 @@ impl<'a> Cursor<'a> {
 
     /// Takes the first step of a leaf: a name or `'_RC'`; gives its place too.
     fn first_step(&mut self) -> Result<(StepTree, u32), SyntaxFault>
-        ensures { IfOk result (λ _. length self.new < length self.old) }
+        ensures shorter { IfOk result (λ _. length self.new.left < length self.old.left) }
+        ensures within { StaysWithin self.old self.new }
+        ensures read { IfOk result (λ step. IsFirstStep step.0 step.1 self.old.left self.new.left) }
+        ensures names { IfErr result (Names self.new) }
     {
         if self.is_next(What::Rc) {
             let place = self.token(What::Rc)?;
@@ -259,7 +318,10 @@ impl<'a> Cursor<'a> {
 
     /// Takes `. name` or `[ number ]`.
     fn next_step(&mut self) -> Result<StepTree, SyntaxFault>
-        ensures { IfOk result (λ _. length self.new < length self.old) }
+        ensures shorter { IfOk result (λ _. length self.new.left < length self.old.left) }
+        ensures within { StaysWithin self.old self.new }
+        ensures read { IfOk result (λ step. IsNextStep step self.old.left self.new.left) }
+        ensures names { IfErr result (Names self.new) }
     {
         if self.is_mark(mark::DOT) {
             self.mark(mark::DOT)?;
@@ -274,7 +336,10 @@ impl<'a> Cursor<'a> {
 
     /// Takes a leaf.
     pub fn leaf(&mut self) -> Result<LeafAt, SyntaxFault>
-        ensures { IfOk result (λ _. length self.new < length self.old) }
+        ensures shorter { IfOk result (λ _. length self.new.left < length self.old.left) }
+        ensures within { StaysWithin self.old self.new }
+        ensures read { IfOk result (λ leaf. IsLeaf leaf self.old.left self.new.left) }
+        ensures names { IfErr result (Names self.new) }
     {
         let (first, place) = self.first_step()?;
         let mut steps = List::new(self.alloc);
@@ -287,7 +352,9 @@ impl<'a> Cursor<'a> {
 }
 
 /// The bytes between the quotes.
-fn unquoted(bytes: &[u8]) -> &[u8] {
+fn unquoted(bytes: &[u8]) -> &[u8]
+    ensures { (value : Seq ℕ) → bytes.now ≡ single_quoted value → result.now ≡ value }
+{
     match bytes {
         [_, inner @ .., _] => inner,
         _ => bytes,

@@ -1,5 +1,10 @@
 //! The items of a text: structures, persons, processes.
-ghost use Rattle.std.specs.Prelude.{◌≡◌, ◌<◌, ◌≤◌, length, IfOk};
+ghost use Rattle.std.specs.Prelude.{◌≡◌, ◌<◌, ◌≤◌, length, IfOk, IfErr};
+ghost use Rattle.fdl_lexer.specs.Tokens.{AreTokens};
+ghost use Rattle.fdl_parser.specs.Faults.{Names, NamesOne};
+ghost use Rattle.fdl_parser.specs.Tokens.{spell, reading, StaysWithin};
+ghost use Rattle.fdl_parser.specs.Items.{IsKind, IsCount, IsMember, IsStructure, AreRoles, IsPerson, IsProcess, IsItem, IsTree};
+ghost use Rattle.fdl_parser.specs.Alike.{AlikeTree};
 
 use crate::activities::LEVELS;
 use crate::cursor::{Cursor, SyntaxFault, mark};
@@ -12,7 +17,10 @@ use std::alloc::Global;
 
 impl<'a> Cursor<'a> {
     fn kind(&mut self) -> Result<KindTree, SyntaxFault>
-        ensures { IfOk result (λ _. length self.new < length self.old) }
+        ensures shorter { IfOk result (λ _. length self.new.left < length self.old.left) }
+        ensures within { StaysWithin self.old self.new }
+        ensures read { IfOk result (λ kind. IsKind kind self.old.left self.new.left) }
+        ensures names { IfErr result (Names self.new) }
     {
         if self.is_word(keyword::LONG) {
             self.word(keyword::LONG)?;
@@ -22,12 +30,16 @@ impl<'a> Cursor<'a> {
             self.word(keyword::STRING)?;
             return Ok(KindTree::Str);
         }
-        Ok(KindTree::Struct(self.name()?))
+        let name = self.name()?;
+        Ok(KindTree::Struct(name))
     }
 
     /// Takes the count of an array, if one stands there.
     fn count(&mut self) -> Result<Option<NumberAt>, SyntaxFault>
-        ensures { IfOk result (λ _. length self.new ≤ length self.old) }
+        ensures shorter { IfOk result (λ _. length self.new.left ≤ length self.old.left) }
+        ensures within { StaysWithin self.old self.new }
+        ensures read { IfOk result (λ count. IsCount count self.old.left self.new.left) }
+        ensures names { IfErr result (Names self.new) }
     {
         if !self.is_mark(mark::OPEN) {
             return Ok(None);
@@ -39,7 +51,10 @@ impl<'a> Cursor<'a> {
     }
 
     fn member(&mut self) -> Result<Member, SyntaxFault>
-        ensures { IfOk result (λ _. length self.new < length self.old) }
+        ensures shorter { IfOk result (λ _. length self.new.left < length self.old.left) }
+        ensures within { StaysWithin self.old self.new }
+        ensures read { IfOk result (λ member. IsMember member self.old.left self.new.left) }
+        ensures names { IfErr result (Names self.new) }
     {
         let name = self.name()?;
         self.mark(mark::COLON)?;
@@ -50,7 +65,10 @@ impl<'a> Cursor<'a> {
     }
 
     fn structure(&mut self) -> Result<StructDef, SyntaxFault>
-        ensures { IfOk result (λ _. length self.new < length self.old) }
+        ensures shorter { IfOk result (λ _. length self.new.left < length self.old.left) }
+        ensures within { StaysWithin self.old self.new }
+        ensures read { IfOk result (λ structure. IsStructure structure self.old.left self.new.left) }
+        ensures names { IfErr result (Names self.new) }
     {
         self.word(keyword::STRUCTURE)?;
         let name = self.name()?;
@@ -64,23 +82,31 @@ impl<'a> Cursor<'a> {
 
     /// Takes the roles of a person, if there are any.
     fn roles(&mut self) -> Result<List<NameAt>, SyntaxFault>
-        ensures { IfOk result (λ _. length self.new ≤ length self.old) }
+        ensures shorter { IfOk result (λ _. length self.new.left ≤ length self.old.left) }
+        ensures within { StaysWithin self.old self.new }
+        ensures read { IfOk result (λ roles. AreRoles roles self.old.left self.new.left) }
+        ensures names { IfErr result (Names self.new) }
     {
         let mut roles = List::new(self.alloc());
         if !self.is_word(keyword::ROLES) {
             return Ok(roles);
         }
         self.word(keyword::ROLES)?;
-        roles.push(self.name()?)?;
+        let first = self.name()?;
+        roles.push(first)?;
         while self.is_mark(mark::COMMA) {
             self.mark(mark::COMMA)?;
-            roles.push(self.name()?)?;
+            let next = self.name()?;
+            roles.push(next)?;
         }
         Ok(roles)
     }
 
     fn person(&mut self) -> Result<PersonTree, SyntaxFault>
-        ensures { IfOk result (λ _. length self.new < length self.old) }
+        ensures shorter { IfOk result (λ _. length self.new.left < length self.old.left) }
+        ensures within { StaysWithin self.old self.new }
+        ensures read { IfOk result (λ person. IsPerson person self.old.left self.new.left) }
+        ensures names { IfErr result (Names self.new) }
     {
         self.word(keyword::PERSON)?;
         let name = self.name()?;
@@ -90,7 +116,10 @@ impl<'a> Cursor<'a> {
     }
 
     fn process(&mut self) -> Result<ProcessTree, SyntaxFault>
-        ensures { IfOk result (λ _. length self.new < length self.old) }
+        ensures shorter { IfOk result (λ _. length self.new.left < length self.old.left) }
+        ensures within { StaysWithin self.old self.new }
+        ensures read { IfOk result (λ process. IsProcess process self.old.left self.new.left) }
+        ensures names { IfErr result (Names self.new) }
     {
         let place = self.word(keyword::PROCESS)?;
         let name = self.name()?;
@@ -108,23 +137,35 @@ impl<'a> Cursor<'a> {
     }
 
     fn text_item(&mut self) -> Result<ItemTree, SyntaxFault>
-        ensures { IfOk result (λ _. length self.new < length self.old) }
+        ensures shorter { IfOk result (λ _. length self.new.left < length self.old.left) }
+        ensures within { StaysWithin self.old self.new }
+        ensures read { IfOk result (λ item. IsItem item self.old.left self.new.left) }
+        ensures names { IfErr result (Names self.new) }
     {
         if self.is_word(keyword::STRUCTURE) {
-            return Ok(ItemTree::Structure(self.structure()?));
+            let structure = self.structure()?;
+            return Ok(ItemTree::Structure(structure));
         }
         if self.is_word(keyword::PERSON) {
-            return Ok(ItemTree::Person(self.person()?));
+            let person = self.person()?;
+            return Ok(ItemTree::Person(person));
         }
-        Ok(ItemTree::Process(self.process()?))
+        let process = self.process()?;
+        Ok(ItemTree::Process(process))
     }
 }
 
-/// The tree of a text's tokens.
+/// The tree of a text's tokens: the one that the grammar relates to them.
+///
+/// Where the tokens are the lexer's there is no other, but for where in memory the operand of a NOT lies.
 ///
 /// `At` comes where they have none, with the place of the first token with which they begin no text of
 /// the grammar, or else the text's length.
-pub fn parse(alloc: Global, text: &[u8], tokens: &Tokens) -> Result<Tree, SyntaxFault> {
+pub fn parse(alloc: Global, text: &[u8], tokens: &Tokens) -> Result<Tree, SyntaxFault>
+    ensures tree { IfOk result (λ tree. IsTree tree (spell text.now tokens.now.items)) }
+    ensures one { IfOk result (λ tree. AreTokens text.now tokens.now.items → (other : Tree) → IsTree other (spell text.now tokens.now.items) → AlikeTree tree other) }
+    ensures names { IfErr result (NamesOne (reading text.now tokens.now.items)) }
+{
     let mut cursor = Cursor::new(alloc, text, tokens.items.as_slice());
     let mut items = List::new(alloc);
     while !cursor.is_at_end() {

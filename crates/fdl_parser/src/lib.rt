@@ -3,6 +3,7 @@
 //! Knows the grammar of process texts, not what its words mean: whether a name is known or a number is
 //! in range is no question here. Begin with `items`, the items of a text; `activities`, `lines` and
 //! `conditions` are their parts, and [`Cursor`] reads the tokens one by one.
+//! The grammar stands in `specs/` under the same names, one case for each alternative, with the tree of each.
 #![tactic(auto)]
 
 mod activities;

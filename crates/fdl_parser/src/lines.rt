@@ -1,5 +1,8 @@
 //! CONTROL and DATA lines.
-ghost use Rattle.std.specs.Prelude.{◌≡◌, ◌<◌, ◌≤◌, length, IfOk};
+ghost use Rattle.std.specs.Prelude.{◌≡◌, ◌<◌, ◌≤◌, length, IfOk, IfErr};
+ghost use Rattle.fdl_parser.specs.Faults.{Names};
+ghost use Rattle.fdl_parser.specs.Tokens.{StaysWithin};
+ghost use Rattle.fdl_parser.specs.Lines.{IsTransition, IsControl, IsEnd, AreEnds, IsMap, AreMaps, IsDataLine};
 
 use crate::cursor::{Cursor, SyntaxFault, mark};
 use flow_model::{ControlTree, DataTree, EndTree, EndsTree, List, MapTree, WhenTree};
@@ -8,7 +11,10 @@ use flow_table::keyword;
 impl<'a> Cursor<'a> {
     /// Takes the transition condition of a connector, if one stands there.
     fn transition(&mut self) -> Result<WhenTree, SyntaxFault>
-        ensures { IfOk result (λ _. length self.new ≤ length self.old) }
+        ensures shorter { IfOk result (λ _. length self.new.left ≤ length self.old.left) }
+        ensures within { StaysWithin self.old self.new }
+        ensures read { IfOk result (λ when. IsTransition when self.old.left self.new.left) }
+        ensures names { IfErr result (Names self.new) }
     {
         if self.is_word(keyword::OTHERWISE) {
             self.word(keyword::OTHERWISE)?;
@@ -23,7 +29,10 @@ impl<'a> Cursor<'a> {
     }
 
     pub(crate) fn control(&mut self) -> Result<ControlTree, SyntaxFault>
-        ensures { IfOk result (λ _. length self.new < length self.old) }
+        ensures shorter { IfOk result (λ _. length self.new.left < length self.old.left) }
+        ensures within { StaysWithin self.old self.new }
+        ensures read { IfOk result (λ control. IsControl control self.old.left self.new.left) }
+        ensures names { IfErr result (Names self.new) }
     {
         let place = self.word(keyword::CONTROL)?;
         self.word(keyword::FROM)?;
@@ -41,22 +50,30 @@ impl<'a> Cursor<'a> {
 
     /// Takes an activity's name, or the word for the scope's own container.
     fn end(&mut self, border: u8) -> Result<EndTree, SyntaxFault>
-        ensures { IfOk result (λ _. length self.new < length self.old) }
+        ensures shorter { IfOk result (λ _. length self.new.left < length self.old.left) }
+        ensures within { StaysWithin self.old self.new }
+        ensures read { IfOk result (λ end. IsEnd border end self.old.left self.new.left) }
+        ensures names { IfErr result (Names self.new) }
     {
         if self.is_word(border) {
             self.word(border)?;
             return Ok(EndTree::Border);
         }
-        Ok(EndTree::Activity(self.name()?))
+        let name = self.name()?;
+        Ok(EndTree::Activity(name))
     }
 
     /// Takes what stands between DATA and MAP.
     fn ends(&mut self) -> Result<EndsTree, SyntaxFault>
-        ensures { IfOk result (λ _. length self.new < length self.old) }
+        ensures shorter { IfOk result (λ _. length self.new.left < length self.old.left) }
+        ensures within { StaysWithin self.old self.new }
+        ensures read { IfOk result (λ ends. AreEnds ends self.old.left self.new.left) }
+        ensures names { IfErr result (Names self.new) }
     {
         if self.is_word(keyword::LOOP) {
             self.word(keyword::LOOP)?;
-            return Ok(EndsTree::Loop(self.name()?));
+            let name = self.name()?;
+            return Ok(EndsTree::Loop(name));
         }
         self.word(keyword::FROM)?;
         let from = self.end(keyword::SOURCE)?;
@@ -66,7 +83,10 @@ impl<'a> Cursor<'a> {
     }
 
     fn map(&mut self) -> Result<MapTree, SyntaxFault>
-        ensures { IfOk result (λ _. length self.new < length self.old) }
+        ensures shorter { IfOk result (λ _. length self.new.left < length self.old.left) }
+        ensures within { StaysWithin self.old self.new }
+        ensures read { IfOk result (λ map. IsMap map self.old.left self.new.left) }
+        ensures names { IfErr result (Names self.new) }
     {
         let from = self.leaf()?;
         self.word(keyword::TO)?;
@@ -75,20 +95,28 @@ impl<'a> Cursor<'a> {
     }
 
     fn maps(&mut self) -> Result<List<MapTree>, SyntaxFault>
-        ensures { IfOk result (λ _. length self.new < length self.old) }
+        ensures shorter { IfOk result (λ _. length self.new.left < length self.old.left) }
+        ensures within { StaysWithin self.old self.new }
+        ensures read { IfOk result (λ maps. AreMaps maps self.old.left self.new.left) }
+        ensures names { IfErr result (Names self.new) }
     {
         self.word(keyword::MAP)?;
         let mut maps = List::new(self.alloc());
-        maps.push(self.map()?)?;
+        let first = self.map()?;
+        maps.push(first)?;
         while self.is_mark(mark::COMMA) {
             self.mark(mark::COMMA)?;
-            maps.push(self.map()?)?;
+            let next = self.map()?;
+            maps.push(next)?;
         }
         Ok(maps)
     }
 
     pub(crate) fn data_line(&mut self) -> Result<DataTree, SyntaxFault>
-        ensures { IfOk result (λ _. length self.new < length self.old) }
+        ensures shorter { IfOk result (λ _. length self.new.left < length self.old.left) }
+        ensures within { StaysWithin self.old self.new }
+        ensures read { IfOk result (λ line. IsDataLine line self.old.left self.new.left) }
+        ensures names { IfErr result (Names self.new) }
     {
         let place = self.word(keyword::DATA)?;
         let ends = self.ends()?;

@@ -1,0 +1,17 @@
+use Rattle.std.proofs.Common.{arith}
+use Rattle.fdl_parser.specs.Lines.{FirstMap, MoreMaps}
+use Rattle.fdl_parser.proofs.cursor.Cursor.maps.Goals as goal
+
+pub loop-self-init : goal.loop-self-init
+loop-self-init c = record {
+  shorter = omega (arith, c.in_ok-word.ensures.shorter, c.in_ok-first.ensures.shorter);
+  within = λ all h. c.in_ok-first.ensures.within all (c.in_ok-word.ensures.within all h);
+  read = rw (c.in_ok-push.ensures.ok, c.new-maps.ensures) (FirstMap c.in_ok-word.ensures.read c.in_ok-first.ensures.read);
+}
+
+pub loop-self-preserved : goal.loop-self-preserved
+loop-self-preserved c = record {
+  shorter = omega (arith, c.loop-self.invariant.shorter, c.in_ok-mark.ensures.shorter, c.in_ok-next.ensures.shorter);
+  within = λ all h. c.in_ok-next.ensures.within all (c.in_ok-mark.ensures.within all (c.loop-self.invariant.within all h));
+  read = rw (c.in_ok-push-2.ensures.ok) (MoreMaps c.loop-self.invariant.read c.in_ok-mark.ensures.read c.in_ok-next.ensures.read);
+}
