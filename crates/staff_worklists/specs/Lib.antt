@@ -1,1 +1,3 @@
 pub mod Rights
+pub mod Shelves
+pub mod Standing
