@@ -58,7 +58,7 @@ operand_pieces (operand.Leaf leaf) = leaf_pieces leaf
 operand_pieces (operand.Number number) = number_pieces number
 
 -- a later operand of a sum, behind its mark
-abbrev pub later_term : TermTree → List Piece
+unfoldable pub later_term : TermTree → List Piece
 later_term term = sign (if term.minus then mark.MINUS else mark.PLUS) ∷ operand_pieces term.operand
 
 abbrev pub sum_pieces : List TermTree → List Piece
