@@ -47,3 +47,5 @@ shown_first f show [] = refl
 shown_first f show (x ∷ xs) = ap (λ (ps : List Piece). f (show x) ++ ps) (shown_first f show xs)
 
 pub ruleset append_rule = (with_pieces-append, append_assoc)
+
+pub ruleset written_rule = (written, append_assoc)

@@ -1,6 +1,6 @@
 -- The tokens of a condition. Parentheses stand only round an OR or an AND that is the operand of NOT or of
 -- AND, and round an OR that is a member of an OR.
-use Rattle.std.specs.Prelude.{ℕ, Bool, true, false, if◌then◌else◌, List, [], ◌∷◌, ◌++◌, map}
+use Rattle.std.specs.Prelude.{List, [], ◌∷◌, ◌++◌}
 use Rattle.std.specs.List.{flat_map}
 use Rattle.fdl_parser.specs.declared.cursor.mark.TheConstants as mark
 use Rattle.flow_table.specs.declared.keyword.TheConstants as keyword

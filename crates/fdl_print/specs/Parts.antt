@@ -1,11 +1,9 @@
 -- The tokens of the parts that have no parts of their own kind: numbers, leaves, sums, headings, lines.
-use Rattle.std.specs.Prelude.{ℕ, Bool, true, false, if◌then◌else◌, Option, Some, None, is_some, List, [], ◌∷◌, ◌++◌, codes}
+use Rattle.std.specs.Prelude.{ℕ, if◌then◌else◌, is_some, List, [], ◌∷◌, ◌++◌, codes}
 use Rattle.std.specs.List.{flat_map}
 use Rattle.fdl_parser.specs.declared.cursor.mark.TheConstants as mark
-use Rattle.flow_table.specs.declared.keyword.TheConstants as keyword
 use Rattle.flow_model.specs.declared.graphs.Operator.{Operator}
 use Rattle.flow_model.specs.declared.graphs.Operator.TheVariants as operator
-use Rattle.flow_model.specs.declared.trees.NameAt.{NameAt}
 use Rattle.flow_model.specs.declared.trees.NumberAt.{NumberAt}
 use Rattle.flow_model.specs.declared.trees.StepTree.{StepTree}
 use Rattle.flow_model.specs.declared.trees.StepTree.TheVariants as step
@@ -15,7 +13,7 @@ use Rattle.flow_model.specs.declared.trees.OperandTree.TheVariants as operand
 use Rattle.flow_model.specs.declared.trees.TermTree.{TermTree}
 use Rattle.flow_model.specs.declared.trees.Side.{Side}
 use Rattle.flow_model.specs.declared.trees.Side.TheVariants as side
-use Rattle.fdl_print.specs.Pieces.{Piece, Token, Stop, word, sign, name, quoted, digits}
+use Rattle.fdl_print.specs.Pieces.{Piece, Token, sign, name, quoted, digits}
 
 -- a number behind its `-`, if it has one
 abbrev pub number_pieces : NumberAt → List Piece

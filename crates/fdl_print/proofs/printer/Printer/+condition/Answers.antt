@@ -1,4 +1,4 @@
-use Rattle.std.proofs.Common.{rules, ap, map, length, take, drop, ◌-◌, ◌++◌}
+use Rattle.std.proofs.Common.{ap, map, length, take, drop, ◌-◌, ◌++◌}
 use Rattle.fdl_print.specs.Conditions.{shown, in_or, in_and, later_or, later_and, or_pieces, and_pieces}
 use Rattle.fdl_print.proofs.Laying.{one_more, at_end, first_and_later, shown_first}
 use Rattle.fdl_print.proofs.printer.Printer.+condition.Goals as goal

@@ -1,4 +1,4 @@
-use Rattle.std.proofs.Common.{rules, refl, length, take, drop, ◌-◌}
+use Rattle.std.proofs.Common.{refl, length, take, drop, ◌-◌}
 use Rattle.fdl_print.specs.Parts.{operand_pieces, later_term, sum_pieces}
 use Rattle.fdl_print.proofs.Laying.{one_more, at_end, first_and_later}
 use Rattle.fdl_print.proofs.printer.Printer.sum.Goals as goal
