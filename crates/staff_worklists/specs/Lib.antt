@@ -1,3 +1,4 @@
 pub mod Rights
 pub mod Shelves
 pub mod Standing
+pub mod Listing

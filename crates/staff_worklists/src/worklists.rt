@@ -1,6 +1,12 @@
 //! The open manual items of all roots, and the worklists over them.
 ghost use Rattle.std.specs.Prelude.{◌≡◌, ℕ, ◌∷◌, ◌&&◌, List as Seq, None, Some, IfOk, OnOk, OnErr, option_map, option_copied, if◌then◌else◌, bytes_eq};
-ghost use Rattle.staff_worklists.specs.Shelves.{claim_shelf as claim_shelf_of, is_held as is_held_test, shelf_for as shelf_of_line};
+ghost use Rattle.staff_worklists.specs.Shelves.{claim_shelf as claim_shelf_of, is_held as is_held_test, shelf_for as shelf_of_line, shelves_of};
+ghost use Rattle.std.specs.Prelude.{map};
+ghost use Rattle.std.specs.Option.{option_or};
+ghost use Rattle.std.specs.Ordering.{nat_cmp};
+ghost use Rattle.std.specs.Cmp.Lexicographic.{slice_cmp};
+ghost use Rattle.std.specs.BTreeMap.{IsOrdered};
+ghost use Rattle.staff_worklists.specs.Listing.{line_of as work_line, found_at, seen_on, IsWorklist};
 ghost use Rattle.staff_worklists.specs.Standing.{shelf_at, at_rank, item_in, ArePlaced, listed_at};
 
 use flow_model::{DoneBy, Hold, ItemLine, List, Name, Path, PersonDef, WorkLine};
@@ -153,6 +159,40 @@ fn copied_name(alloc: Global, name: &[u8]) -> Result<Vec<u8>, AllocError>
     Vec::from_slice(alloc, name)
 }
 
+/// Adds the items of a shelf.
+fn add_items<'a>(
+    items: &'a Shelf,
+    found: &mut BTreeMap<&'a [u64], &'a Listed>,
+) -> Result<(), AllocError>
+    ensures { OnOk result ((r : Seq ℕ) → found_at found.new r ≡ option_or (at_rank items.now r) (found_at found.old r)) }
+{
+    for (rank, listed) in items.iter() {
+        found.insert(rank.as_slice(), listed)?;
+    }
+    Ok(())
+}
+
+/// An item as a line of a worklist.
+fn line_of(alloc: Global, listed: &Listed) -> Result<WorkLine, AllocError>
+    ensures { IfOk result (λ line. line ≡ work_line listed.now) }
+{
+    Ok(WorkLine {
+        item: listed.item.copy(alloc)?,
+        held: listed.held,
+    })
+}
+
+/// The lines of what was found, by rising rank.
+fn lines_of(alloc: Global, found: &BTreeMap<&[u64], &Listed>) -> Result<List<WorkLine>, AllocError>
+    ensures { IfOk result (λ lines. (lines ≡ map (λ e. work_line e.1.now) found.now.entries) × IsOrdered (λ k l. slice_cmp nat_cmp k.now l.now) found.now) }
+{
+    let mut lines = List::new(alloc);
+    for (_rank, listed) in found.iter() {
+        lines.push(line_of(alloc, listed)?)?;
+    }
+    Ok(lines)
+}
+
 impl Worklists {
     /// No items.
     pub fn new(alloc: Global) -> Worklists {
@@ -222,33 +262,64 @@ impl Worklists {
         &'a self,
         shelf: &[u8],
         found: &mut BTreeMap<&'a [u64], &'a Listed>,
-    ) -> Result<(), AllocError> {
-        if let Some(items) = self.shelves.get(shelf) {
-            for (rank, listed) in items.iter() {
-                found.insert(rank.as_slice(), listed)?;
-            }
+    ) -> Result<(), AllocError>
+        ensures { OnOk result ((r : Seq ℕ) → found_at found.new r ≡ option_or (item_in self.now.shelves shelf.now r) (found_at found.old r)) }
+    {
+        match self.shelves.get(shelf) {
+            None => Ok(()),
+            Some(items) => add_items(items, found),
+        }
+    }
+
+    /// Adds the items of the shelf of a role.
+    fn add_role<'a>(
+        &'a self,
+        role: &Name,
+        found: &mut BTreeMap<&'a [u64], &'a Listed>,
+    ) -> Result<(), AllocError>
+        ensures { OnOk result ((r : Seq ℕ) → found_at found.new r ≡ option_or (item_in self.now.shelves (ROLE ∷ role.now) r) (found_at found.old r)) }
+    {
+        let shelf = shelf_of(self.alloc, ROLE, role)?;
+        self.add_shelf(shelf.as_slice(), found)?;
+        Ok(())
+    }
+
+    /// Adds the items of the shelves of roles.
+    fn add_roles<'a>(
+        &'a self,
+        roles: &[Name],
+        found: &mut BTreeMap<&'a [u64], &'a Listed>,
+    ) -> Result<(), AllocError>
+        ensures { OnOk result ((r : Seq ℕ) → found_at found.new r ≡ seen_on self.now.shelves (map (λ role. ROLE ∷ role) roles.now) (found_at found.old r) r) }
+    {
+        for role in roles {
+            self.add_role(role, found)?;
         }
         Ok(())
     }
 
-    /// The worklist of a person, in show order.
-    pub fn worklist(&self, person: &PersonDef) -> Result<List<WorkLine>, AllocError> {
-        let mut found = BTreeMap::new(self.alloc);
+    /// Adds the items that a person sees.
+    fn add_seen<'a>(
+        &'a self,
+        person: &PersonDef,
+        found: &mut BTreeMap<&'a [u64], &'a Listed>,
+    ) -> Result<(), AllocError>
+        ensures { OnOk result ((r : Seq ℕ) → found_at found.new r ≡ seen_on self.now.shelves (shelves_of person.now) (found_at found.old r) r) }
+    {
         let named = shelf_of(self.alloc, PERSON, &person.name)?;
-        self.add_shelf(&named, &mut found)?;
+        self.add_shelf(named.as_slice(), found)?;
         let held = shelf_of(self.alloc, HOLDER, &person.name)?;
-        self.add_shelf(&held, &mut found)?;
-        for role in person.roles.as_slice() {
-            let shelf = shelf_of(self.alloc, ROLE, role)?;
-            self.add_shelf(&shelf, &mut found)?;
-        }
-        let mut lines = List::new(self.alloc);
-        for (_rank, listed) in found.iter() {
-            lines.push(WorkLine {
-                item: listed.item.copy(self.alloc)?,
-                held: listed.held,
-            })?;
-        }
-        Ok(lines)
+        self.add_shelf(held.as_slice(), found)?;
+        self.add_roles(person.roles.as_slice(), found)?;
+        Ok(())
+    }
+
+    /// The worklist of a person, in show order.
+    pub fn worklist(&self, person: &PersonDef) -> Result<List<WorkLine>, AllocError>
+        ensures { IfOk result (IsWorklist self.now.shelves person.now) }
+    {
+        let mut found = BTreeMap::new(self.alloc);
+        self.add_seen(person, &mut found)?;
+        lines_of(self.alloc, &found)
     }
 }
