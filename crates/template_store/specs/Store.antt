@@ -1,6 +1,8 @@
 -- The library of the imports, and what an import adds to it.
-use Rattle.std.specs.Prelude.{◌≡◌, ℕ, ◌+◌, ◌==◌, ◌-◌, ◌^◌, ◌&&◌, min, Bool, true, false, Result, Ok, Err, Option, List, ◌++◌, length, position, bytes_eq}
+use Rattle.std.specs.Prelude.{ℕ, ◌==◌, ◌^◌, ◌≤◌, ◌&&◌, Bool, true, false, Result, Ok, Err, Option, List, ◌++◌, length, position, bytes_eq}
 use Rattle.flow_model.specs.declared.graphs.Library.{Library}
+use Rattle.template_check.specs.Imports.{IsIndexed}
+use Rattle.template_check.specs.declared.catalog.Catalog.{Catalog}
 use Rattle.template_check.specs.declared.faults.ImportFault.{ImportFault}
 use Rattle.template_check.specs.declared.faults.ImportFault.TheVariants.{Rule, NoMemory}
 use Rattle.template_check.specs.declared.compiling.Compiled.{Compiled}
@@ -18,3 +20,11 @@ abbrev pub is_refusal : {X : Type 0} → Result X ImportFault → Bool
 is_refusal (Ok x) = false
 is_refusal (Err (Rule fault)) = true
 is_refusal (Err NoMemory) = false
+
+-- places of 32 bits tell all elements of the library apart
+abbrev pub IsSmall : Library → Type 0
+IsSmall library = (length library.templates ≤ 2 ^ 32) × (length library.people ≤ 2 ^ 32)
+
+-- where the second catalog is small, its names lead to the newest if those of the first did
+abbrev pub KeepsIndex : Catalog → Catalog → Type 0
+KeepsIndex old new = IsSmall new.library → IsIndexed old → IsIndexed new

@@ -2,7 +2,7 @@
 ghost use Rattle.std.specs.Prelude.{◌≡◌, ◌-◌, ◌^◌, ◌<◌, ◌≤◌, ◌+◌, [], ◌++◌, min, length, slice_get, option_copied, OnOk, IfOk, ◌==◌, ◌&&◌, position, bytes_eq, true};
 ghost use Rattle.template_check.specs.Imports.{IsIndexed, newest_place, latest_person};
 ghost use Rattle.template_check.specs.declared.compiling.Compiled.{Compiled as Added};
-ghost use Rattle.template_store.specs.Store.{version_place, with_compiled, is_refusal};
+ghost use Rattle.template_store.specs.Store.{version_place, with_compiled, is_refusal, KeepsIndex};
 
 use flow_model::{Library, Name, PersonDef, Template};
 use std::alloc::{AllocError, Global};
@@ -34,6 +34,7 @@ impl TemplateStore {
     /// Without memory a part of them may have been added, the last one with no name that leads to it.
     pub fn import(&mut self, alloc: Global, text: &[u8]) -> Result<u32, ImportFault>
         ensures added { IfOk result (λ count. (added : Added) × (count ≡ min (length added.templates) (2 ^ 32 - 1)) × (self.new.catalog.library ≡ with_compiled self.old.catalog.library added)) }
+        ensures indexed { OnOk result (KeepsIndex self.old.catalog self.new.catalog) }
         ensures refused { is_refusal result ≡ true → self.new ≡ self.old }
     {
         let compiled = self.check(alloc, text)?;
@@ -43,7 +44,8 @@ impl TemplateStore {
 
     /// Adds what a text compiled to; answers the number of processes.
     fn add(&mut self, alloc: Global, compiled: Compiled) -> Result<u32, AllocError>
-        ensures { IfOk result (λ count. (count ≡ min (length compiled.templates) (2 ^ 32 - 1)) × (self.new.catalog.library ≡ with_compiled self.old.catalog.library compiled)) }
+        ensures indexed { OnOk result (KeepsIndex self.old.catalog self.new.catalog) }
+        ensures added { IfOk result (λ count. (count ≡ min (length compiled.templates) (2 ^ 32 - 1)) × (self.new.catalog.library ≡ with_compiled self.old.catalog.library compiled)) }
     {
         let Compiled { templates, people } = compiled;
         let count = u32::try_from(templates.len()).unwrap_or(u32::MAX);
@@ -53,7 +55,8 @@ impl TemplateStore {
     }
 
     fn add_templates(&mut self, alloc: Global, templates: Vec<Template>) -> Result<(), AllocError>
-        ensures { OnOk result (self.new.catalog.library ≡ record { templates = self.old.catalog.library.templates ++ templates.items; people = self.old.catalog.library.people }) }
+        ensures indexed { OnOk result (KeepsIndex self.old.catalog self.new.catalog) }
+        ensures added { OnOk result (self.new.catalog.library ≡ record { templates = self.old.catalog.library.templates ++ templates.items; people = self.old.catalog.library.people }) }
     {
         for template in templates {
             self.catalog.add_template(alloc, template)?;
@@ -62,7 +65,8 @@ impl TemplateStore {
     }
 
     fn add_people(&mut self, alloc: Global, people: Vec<PersonDef>) -> Result<(), AllocError>
-        ensures { OnOk result (self.new.catalog.library ≡ record { templates = self.old.catalog.library.templates; people = self.old.catalog.library.people ++ people.items }) }
+        ensures indexed { OnOk result (KeepsIndex self.old.catalog self.new.catalog) }
+        ensures added { OnOk result (self.new.catalog.library ≡ record { templates = self.old.catalog.library.templates; people = self.old.catalog.library.people ++ people.items }) }
     {
         for person in people {
             self.catalog.add_person(alloc, person)?;
