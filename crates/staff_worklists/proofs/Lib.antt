@@ -2,3 +2,4 @@
 pub mod Lookups
 pub mod Steps
 pub mod Found
+pub mod Seen

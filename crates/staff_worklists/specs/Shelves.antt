@@ -1,5 +1,5 @@
 -- On which shelf an open item stands, and which shelves a person sees.
-use Rattle.std.specs.Prelude.{ℕ, Bool, true, false, if◌then◌else◌, Option, Some, None, unwrap_or, List, ◌∷◌, map, bytes_eq}
+use Rattle.std.specs.Prelude.{◌≡◌, ℕ, Bool, true, false, ◌||◌, ◌&&◌, if◌then◌else◌, Option, Some, None, unwrap_or, List, ◌∷◌, map, bytes_eq}
 use Rattle.std.specs.List.{list_any}
 use Rattle.flow_model.specs.declared.graphs.DoneBy.{DoneBy}
 use Rattle.flow_model.specs.declared.graphs.DoneBy.TheVariants as by
@@ -7,6 +7,7 @@ use Rattle.flow_model.specs.declared.graphs.PersonDef.{PersonDef}
 use Rattle.flow_model.specs.declared.instances.Hold.{Hold}
 use Rattle.flow_model.specs.declared.instances.Hold.TheVariants as held
 use Rattle.flow_model.specs.declared.instances.ItemLine.{ItemLine}
+use Rattle.staff_worklists.specs.Rights.{is_eligible, holds_it}
 
 -- the shelf of those who may claim: of the role, or of the person; without a performer the starter stands in
 abbrev pub claim_shelf : DoneBy → List ℕ → Option (List ℕ) → List ℕ
@@ -39,3 +40,14 @@ abbrev pub is_held : Hold → Bool
 is_held held.Nobody = false
 is_held (held.Person holder) = true
 is_held (held.Agent take) = false
+
+-- nobody holds the item
+abbrev pub is_free : Hold → Bool
+is_free held.Nobody = true
+is_free (held.Person holder) = false
+is_free (held.Agent take) = false
+
+-- a person sees an item exactly where the person holds it, or nobody does and the person is eligible
+abbrev pub IsSeenWhereAllowed : Type 0
+IsSeenWhereAllowed = (person : PersonDef) (line : ItemLine)
+    → sees person (shelf_for line) ≡ (holds_it line.hold person.name || (is_free line.hold && is_eligible person line.program line.starter line.performer))

@@ -5,9 +5,11 @@
 //! `specs/Listing.antt`.
 #![tactic(auto)]
 
+mod laws;
 mod rights;
 mod worklists;
 
+pub use laws::seen_where_allowed;
 pub use rights::{
     StaffFault, claim_test, done_test, eligible, release_test, take_test, transfer_test,
 };
