@@ -3,6 +3,9 @@ use Rattle.std.proofs.Common.{◌≡◌, ℕ, List, Bool, true, false, cond, [],
 use Rattle.std.specs.Ordering.{is_eq, nat_cmp}
 use Rattle.std.specs.Map.{lookup}
 use Rattle.std.specs.Cmp.Lexicographic.{slice_cmp, bytes_decides}
+use Rattle.std.proofs.Common.{◌+◌, ◌<◌, ◌∷◌, ◌++◌, ◌||◌, length, get_or, drop}
+use Rattle.std.proofs.lemmas.List.{drop_more}
+use Rattle.std.proofs.lemmas.List.Folds.{list_any-append}
 use Rattle.std.specs.Str.{bytes_eq}
 use Rattle.std.specs.Global.{Vec}
 use Rattle.std.specs.BTreeMap as tree
@@ -11,7 +14,7 @@ use Rattle.std.specs.HashMap as hash
 use Rattle.std.specs.HashMap.{HashMap}
 use Rattle.std.proofs.lemmas.Bool.{cases_Bool, false≢true}
 use Rattle.staff_worklists.specs.declared.worklists.Listed.{Listed}
-use Rattle.staff_worklists.specs.Standing.{shelf_at, at_rank, on_shelf, item_in, ArePlaced}
+use Rattle.staff_worklists.specs.Standing.{shelf_at, at_rank, on_shelf, item_in, ArePlaced, begins_with, is_among}
 use Rattle.std.specs.Option.{IsSome, option_map}
 use Rattle.std.proofs.Common.{Result, Ok, Err, OnOk, OnErr}
 use Rattle.staff_worklists.proofs.Lookups.{tree_updates, hash_updates}
@@ -157,3 +160,32 @@ pub placed_tried : {S : Type 0} (old new : HashMap (Vec ℕ) (BTreeMap (Vec ℕ)
     → ArePlaced new after
 placed_tried old new places after rank name p w (Ok x) placed named free updated put same = placed_put old new places after rank name p w placed named free updated put
 placed_tried old new places after rank name p w (Err e) placed named free updated put same = placed_kept old new places after rank (Some p) placed free updated same
+
+dropped_more : {X : Type 0} (b rest : Bool) (old new : Option X) → new ≡ (if b then None else old) → (if rest then None else new) ≡ (if b || rest then None else old)
+dropped_more true true old new e = refl
+dropped_more true false old new e = e
+dropped_more false true old new e = refl
+dropped_more false false old new e = e
+
+-- one more item is taken off
+pub one_dropped : {S : Type 0} (first old new : HashMap (Vec ℕ) (BTreeMap (Vec ℕ) Listed) S) (ranks : List (Vec ℕ)) (i : ℕ) (x : Vec ℕ) → i < length ranks → x ≡ get_or ranks i x
+    → ((q r : List ℕ) → (if is_among (drop i ranks) r then None else item_in old q r) ≡ (if is_among ranks r then None else item_in first q r))
+    → ((q r : List ℕ) → item_in new q r ≡ (if bytes_eq x.items r then None else item_in old q r))
+    → (q r : List ℕ) → (if is_among (drop (i + 1) ranks) r then None else item_in new q r) ≡ (if is_among ranks r then None else item_in first q r)
+one_dropped first old new ranks i x lt is left taken q r =
+    dropped_more (bytes_eq x.items r) (is_among (drop (i + 1) ranks) r) (item_in old q r) (item_in new q r) (taken q r)
+    ∙ ap (λ (b : Bool). if b then None else item_in old q r) (sym step) ∙ left q r
+  where
+    step : is_among (drop i ranks) r ≡ (bytes_eq x.items r || is_among (drop (i + 1) ranks) r)
+    step = ap (λ (l : List (Vec ℕ)). is_among l r) (drop_more ranks i x lt) ∙ ap (λ (k : Vec ℕ). bytes_eq k.items r || is_among (drop (i + 1) ranks) r) (sym is)
+
+-- another root's rank is none of the ranks of this root
+pub not_among : (root : ℕ) (ranks : List (Vec ℕ)) (k : Vec ℕ) → begins_with root k.items ≡ true
+    → ((r : List ℕ) → begins_with root r ≡ false → is_among ranks r ≡ false) → (r : List ℕ) → begins_with root r ≡ false → is_among (ranks ++ k ∷ []) r ≡ false
+not_among root ranks k begins none r other =
+    list_any-append (λ x. bytes_eq x.items r) ranks (k ∷ [])
+    ∙ ap (λ b. b || (bytes_eq k.items r || false)) (none r other)
+    ∙ ap (λ b. b || false) differs
+  where
+    differs : bytes_eq k.items r ≡ false
+    differs = ⊎_elim (λ y. absurd (false≢true (sym other ∙ ap (begins_with root) (sym ((bytes_decides k.items r).0 y)) ∙ begins))) (λ n. n) (cases_Bool (bytes_eq k.items r))

@@ -1,5 +1,6 @@
 -- Which item stands where on the shelves.
-use Rattle.std.specs.Prelude.{◌≡◌, ℕ, Option, Some, None, option_map, IsSome, if◌then◌else◌, List, bytes_eq}
+use Rattle.std.specs.List.{list_any}
+use Rattle.std.specs.Prelude.{◌==◌, Bool, false, ◌∷◌, [], ◌≡◌, ℕ, Option, Some, None, option_map, IsSome, if◌then◌else◌, List, bytes_eq}
 use Rattle.std.specs.Ordering.{nat_cmp}
 use Rattle.std.specs.Cmp.Lexicographic.{slice_cmp}
 use Rattle.std.specs.Global.{Vec}
@@ -38,3 +39,12 @@ ArePlaced shelves places = (name rank : List ℕ) → IsSome (item_in shelves na
 abbrev pub listed_at : Option (List ℕ) → List ℕ → Listed → Option Listed
 listed_at None name listed = None
 listed_at (Some shelf) name listed = if bytes_eq shelf name then Some listed else None
+
+-- the rank is that of an item of this root
+abbrev pub begins_with : ℕ → List ℕ → Bool
+begins_with root [] = false
+begins_with root (first ∷ rest) = first == root
+
+-- one of the ranks is this one
+abbrev pub is_among : List (Vec ℕ) → List ℕ → Bool
+is_among ranks rank = list_any (λ k. bytes_eq k.items rank) ranks

@@ -1,5 +1,5 @@
 //! The open manual items of all roots, and the worklists over them.
-ghost use Rattle.std.specs.Prelude.{◌≡◌, ℕ, ◌∷◌, ◌&&◌, List as Seq, None, Some, IfOk, OnOk, OnErr, option_map, option_copied, if◌then◌else◌, bytes_eq};
+ghost use Rattle.std.specs.Prelude.{◌≡◌, ℕ, ◌∷◌, ◌&&◌, List as Seq, false, None, Some, IfOk, OnOk, OnErr, option_map, option_copied, if◌then◌else◌, bytes_eq};
 ghost use Rattle.staff_worklists.specs.Shelves.{claim_shelf as claim_shelf_of, is_held as is_held_test, shelf_for as shelf_of_line, shelves_of};
 ghost use Rattle.std.specs.Prelude.{map};
 ghost use Rattle.std.specs.Option.{option_or};
@@ -7,7 +7,7 @@ ghost use Rattle.std.specs.Ordering.{nat_cmp};
 ghost use Rattle.std.specs.Cmp.Lexicographic.{slice_cmp};
 ghost use Rattle.std.specs.BTreeMap.{IsOrdered};
 ghost use Rattle.staff_worklists.specs.Listing.{line_of as work_line, found_at, seen_on, IsWorklist};
-ghost use Rattle.staff_worklists.specs.Standing.{shelf_at, at_rank, item_in, ArePlaced, listed_at};
+ghost use Rattle.staff_worklists.specs.Standing.{shelf_at, at_rank, item_in, ArePlaced, listed_at, begins_with, is_among};
 
 use flow_model::{DoneBy, Hold, ItemLine, List, Name, Path, PersonDef, WorkLine};
 use indexmap::IndexMap;
@@ -193,6 +193,16 @@ fn lines_of(alloc: Global, found: &BTreeMap<&[u64], &Listed>) -> Result<List<Wor
     Ok(lines)
 }
 
+/// Whether a rank is that of an item of this root.
+fn begins(rank: &Rank, root: u64) -> bool
+    ensures { result ≡ begins_with root rank.now.items }
+{
+    match rank.as_slice() {
+        [] => false,
+        [first, ..] => *first == root,
+    }
+}
+
 impl Worklists {
     /// No items.
     pub fn new(alloc: Global) -> Worklists {
@@ -241,20 +251,38 @@ impl Worklists {
         }
     }
 
-    /// Takes all items of a root off their shelves.
-    pub fn drop_root(&mut self, root: u64) -> Result<(), AllocError> {
+    /// Takes all items of a root off their shelves. Without memory nothing is taken off.
+    pub fn drop_root(&mut self, root: u64) -> Result<(), AllocError>
+        ensures others { (q : Seq ℕ) → (r : Seq ℕ) → begins_with root r ≡ false → item_in self.new.shelves q r ≡ item_in self.old.shelves q r }
+        ensures err { OnErr result (self.new ≡ self.old) }
+    {
+        let ranks = self.ranks_of(root)?;
+        self.drop_items(ranks.as_slice());
+        Ok(())
+    }
+
+    /// The ranks of the items of a root that stand on a shelf.
+    fn ranks_of(&self, root: u64) -> Result<Vec<Rank>, AllocError>
+        ensures { IfOk result (λ ranks. (r : Seq ℕ) → begins_with root r ≡ false → is_among ranks.items r ≡ false) }
+    {
         let mut ranks = Vec::new(self.alloc);
         let from = vec![in self.alloc; root]?;
         for (rank, _shelf) in self.places.range(from..) {
-            if rank.first().copied() != Some(root) {
-                break;
+            if !begins(rank, root) {
+                return Ok(ranks);
             }
-            ranks.push(rank.clone()?)?;
+            ranks.push(copied(self.alloc, rank.as_slice())?)?;
         }
-        for rank in &ranks {
+        Ok(ranks)
+    }
+
+    /// Takes items off their shelves.
+    fn drop_items(&mut self, ranks: &[Rank])
+        ensures { (q : Seq ℕ) → (r : Seq ℕ) → item_in self.new.shelves q r ≡ (if is_among ranks.now r then None else item_in self.old.shelves q r) }
+    {
+        for rank in ranks {
             self.drop_item(rank);
         }
-        Ok(())
     }
 
     /// Adds the items of a shelf.
