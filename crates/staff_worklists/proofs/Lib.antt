@@ -3,3 +3,4 @@ pub mod Lookups
 pub mod Steps
 pub mod Found
 pub mod Seen
+pub mod Roots
