@@ -1,8 +1,8 @@
 //! The open manual items of all roots, and the worklists over them.
-ghost use Rattle.std.specs.Prelude.{◌≡◌, ℕ, ◌∷◌, ◌&&◌, List as Seq, false, None, Some, IfOk, OnOk, OnErr, option_map, option_copied, if◌then◌else◌, bytes_eq};
+ghost use Rattle.std.specs.Prelude.{◌≡◌, ℕ, ◌∷◌, ◌&&◌, List as Seq, false, true, None, Some, IfOk, OnOk, OnErr, option_map, option_copied, if◌then◌else◌, bytes_eq};
 ghost use Rattle.staff_worklists.specs.Shelves.{claim_shelf as claim_shelf_of, is_held as is_held_test, shelf_for as shelf_of_line, shelves_of};
 ghost use Rattle.std.specs.Prelude.{map};
-ghost use Rattle.std.specs.Option.{option_or};
+ghost use Rattle.std.specs.Option.{option_or, IsSome};
 ghost use Rattle.std.specs.Ordering.{nat_cmp};
 ghost use Rattle.std.specs.Cmp.Lexicographic.{slice_cmp};
 ghost use Rattle.std.specs.BTreeMap.{IsOrdered};
@@ -254,6 +254,7 @@ impl Worklists {
     /// Takes all items of a root off their shelves. Without memory nothing is taken off.
     pub fn drop_root(&mut self, root: u64) -> Result<(), AllocError>
         ensures others { (q : Seq ℕ) → (r : Seq ℕ) → begins_with root r ≡ false → item_in self.new.shelves q r ≡ item_in self.old.shelves q r }
+        ensures gone { OnOk result ((q : Seq ℕ) → (r : Seq ℕ) → begins_with root r ≡ true → item_in self.new.shelves q r ≡ None) }
         ensures err { OnErr result (self.new ≡ self.old) }
     {
         let ranks = self.ranks_of(root)?;
@@ -263,7 +264,8 @@ impl Worklists {
 
     /// The ranks of the items of a root that stand on a shelf.
     fn ranks_of(&self, root: u64) -> Result<Vec<Rank>, AllocError>
-        ensures { IfOk result (λ ranks. (r : Seq ℕ) → begins_with root r ≡ false → is_among ranks.items r ≡ false) }
+        ensures others { IfOk result (λ ranks. (r : Seq ℕ) → begins_with root r ≡ false → is_among ranks.items r ≡ false) }
+        ensures all { IfOk result (λ ranks. (r : Seq ℕ) → begins_with root r ≡ true → IsSome (at_rank self.now.places r) → is_among ranks.items r ≡ true) }
     {
         let mut ranks = Vec::new(self.alloc);
         let from = vec![in self.alloc; root]?;

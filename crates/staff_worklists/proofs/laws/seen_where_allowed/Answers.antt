@@ -1,4 +1,3 @@
-use Rattle.std.proofs.Common.{rules}
 use Rattle.staff_worklists.proofs.Seen as seen
 use Rattle.staff_worklists.proofs.laws.seen_where_allowed.Goals as goal
 

@@ -1,4 +1,3 @@
-use Rattle.std.proofs.Common.{rules}
 use Rattle.staff_worklists.proofs.Steps.{one_dropped}
 use Rattle.staff_worklists.proofs.worklists.Worklists.drop_items.Goals as goal
 
