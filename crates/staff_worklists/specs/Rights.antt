@@ -31,11 +31,13 @@ is_eligible person program starter performer = program.manual && is_meant person
 
 -- ---- the tests of commands, each the first refusal in its order
 
+-- the item is ready
 abbrev pub is_ready : Phase → Bool
 is_ready phase.Ready = true
 is_ready phase.Running = false
 is_ready phase.Ended = false
 
+-- the item is running
 abbrev pub is_running : Phase → Bool
 is_running phase.Ready = false
 is_running phase.Running = true
