@@ -20,6 +20,7 @@ pub record Worked : Type 0 where
   pub called : List Piece
   pub inside : List Piece
 
+-- what an activity does, from the tokens of the elements inside
 abbrev pub worked_by : WorkTree-F (List Piece) Worked (List Piece) → Worked
 worked_by WorkTree-F.Program = record { opening = keyword.PROGRAM_ACTIVITY; called = []; inside = [] }
 worked_by (WorkTree-F.Process process) = record { opening = keyword.PROCESS_ACTIVITY; called = word keyword.PROCESS ∷ name process.name ∷ []; inside = [] }
@@ -30,6 +31,7 @@ abbrev pub activity_by : ActivityTree-F (List Piece) Worked (List Piece) → Lis
 activity_by a =
     word a.work.opening ∷ heading_pieces a.name a.input a.output ++ a.work.called ++ Stop ∷ flat_map attr_line a.attrs ++ a.work.inside ++ closing_pieces a.end
 
+-- an element, from the tokens of an activity
 abbrev pub element_by : ElementTree-F (List Piece) Worked (List Piece) → List Piece
 element_by (ElementTree-F.Activity activity) = activity
 element_by (ElementTree-F.Control control) = control_pieces control
@@ -39,6 +41,7 @@ element_by (ElementTree-F.Line line) = data_pieces line
 abbrev pub element_pieces : ElementTree → List Piece
 element_pieces = fold-ElementTree (List Piece) Worked (List Piece) element_by worked_by activity_by
 
+-- what an activity does
 abbrev pub worked : WorkTree → Worked
 worked = fold-WorkTree (List Piece) Worked (List Piece) element_by worked_by activity_by
 
@@ -46,13 +49,16 @@ worked = fold-WorkTree (List Piece) Worked (List Piece) element_by worked_by act
 abbrev pub opening_pieces : ActivityTree → List Piece
 opening_pieces a = word (worked a.work).opening ∷ heading_pieces a.name a.input a.output ++ (worked a.work).called ++ Stop ∷ []
 
+-- the lines of an activity
 abbrev pub activity_pieces : ActivityTree → List Piece
 activity_pieces a =
     word (worked a.work).opening ∷ heading_pieces a.name a.input a.output ++ (worked a.work).called ++ Stop ∷ flat_map attr_line a.attrs ++ (worked a.work).inside ++ closing_pieces a.end
 
+-- the lines of a process
 abbrev pub process_pieces : ProcessTree → List Piece
 process_pieces p = word keyword.PROCESS ∷ heading_pieces p.name p.input p.output ++ Stop ∷ flat_map element_pieces p.elements ++ closing_pieces p.end
 
+-- the lines of an item
 unfoldable pub item_pieces : ItemTree → List Piece
 item_pieces (item.Structure structure) = structure_pieces structure
 item_pieces (item.Person person) = person_pieces person

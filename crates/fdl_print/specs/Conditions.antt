@@ -22,6 +22,7 @@ pub record Shown : Type 0 where
   pub form : Form
   pub bare : List Piece
 
+-- tokens between parentheses
 abbrev pub in_parentheses : List Piece → List Piece
 in_parentheses pieces = sign mark.OPEN ∷ pieces ++ sign mark.CLOSE ∷ []
 
@@ -68,6 +69,7 @@ shown_by (Cond-F.And members) = record { form = AnAnd; bare = and_pieces members
 shown_by (Cond-F.Not member) = record { form = Other; bare = word keyword.NOT ∷ in_and member.value }
 shown_by (Cond-F.Compare left operator right) = record { form = Other; bare = side_pieces left ++ sign (operator_mark operator) ∷ side_pieces right }
 
+-- what a condition shows
 abbrev pub shown : Cond → Shown
 shown = fold-Cond Shown shown_by
 

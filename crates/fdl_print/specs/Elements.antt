@@ -39,11 +39,13 @@ heading_pieces title input output =
 
 -- ---- attributes
 
+-- a start condition, behind WHEN
 abbrev pub join_pieces : JoinTree → List Piece
 join_pieces join.All = word keyword.WHEN ∷ word keyword.ALL ∷ word keyword.CONNECTORS ∷ word keyword.TRUE ∷ []
 join_pieces join.AtLeastOne = word keyword.WHEN ∷ word keyword.AT_LEAST_ONE ∷ word keyword.CONNECTOR ∷ word keyword.TRUE ∷ []
 join_pieces (join.AtLeast number) = word keyword.WHEN ∷ word keyword.AT_LEAST ∷ number_pieces number ++ word keyword.CONNECTORS ∷ word keyword.TRUE ∷ []
 
+-- the tokens of an attribute
 abbrev pub attr_pieces : AttrTree → List Piece
 attr_pieces (attr.When join) = join_pieces join
 attr_pieces (attr.Exit cond) = word keyword.EXIT ∷ word keyword.WHEN ∷ condition_pieces cond
@@ -66,6 +68,7 @@ when_pieces transition.Always = []
 when_pieces transition.Otherwise = word keyword.OTHERWISE ∷ []
 when_pieces (transition.Cond cond) = word keyword.WHEN ∷ condition_pieces cond
 
+-- a connector as a line
 abbrev pub control_pieces : ControlTree → List Piece
 control_pieces control =
     word keyword.CONTROL ∷ word keyword.FROM ∷ name control.from.name ∷ word keyword.TO ∷ name control.to.name ∷ when_pieces control.when ++ Stop ∷ []
@@ -75,6 +78,7 @@ abbrev pub end_piece : EndTree → ℕ → Piece
 end_piece end.Border border = word border
 end_piece (end.Activity activity) border = name activity.name
 
+-- the two ends of a data line, or the activity of a LOOP
 abbrev pub ends_pieces : EndsTree → List Piece
 ends_pieces (ends.Line from to) = word keyword.FROM ∷ end_piece from keyword.SOURCE ∷ word keyword.TO ∷ end_piece to keyword.SINK ∷ []
 ends_pieces (ends.Loop activity) = word keyword.LOOP ∷ name activity.name ∷ []
@@ -87,15 +91,18 @@ map_pieces m = leaf_pieces m.from ++ word keyword.TO ∷ leaf_pieces m.to
 unfoldable pub later_map : MapTree → List Piece
 later_map m = sign mark.COMMA ∷ map_pieces m
 
+-- the maps of a data line, with commas between them
 abbrev pub maps_pieces : List MapTree → List Piece
 maps_pieces [] = []
 maps_pieces (first ∷ later) = map_pieces first ++ flat_map later_map later
 
+-- a data line
 abbrev pub data_pieces : DataTree → List Piece
 data_pieces line = word keyword.DATA ∷ ends_pieces line.ends ++ word keyword.MAP ∷ maps_pieces line.maps ++ Stop ∷ []
 
 -- ---- structures and persons
 
+-- the kind of a member
 abbrev pub kind_piece : KindTree → Piece
 kind_piece kind.Long = word keyword.LONG
 kind_piece kind.Str = word keyword.STRING
@@ -110,6 +117,7 @@ count_pieces (Some number) = sign mark.OPEN ∷ number_pieces number ++ sign mar
 unfoldable pub member_line : Member → List Piece
 member_line member = name member.name.name ∷ sign mark.COLON ∷ kind_piece member.kind ∷ count_pieces member.count ++ sign mark.SEMICOLON ∷ Stop ∷ []
 
+-- the lines of a structure
 abbrev pub structure_pieces : StructDef → List Piece
 structure_pieces structure =
     word keyword.STRUCTURE ∷ name structure.name.name ∷ Stop ∷ flat_map member_line structure.members ++ closing_pieces structure.end
@@ -122,9 +130,11 @@ later_role role = sign mark.COMMA ∷ name role.name ∷ []
 unfoldable pub first_role : NameAt → List Piece
 first_role role = word keyword.ROLES ∷ name role.name ∷ []
 
+-- the roles of a person, with commas between them
 abbrev pub roles_pieces : List NameAt → List Piece
 roles_pieces [] = []
 roles_pieces (first ∷ later) = first_role first ++ flat_map later_role later
 
+-- the lines of a person
 abbrev pub person_pieces : PersonTree → List Piece
 person_pieces person = word keyword.PERSON ∷ name person.name.name ∷ roles_pieces person.roles ++ Stop ∷ closing_pieces person.end

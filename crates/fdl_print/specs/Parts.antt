@@ -33,6 +33,7 @@ later_step (step.Member member) = sign mark.DOT ∷ name member ∷ []
 later_step step.Rc = Token (codes "'_RC'") ∷ []
 later_step (step.Place place) = sign mark.OPEN_BRACKET ∷ digits place ∷ sign mark.CLOSE_BRACKET ∷ []
 
+-- the steps of a leaf, one behind the other
 abbrev pub steps_pieces : List StepTree → List Piece
 steps_pieces [] = []
 steps_pieces (first ∷ later) = first_step first ++ flat_map later_step later
@@ -43,6 +44,7 @@ leaf_pieces leaf = steps_pieces leaf.steps
 
 -- ---- comparisons
 
+-- the mark of a comparison
 abbrev pub operator_mark : Operator → ℕ
 operator_mark operator.Eq = mark.EQUAL
 operator_mark operator.Ne = mark.NOT_EQUAL
@@ -51,6 +53,7 @@ operator_mark operator.Le = mark.AT_MOST
 operator_mark operator.Gt = mark.GREATER
 operator_mark operator.Ge = mark.AT_LEAST
 
+-- a leaf, or a number
 abbrev pub operand_pieces : OperandTree → List Piece
 operand_pieces (operand.Leaf leaf) = leaf_pieces leaf
 operand_pieces (operand.Number number) = number_pieces number
@@ -59,6 +62,7 @@ operand_pieces (operand.Number number) = number_pieces number
 unfoldable pub later_term : TermTree → List Piece
 later_term term = sign (if term.minus then mark.MINUS else mark.PLUS) ∷ operand_pieces term.operand
 
+-- the operands of a sum, each later one behind its mark
 abbrev pub sum_pieces : List TermTree → List Piece
 sum_pieces [] = []
 sum_pieces (first ∷ later) = operand_pieces first.operand ++ flat_map later_term later

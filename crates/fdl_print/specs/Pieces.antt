@@ -56,6 +56,7 @@ sign_text sign =
     if sign == 14 then codes ">=" else
     if sign == 15 then codes "+" else codes "-"
 
+-- the mark of a number
 abbrev pub sign : ℕ → Piece
 sign number = Token (sign_text number)
 
