@@ -1,4 +1,7 @@
 //! The grammar of commands over the tokens of a line.
+ghost use Rattle.std.specs.Prelude.{◌≡◌};
+ghost use Rattle.command_lang.specs.Reading.{is_first_word};
+
 use fdl_lexer::What;
 use fdl_parser::{Cursor, SyntaxFault, mark};
 use flow_model::{
@@ -175,7 +178,9 @@ fn rest_of(cursor: &mut Cursor<'_>, word: u8) -> Result<Command, SyntaxFault> {
 }
 
 /// Whether a command begins with this word.
-fn begins(word: u8) -> bool {
+fn begins(word: u8) -> bool
+    ensures { result ≡ is_first_word word }
+{
     (keyword::TURN..=keyword::DONE).contains(&word)
         || (keyword::FORCE..=keyword::TEMPLATES).contains(&word)
         || word == keyword::IMPORT

@@ -1,5 +1,7 @@
 //! From the bytes of a line to what it says. Places are counted from 1.
-ghost use Rattle.std.specs.Prelude.{◌≡◌, ◌≤◌, length};
+ghost use Rattle.std.specs.Prelude.{◌≡◌, ◌≤◌, ◌<◌, ◌+◌, ◌-◌, ◌^◌, ℕ, [], Some, None, Err, length, min, IfOk, IfErr, IsSome};
+ghost use Rattle.command_lang.specs.declared.reading.CommandFault.TheVariants.{Word};
+ghost use Rattle.command_lang.specs.Reading.{may_stand as may_stand_test, wrong_byte as wrong_byte_of, AreLineTokens, HasNoTokens, IsReading};
 ghost use Rattle.command_lang.specs.declared.reading.CommandFault.TheVariants.{NoMemory};
 
 use crate::grammar::{command, completion};
@@ -30,21 +32,32 @@ impl From<AllocError> for CommandFault {
 }
 
 /// A place counted from 1.
-fn from_one(place: u32) -> CommandFault {
+fn from_one(place: u32) -> CommandFault
+    ensures { result ≡ Word (min (place + 1) (2 ^ 32 - 1)) }
+{
     CommandFault::Word(place.saturating_add(1))
 }
 
-fn may_stand(byte: u8) -> bool {
+fn may_stand(byte: u8) -> bool
+    ensures { result ≡ may_stand_test byte }
+{
     byte == b'\t' || byte == b'\r' || (b' '..=b'~').contains(&byte)
 }
 
-/// The tokens of a line.
-fn tokens_of(alloc: Global, line: &[u8]) -> Result<Tokens, CommandFault>
-    requires { length line.now ≤ 65536 }
+/// The first byte that may not stand in a line.
+fn wrong_byte(line: &[u8]) -> Option<usize>
+    ensures { result ≡ wrong_byte_of line.now }
 {
-    if let Some(place) = line.iter().position(|byte| !may_stand(*byte)) {
-        return Err(from_one(u32::try_from(place).unwrap_or(u32::MAX)));
-    }
+    line.iter().position(|byte| !may_stand(*byte))
+}
+
+/// The tokens of a line whose bytes may all stand in one.
+fn lexed(alloc: Global, line: &[u8]) -> Result<Tokens, CommandFault>
+    requires short { length line.now ≤ 65536 }
+    requires allowed { wrong_byte_of line.now ≡ None }
+    ensures tokens { IfOk result (λ tokens. AreLineTokens line.now tokens.items) }
+    ensures fault { IfErr result (HasNoTokens line.now) }
+{
     match lex(alloc, line) {
         Ok(tokens) => Ok(tokens),
         Err(LexFault::Byte(place)) => Err(from_one(place)),
@@ -53,8 +66,24 @@ fn tokens_of(alloc: Global, line: &[u8]) -> Result<Tokens, CommandFault>
     }
 }
 
+/// The tokens of a line.
+fn tokens_of(alloc: Global, line: &[u8]) -> Result<Tokens, CommandFault>
+    requires { length line.now ≤ 65536 }
+    ensures tokens { IfOk result (λ tokens. AreLineTokens line.now tokens.items) }
+    ensures fault { IfErr result (HasNoTokens line.now) }
+    ensures byte { (p : ℕ) → wrong_byte_of line.now ≡ Some p → result ≡ Err (Word (p + 1)) }
+{
+    if let Some(place) = wrong_byte(line) {
+        return Err(from_one(u32::try_from(place).unwrap_or(u32::MAX)));
+    }
+    lexed(alloc, line)
+}
+
 /// The line up to the end of its last token; None where it has none.
-fn spoken<'a>(line: &'a [u8], tokens: &Tokens) -> Option<&'a [u8]> {
+fn spoken<'a>(line: &'a [u8], tokens: &Tokens) -> Option<&'a [u8]>
+    ensures none { result ≡ None → tokens.now.items ≡ [] }
+    ensures some { IsSome result → 0 < length tokens.now.items }
+{
     let last = tokens.items.as_slice().last()?;
     Some(line.get(..last.to as usize).unwrap_or(line))
 }
@@ -72,6 +101,8 @@ fn command_fault(fault: SyntaxFault) -> CommandFault {
 /// line is no command.
 pub fn read_command(alloc: Global, line: &[u8]) -> Result<Option<Command>, CommandFault>
     requires { length line.now ≤ 65536 }
+    ensures read { IsReading line.now result }
+    ensures byte { (p : ℕ) → wrong_byte_of line.now ≡ Some p → result ≡ Err (Word (p + 1)) }
 {
     let tokens = tokens_of(alloc, line)?;
     let Some(spoken) = spoken(line, &tokens) else {
@@ -87,6 +118,8 @@ pub fn read_command(alloc: Global, line: &[u8]) -> Result<Option<Command>, Comma
 /// The completion of a line, with None and `Word` as for commands.
 pub fn read_completion(alloc: Global, line: &[u8]) -> Result<Option<Completion>, CommandFault>
     requires { length line.now ≤ 65536 }
+    ensures read { IsReading line.now result }
+    ensures byte { (p : ℕ) → wrong_byte_of line.now ≡ Some p → result ≡ Err (Word (p + 1)) }
 {
     let tokens = tokens_of(alloc, line)?;
     let Some(spoken) = spoken(line, &tokens) else {

@@ -1,0 +1,5 @@
+pub mod Pieces
+pub mod Parts
+pub mod Conditions
+pub mod Elements
+pub mod Canonical

@@ -1,11 +1,19 @@
 //! Conditions.
+ghost use Rattle.std.specs.Prelude.{◌≡◌, ◌∷◌, ◌++◌, map, OnOk};
+ghost use Rattle.std.specs.List.{flat_map};
+ghost use Rattle.fdl_print.specs.Pieces.{with_pieces, word as word_piece, sign as sign_piece};
+ghost use Rattle.fdl_print.specs.Parts.{operator_mark as mark_of, operand_pieces, later_term as later_term_pieces, side_pieces, sum_pieces};
+ghost use Rattle.fdl_print.specs.Conditions.{shown, in_or, in_and, in_parentheses, or_pieces, and_pieces, later_or, later_and, condition_pieces};
+
 use crate::printer::Printer;
 use fdl_parser::mark;
 use flow_model::{Cond, CondAt, OperandTree, Operator, Side, TermTree};
 use flow_table::keyword;
 use std::alloc::AllocError;
 
-fn operator_mark(operator: Operator) -> u8 {
+fn operator_mark(operator: Operator) -> u8
+    ensures { result ≡ mark_of operator }
+{
     match operator {
         Operator::Eq => mark::EQUAL,
         Operator::Ne => mark::NOT_EQUAL,
@@ -16,87 +24,159 @@ fn operator_mark(operator: Operator) -> u8 {
     }
 }
 
-/// What a condition is a part of, which says when it stands in parentheses.
-#[derive(Clone, Copy, Debug, PartialEq, Eq)]
-enum Around {
-    Nothing,
-    Or,
-    AndOrNot,
-}
-
-fn wants_parentheses(cond: &Cond, around: Around) -> bool {
-    match around {
-        Around::Nothing => false,
-        Around::Or => matches!(cond, Cond::Or(_)),
-        Around::AndOrNot => matches!(cond, Cond::Or(_) | Cond::And(_)),
-    }
-}
-
 impl Printer {
-    fn term(&mut self, term: &TermTree, first: bool) -> Result<(), AllocError> {
-        if !first {
-            self.mark(if term.minus { mark::MINUS } else { mark::PLUS })?;
-        }
-        match &term.operand {
+    fn operand(&mut self, operand: &OperandTree) -> Result<(), AllocError>
+        ensures { OnOk result (self.new ≡ with_pieces (operand_pieces operand.now) self.old) }
+    {
+        match operand {
             OperandTree::Leaf(leaf) => self.leaf(leaf),
             OperandTree::Number(number) => self.number(number),
         }
     }
 
-    fn side(&mut self, side: &Side) -> Result<(), AllocError> {
-        match side {
-            Side::Text(text, _) => self.text(text),
-            Side::Sum(terms) => {
-                for (i, term) in terms.as_slice().iter().enumerate() {
-                    self.term(term, i == 0)?;
-                }
-                Ok(())
-            }
-        }
+    /// An operand behind its mark.
+    #[tactic(auto, unfolding(crate::specs::Parts::later_term))]
+    fn later_term(&mut self, term: &TermTree) -> Result<(), AllocError>
+        ensures { OnOk result (self.new ≡ with_pieces (later_term_pieces term.now) self.old) }
+    {
+        self.mark(if term.minus { mark::MINUS } else { mark::PLUS })?;
+        self.operand(&term.operand)
     }
 
-    #[cycle(condition)]
-    fn members(&mut self, members: &[Cond], between: u8, around: Around) -> Result<(), AllocError> {
-        for (i, member) in members.iter().enumerate() {
-            if i > 0 {
-                self.word(between)?;
-            }
-            self.part(member, around)?;
+    fn sum(&mut self, terms: &[TermTree]) -> Result<(), AllocError>
+        ensures { OnOk result (self.new ≡ with_pieces (sum_pieces terms.now) self.old) }
+    {
+        let [first, rest @ ..] = terms else {
+            return Ok(());
+        };
+        self.operand(&first.operand)?;
+        for term in rest {
+            self.later_term(term)?;
         }
         Ok(())
     }
 
+    fn side(&mut self, side: &Side) -> Result<(), AllocError>
+        ensures { OnOk result (self.new ≡ with_pieces (side_pieces side.now) self.old) }
+    {
+        match side {
+            Side::Text(text, _) => self.text(text),
+            Side::Sum(terms) => self.sum(terms.as_slice()),
+        }
+    }
+
+    /// A member of an OR, in parentheses where it is an OR itself.
     #[cycle(condition)]
-    fn bare(&mut self, cond: &Cond) -> Result<(), AllocError> {
+    #[tactic(auto, using(crate::proofs::Laying::append_rule))]
+    fn in_or(&mut self, cond: &Cond) -> Result<(), AllocError>
+        ensures { OnOk result (self.new ≡ with_pieces (in_or (shown cond.now)) self.old) }
+    {
         match cond {
-            Cond::Or(members) => self.members(members.as_slice(), keyword::OR, Around::Or),
-            Cond::And(members) => self.members(members.as_slice(), keyword::AND, Around::AndOrNot),
-            Cond::Not(member) => {
-                self.word(keyword::NOT)?;
-                self.part(member, Around::AndOrNot)
-            }
-            Cond::Compare(left, operator, right) => {
-                self.side(left)?;
-                self.mark(operator_mark(*operator))?;
-                self.side(right)
-            }
+            Cond::Or(_) => self.enclosed(cond),
+            Cond::And(_) => self.bare(cond),
+            Cond::Not(_) => self.bare(cond),
+            Cond::Compare(_, _, _) => self.bare(cond),
+        }
+    }
+
+    /// A member of an AND or the operand of NOT, in parentheses where it is an OR or an AND itself.
+    #[cycle(condition)]
+    fn in_and(&mut self, cond: &Cond) -> Result<(), AllocError>
+        ensures { OnOk result (self.new ≡ with_pieces (in_and (shown cond.now)) self.old) }
+    {
+        match cond {
+            Cond::Or(_) => self.enclosed(cond),
+            Cond::And(_) => self.enclosed(cond),
+            Cond::Not(_) => self.bare(cond),
+            Cond::Compare(_, _, _) => self.bare(cond),
         }
     }
 
     #[cycle(condition)]
-    fn part(&mut self, cond: &Cond, around: Around) -> Result<(), AllocError> {
-        if !wants_parentheses(cond, around) {
-            return self.bare(cond);
-        }
+    #[tactic(auto, using(crate::proofs::Laying::append_rule))]
+    fn enclosed(&mut self, cond: &Cond) -> Result<(), AllocError>
+        ensures { OnOk result (self.new ≡ with_pieces (in_parentheses (shown cond.now).bare) self.old) }
+    {
         self.mark(mark::OPEN)?;
         self.bare(cond)?;
         self.mark(mark::CLOSE)
     }
 
+    #[cycle(condition)]
+    #[tactic(auto, unfolding(crate::specs::Conditions::later_or))]
+    fn later_or(&mut self, member: &Cond) -> Result<(), AllocError>
+        ensures { OnOk result (self.new ≡ with_pieces (later_or (shown member.now)) self.old) }
+    {
+        self.word(keyword::OR)?;
+        self.in_or(member)
+    }
+
+    #[cycle(condition)]
+    fn members_of_or(&mut self, members: &[Cond]) -> Result<(), AllocError>
+        ensures { OnOk result (self.new ≡ with_pieces (or_pieces (map shown members.now)) self.old) }
+    {
+        let [first, rest @ ..] = members else {
+            return Ok(());
+        };
+        self.in_or(first)?;
+        for member in rest {
+            self.later_or(member)?;
+        }
+        Ok(())
+    }
+
+    #[cycle(condition)]
+    #[tactic(auto, unfolding(crate::specs::Conditions::later_and))]
+    fn later_and(&mut self, member: &Cond) -> Result<(), AllocError>
+        ensures { OnOk result (self.new ≡ with_pieces (later_and (shown member.now)) self.old) }
+    {
+        self.word(keyword::AND)?;
+        self.in_and(member)
+    }
+
+    #[cycle(condition)]
+    fn members_of_and(&mut self, members: &[Cond]) -> Result<(), AllocError>
+        ensures { OnOk result (self.new ≡ with_pieces (and_pieces (map shown members.now)) self.old) }
+    {
+        let [first, rest @ ..] = members else {
+            return Ok(());
+        };
+        self.in_and(first)?;
+        for member in rest {
+            self.later_and(member)?;
+        }
+        Ok(())
+    }
+
+    #[tactic(auto, using(crate::proofs::Laying::append_rule))]
+    fn compare(&mut self, left: &Side, operator: Operator, right: &Side) -> Result<(), AllocError>
+        ensures { OnOk result (self.new ≡ with_pieces (side_pieces left.now ++ sign_piece (mark_of operator) ∷ side_pieces right.now) self.old) }
+    {
+        self.side(left)?;
+        self.mark(operator_mark(operator))?;
+        self.side(right)
+    }
+
+    /// A condition without parentheses round it.
+    #[cycle(condition)]
+    fn bare(&mut self, cond: &Cond) -> Result<(), AllocError>
+        ensures { OnOk result (self.new ≡ with_pieces (shown cond.now).bare self.old) }
+    {
+        match cond {
+            Cond::Or(members) => self.members_of_or(members.as_slice()),
+            Cond::And(members) => self.members_of_and(members.as_slice()),
+            Cond::Not(member) => {
+                self.word(keyword::NOT)?;
+                self.in_and(member)
+            }
+            Cond::Compare(left, operator, right) => self.compare(left, *operator, right),
+        }
+    }
+
     /// A condition in the parentheses of WHEN.
-    pub fn condition(&mut self, cond: &CondAt) -> Result<(), AllocError> {
-        self.mark(mark::OPEN)?;
-        self.part(&cond.cond, Around::Nothing)?;
-        self.mark(mark::CLOSE)
+    pub fn condition(&mut self, cond: &CondAt) -> Result<(), AllocError>
+        ensures { OnOk result (self.new ≡ with_pieces (condition_pieces cond.now) self.old) }
+    {
+        self.enclosed(&cond.cond)
     }
 }

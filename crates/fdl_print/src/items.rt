@@ -1,71 +1,154 @@
 //! The items of a text.
+ghost use Rattle.std.specs.Prelude.{◌≡◌, ◌∷◌, ◌++◌, [], OnOk, IfOk};
+ghost use Rattle.std.specs.List.{flat_map};
+ghost use Rattle.fdl_print.specs.Pieces.{Stop, with_piece, with_pieces};
+ghost use Rattle.fdl_print.specs.Elements.{kind_piece, count_pieces, member_line as member_pieces, structure_pieces, first_role as first_role_pieces, later_role as later_role_pieces, roles_pieces, person_pieces};
+ghost use Rattle.fdl_print.specs.Canonical.{process_pieces, item_pieces, canonical_text};
+
 use crate::printer::Printer;
 use fdl_parser::mark;
-use flow_model::{ItemTree, KindTree, Member, PersonTree, ProcessTree, StructDef, Tree};
+use flow_model::{
+    ItemTree, KindTree, Member, NameAt, NumberAt, PersonTree, ProcessTree, StructDef, Tree,
+};
 use flow_table::keyword;
 use std::alloc::{AllocError, Global};
 
 impl Printer {
-    fn member(&mut self, member: &Member) -> Result<(), AllocError> {
+    fn kind(&mut self, kind: &KindTree) -> Result<(), AllocError>
+        ensures { OnOk result (self.new ≡ with_piece (kind_piece kind.now) self.old) }
+    {
+        match kind {
+            KindTree::Long => self.word(keyword::LONG),
+            KindTree::Str => self.word(keyword::STRING),
+            KindTree::Struct(name) => self.name(&name.name),
+        }
+    }
+
+    /// The count of an array in its parentheses.
+    #[tactic(auto, using(crate::proofs::Laying::append_rule))]
+    fn count(&mut self, count: &Option<NumberAt>) -> Result<(), AllocError>
+        ensures { OnOk result (self.new ≡ with_pieces (count_pieces count.now) self.old) }
+    {
+        match count {
+            None => Ok(()),
+            Some(count) => {
+                self.mark(mark::OPEN)?;
+                self.number(count)?;
+                self.mark(mark::CLOSE)
+            }
+        }
+    }
+
+    #[tactic(auto, using(crate::proofs::Laying::append_rule), unfolding(crate::specs::Elements::member_line))]
+    fn member(&mut self, member: &Member) -> Result<(), AllocError>
+        ensures { OnOk result (self.new ≡ with_pieces (member_pieces member.now) self.old) }
+    {
         self.name(&member.name.name)?;
         self.mark(mark::COLON)?;
-        match &member.kind {
-            KindTree::Long => self.word(keyword::LONG)?,
-            KindTree::Str => self.word(keyword::STRING)?,
-            KindTree::Struct(name) => self.name(&name.name)?,
-        }
-        if let Some(count) = &member.count {
-            self.mark(mark::OPEN)?;
-            self.number(count)?;
-            self.mark(mark::CLOSE)?;
-        }
+        self.kind(&member.kind)?;
+        self.count(&member.count)?;
         self.mark(mark::SEMICOLON)?;
         self.end_line()
     }
 
-    fn structure(&mut self, structure: &StructDef) -> Result<(), AllocError> {
+    fn members_of(&mut self, members: &[Member]) -> Result<(), AllocError>
+        ensures { OnOk result (self.new ≡ with_pieces (flat_map member_pieces members.now) self.old) }
+    {
+        for member in members {
+            self.member(member)?;
+        }
+        Ok(())
+    }
+
+    #[tactic(auto, using(crate::proofs::Laying::append_rule))]
+    fn structure(&mut self, structure: &StructDef) -> Result<(), AllocError>
+        ensures { OnOk result (self.new ≡ with_pieces (structure_pieces structure.now) self.old) }
+    {
         self.word(keyword::STRUCTURE)?;
         self.name(&structure.name.name)?;
         self.end_line()?;
-        for member in structure.members.as_slice() {
-            self.member(member)?;
-        }
+        self.members_of(structure.members.as_slice())?;
         self.closing(&structure.end)
     }
 
-    fn person(&mut self, person: &PersonTree) -> Result<(), AllocError> {
+    #[tactic(auto, unfolding(crate::specs::Elements::first_role))]
+    fn first_role(&mut self, role: &NameAt) -> Result<(), AllocError>
+        ensures { OnOk result (self.new ≡ with_pieces (first_role_pieces role.now) self.old) }
+    {
+        self.word(keyword::ROLES)?;
+        self.name(&role.name)
+    }
+
+    #[tactic(auto, unfolding(crate::specs::Elements::later_role))]
+    fn later_role(&mut self, role: &NameAt) -> Result<(), AllocError>
+        ensures { OnOk result (self.new ≡ with_pieces (later_role_pieces role.now) self.old) }
+    {
+        self.mark(mark::COMMA)?;
+        self.name(&role.name)
+    }
+
+    fn roles(&mut self, roles: &[NameAt]) -> Result<(), AllocError>
+        ensures { OnOk result (self.new ≡ with_pieces (roles_pieces roles.now) self.old) }
+    {
+        let [first, rest @ ..] = roles else {
+            return Ok(());
+        };
+        self.first_role(first)?;
+        for role in rest {
+            self.later_role(role)?;
+        }
+        Ok(())
+    }
+
+    #[tactic(auto, using(crate::proofs::Laying::append_rule))]
+    fn person(&mut self, person: &PersonTree) -> Result<(), AllocError>
+        ensures { OnOk result (self.new ≡ with_pieces (person_pieces person.now) self.old) }
+    {
         self.word(keyword::PERSON)?;
         self.name(&person.name.name)?;
-        for (i, role) in person.roles.as_slice().iter().enumerate() {
-            if i == 0 {
-                self.word(keyword::ROLES)?;
-            } else {
-                self.mark(mark::COMMA)?;
-            }
-            self.name(&role.name)?;
-        }
+        self.roles(person.roles.as_slice())?;
         self.end_line()?;
         self.closing(&person.end)
     }
 
-    fn process(&mut self, process: &ProcessTree) -> Result<(), AllocError> {
+    #[tactic(auto, using(crate::proofs::Laying::append_rule))]
+    fn process(&mut self, process: &ProcessTree) -> Result<(), AllocError>
+        ensures { OnOk result (self.new ≡ with_pieces (process_pieces process.now) self.old) }
+    {
         self.word(keyword::PROCESS)?;
         self.heading(&process.name, &process.input, &process.output)?;
         self.end_line()?;
         self.elements(process.elements.as_slice())?;
         self.closing(&process.end)
     }
+
+    #[tactic(auto, unfolding(crate::specs::Canonical::item_pieces))]
+    fn item(&mut self, item: &ItemTree) -> Result<(), AllocError>
+        ensures { OnOk result (self.new ≡ with_pieces (item_pieces item.now) self.old) }
+    {
+        match item {
+            ItemTree::Structure(structure) => self.structure(structure),
+            ItemTree::Person(person) => self.person(person),
+            ItemTree::Process(process) => self.process(process),
+        }
+    }
+
+    fn items(&mut self, items: &[ItemTree]) -> Result<(), AllocError>
+        ensures { OnOk result (self.new ≡ with_pieces (flat_map item_pieces items.now) self.old) }
+    {
+        for item in items {
+            self.item(item)?;
+        }
+        Ok(())
+    }
 }
 
 /// The canonical text of a tree: its tokens with one space between two of a line.
-pub fn canonical(alloc: Global, tree: &Tree) -> Result<Vec<u8>, AllocError> {
+#[tactic(auto, using(crate::proofs::Laying::written_rule))]
+pub fn canonical(alloc: Global, tree: &Tree) -> Result<Vec<u8>, AllocError>
+    ensures { IfOk result (λ text. text.items ≡ canonical_text tree.now) }
+{
     let mut printer = Printer::new(alloc);
-    for item in tree.items.as_slice() {
-        match item {
-            ItemTree::Structure(structure) => printer.structure(structure)?,
-            ItemTree::Person(person) => printer.person(person)?,
-            ItemTree::Process(process) => printer.process(process)?,
-        }
-    }
+    printer.items(tree.items.as_slice())?;
     Ok(printer.into_text())
 }

@@ -1,6 +1,7 @@
 //! How is a tree written, in one way for each?
 //!
-//! Knows the order of the words of each construct, and no rule. Begin with [`canonical`].
+//! Knows the order of the words of each construct, and no rule. Begin with [`canonical`], and with
+//! `specs/Canonical.antt`, which says its text: `specs/Pieces.antt` has the lines, the other files the tokens.
 #![tactic(auto)]
 
 mod conditions;
@@ -9,3 +10,6 @@ mod items;
 mod printer;
 
 pub use items::canonical;
+
+#[cfg(test)]
+mod tests;

@@ -1,20 +1,34 @@
 //! Tokens with one space between them, in lines.
+ghost use Rattle.std.specs.Prelude.{◌≡◌, ◌∷◌, ◌++◌, [], false, codes, OnOk};
+ghost use Rattle.fdl_print.specs.Pieces.{Token, Stop, with_piece, with_pieces, sign_text, word as word_piece, sign as sign_piece, name as name_piece, quoted as text_piece, digits as size_piece};
+ghost use Rattle.fdl_print.specs.Parts.{number_pieces, first_step as first_step_pieces, later_step as later_step_pieces, leaf_pieces};
+
 use fdl_parser::mark;
 use flow_model::{LeafAt, Name, NumberAt, StepTree, Txt};
-use flow_table::{Table, keywords};
+use flow_table::keywords;
 use flow_text::{decimal, quoted_name, quoted_text};
 use std::alloc::{AllocError, Global};
+use std::marker::Model;
 
 /// The text so far.
 #[derive(Drop)]
 pub struct Printer {
-    words: Table<66>,
     out: Vec<u8>,
     begun: bool,
 }
 
+impl Model for Printer {
+    ghost use Rattle.fdl_print.specs.Pieces.{Page};
+
+    ghost Value = { Page };
+
+    ghost view = { λ p. record { written = p.out.items; begun = p.begun } };
+}
+
 /// How a mark is written.
-fn spelling(sign: u8) -> &'static [u8] {
+fn spelling(sign: u8) -> &'static [u8]
+    ensures { result.now ≡ sign_text sign }
+{
     match sign {
         mark::OPEN => b"(",
         mark::CLOSE => b")",
@@ -35,85 +49,108 @@ fn spelling(sign: u8) -> &'static [u8] {
     }
 }
 
+/// How a keyword is written.
+fn keyword_text(code: u8) -> &'static [u8]
+    ensures { Token result.now ≡ word_piece code }
+{
+    match keywords().name_of(code) {
+        Some(word) => word,
+        None => b"",
+    }
+}
+
 impl Printer {
-    pub fn new(alloc: Global) -> Printer {
+    pub fn new(alloc: Global) -> Printer
+        ensures { result ≡ record { written = []; begun = false } }
+    {
         Printer {
-            words: keywords(),
             out: Vec::new(alloc),
             begun: false,
         }
     }
 
-    pub fn into_text(self) -> Vec<u8> {
-        let Printer { words: _, out, .. } = self;
+    pub fn into_text(self) -> Vec<u8>
+        ensures { result.items ≡ self.written }
+    {
+        let Printer { out, .. } = self;
         out
     }
 
-    /// Puts the space before a token, but for the first of a line.
-    fn space(&mut self) -> Result<(), AllocError> {
+    /// Puts a token, with a space before it but for the first of a line.
+    fn token(&mut self, bytes: &[u8]) -> Result<(), AllocError>
+        ensures { OnOk result (self.new ≡ with_piece (Token bytes.now) self.old) }
+    {
         if self.begun {
             self.out.push(b' ')?;
         }
         self.begun = true;
-        Ok(())
+        self.out.extend_from_slice(bytes)
     }
 
-    pub fn end_line(&mut self) -> Result<(), AllocError> {
+    pub fn end_line(&mut self) -> Result<(), AllocError>
+        ensures { OnOk result (self.new ≡ with_piece Stop self.old) }
+    {
         self.out.push(b'\n')?;
         self.begun = false;
         Ok(())
     }
 
-    pub fn word(&mut self, code: u8) -> Result<(), AllocError> {
-        self.space()?;
-        if let Some(word) = self.words.name_of(code) {
-            self.out.extend_from_slice(word)?;
-        }
-        Ok(())
+    pub fn word(&mut self, code: u8) -> Result<(), AllocError>
+        ensures { OnOk result (self.new ≡ with_piece (word_piece code) self.old) }
+    {
+        self.token(keyword_text(code))
     }
 
-    pub fn mark(&mut self, sign: u8) -> Result<(), AllocError> {
-        self.space()?;
-        self.out.extend_from_slice(spelling(sign))
+    pub fn mark(&mut self, sign: u8) -> Result<(), AllocError>
+        ensures { OnOk result (self.new ≡ with_piece (sign_piece sign) self.old) }
+    {
+        self.token(spelling(sign))
     }
 
-    pub fn name(&mut self, name: &Name) -> Result<(), AllocError> {
+    /// Puts the space before a token, but for the first of a line.
+    fn space(&mut self) -> Result<(), AllocError>
+        ensures { OnOk result (self.new ≡ with_piece (Token []) self.old) }
+    {
+        self.token(b"")
+    }
+
+    pub fn name(&mut self, name: &Name) -> Result<(), AllocError>
+        ensures { OnOk result (self.new ≡ with_piece (name_piece name.now) self.old) }
+    {
         self.space()?;
         quoted_name(&mut self.out, name.as_slice())
     }
 
-    pub fn text(&mut self, text: &Txt) -> Result<(), AllocError> {
+    pub fn text(&mut self, text: &Txt) -> Result<(), AllocError>
+        ensures { OnOk result (self.new ≡ with_piece (text_piece text.now) self.old) }
+    {
         self.space()?;
         quoted_text(&mut self.out, text.as_slice())
     }
 
-    pub fn size(&mut self, size: u64) -> Result<(), AllocError> {
+    pub fn size(&mut self, size: u64) -> Result<(), AllocError>
+        ensures { OnOk result (self.new ≡ with_piece (size_piece size) self.old) }
+    {
         self.space()?;
         decimal(&mut self.out, size)
     }
 
-    pub fn number(&mut self, number: &NumberAt) -> Result<(), AllocError> {
+    pub fn number(&mut self, number: &NumberAt) -> Result<(), AllocError>
+        ensures { OnOk result (self.new ≡ with_pieces (number_pieces number.now) self.old) }
+    {
         if number.minus.is_some() {
             self.mark(mark::MINUS)?;
+            return self.size(number.size);
         }
         self.size(number.size)
     }
 
-    /// The return code is written as a name.
-    fn return_code(&mut self) -> Result<(), AllocError> {
-        self.space()?;
-        self.out.extend_from_slice(b"'_RC'")
-    }
-
-    fn step(&mut self, step: &StepTree, first: bool) -> Result<(), AllocError> {
+    fn first_step(&mut self, step: &StepTree) -> Result<(), AllocError>
+        ensures { OnOk result (self.new ≡ with_pieces (first_step_pieces step.now) self.old) }
+    {
         match step {
-            StepTree::Rc => self.return_code(),
-            StepTree::Member(name) => {
-                if !first {
-                    self.mark(mark::DOT)?;
-                }
-                self.name(name)
-            }
+            StepTree::Rc => self.token(b"'_RC'"),
+            StepTree::Member(name) => self.name(name),
             StepTree::Place(place) => {
                 self.mark(mark::OPEN_BRACKET)?;
                 self.size(*place)?;
@@ -122,9 +159,26 @@ impl Printer {
         }
     }
 
-    pub fn leaf(&mut self, leaf: &LeafAt) -> Result<(), AllocError> {
-        for (i, step) in leaf.steps.as_slice().iter().enumerate() {
-            self.step(step, i == 0)?;
+    fn later_step(&mut self, step: &StepTree) -> Result<(), AllocError>
+        ensures { OnOk result (self.new ≡ with_pieces (later_step_pieces step.now) self.old) }
+    {
+        if let StepTree::Member(_) = step {
+            self.mark(mark::DOT)?;
+            return self.first_step(step);
+        }
+        self.first_step(step)
+    }
+
+    #[tactic(auto, using(crate::proofs::Laying::append_rule))]
+    pub fn leaf(&mut self, leaf: &LeafAt) -> Result<(), AllocError>
+        ensures { OnOk result (self.new ≡ with_pieces (leaf_pieces leaf.now) self.old) }
+    {
+        let [first, rest @ ..] = leaf.steps.as_slice() else {
+            return Ok(());
+        };
+        self.first_step(first)?;
+        for step in rest {
+            self.later_step(step)?;
         }
         Ok(())
     }

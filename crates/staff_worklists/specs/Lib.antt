@@ -1,0 +1,4 @@
+pub mod Rights
+pub mod Shelves
+pub mod Standing
+pub mod Listing

@@ -1,4 +1,8 @@
 //! Eligibility, and the tests of commands on items.
+ghost use Rattle.std.specs.Prelude.{◌≡◌, if◌then◌else◌, Some, Ok, Err, option_map, bytes_eq};
+ghost use Rattle.staff_worklists.specs.Rights.{has_role as role_test, is_eligible, is_ready, is_running, owner_answer, able_answer, claim_answer, release_answer, transfer_answer, taking_answer, take_answer, done_answer};
+ghost use Rattle.staff_worklists.specs.declared.rights.StaffFault.TheVariants.{State};
+
 use flow_model::{DoneBy, Hold, Name, PersonDef, Phase, Program, Who};
 use thiserror::Error;
 
@@ -19,11 +23,15 @@ pub enum StaffFault {
     Eligible,
 }
 
-fn same(first: &Name, second: &Name) -> bool {
+fn same(first: &Name, second: &Name) -> bool
+    ensures { result ≡ bytes_eq first.now second.now }
+{
     first.as_slice() == second.as_slice()
 }
 
-fn has_role(person: &PersonDef, role: &Name) -> bool {
+fn has_role(person: &PersonDef, role: &Name) -> bool
+    ensures { result ≡ role_test person.now role.now }
+{
     person.roles.as_slice().iter().any(|own| same(own, role))
 }
 
@@ -34,7 +42,9 @@ pub fn eligible(
     program: &Program,
     starter: &Name,
     performer: Option<&Name>,
-) -> bool {
+) -> bool
+    ensures { result ≡ is_eligible person.now program.now starter.now (option_map (λ name. name.now) performer.entry) }
+{
     if !program.manual {
         return false;
     }
@@ -46,22 +56,38 @@ pub fn eligible(
     }
 }
 
-fn in_phase(phase: Phase, wanted: Phase) -> Result<(), StaffFault> {
-    if phase == wanted {
-        Ok(())
-    } else {
-        Err(StaffFault::State(phase))
+fn in_ready(phase: Phase) -> Result<(), StaffFault>
+    ensures { result ≡ (if is_ready phase then Ok tt else Err (State phase)) }
+{
+    match phase {
+        Phase::Ready => Ok(()),
+        Phase::Running => Err(StaffFault::State(phase)),
+        Phase::Ended => Err(StaffFault::State(phase)),
     }
 }
 
-fn held_by(hold: &Hold, who: &Name) -> Result<(), StaffFault> {
+fn in_running(phase: Phase) -> Result<(), StaffFault>
+    ensures { result ≡ (if is_running phase then Ok tt else Err (State phase)) }
+{
+    match phase {
+        Phase::Ready => Err(StaffFault::State(phase)),
+        Phase::Running => Ok(()),
+        Phase::Ended => Err(StaffFault::State(phase)),
+    }
+}
+
+fn held_by(hold: &Hold, who: &Name) -> Result<(), StaffFault>
+    ensures { result ≡ owner_answer hold.now who.now }
+{
     match hold {
         Hold::Person(holder) if same(holder, who) => Ok(()),
         _ => Err(StaffFault::Owner),
     }
 }
 
-fn able(is_able: bool) -> Result<(), StaffFault> {
+fn able(is_able: bool) -> Result<(), StaffFault>
+    ensures { result ≡ able_answer is_able }
+{
     if is_able {
         Ok(())
     } else {
@@ -70,38 +96,43 @@ fn able(is_able: bool) -> Result<(), StaffFault> {
 }
 
 /// Whether a person may claim an item: State, then Eligible.
-pub fn claim_test(phase: Phase, is_able: bool) -> Result<(), StaffFault> {
-    in_phase(phase, Phase::Ready)?;
+pub fn claim_test(phase: Phase, is_able: bool) -> Result<(), StaffFault>
+    ensures { result ≡ claim_answer phase is_able }
+{
+    in_ready(phase)?;
     able(is_able)
 }
 
 /// Whether a person may give an item back: State, then Owner.
-pub fn release_test(phase: Phase, hold: &Hold, who: &Name) -> Result<(), StaffFault> {
-    in_phase(phase, Phase::Running)?;
+pub fn release_test(phase: Phase, hold: &Hold, who: &Name) -> Result<(), StaffFault>
+    ensures { result ≡ release_answer phase hold.now who.now }
+{
+    in_running(phase)?;
     held_by(hold, who)
 }
 
 /// Whether a person may hand an item on to one who is able: State, Owner, then Eligible.
-pub fn transfer_test(
-    phase: Phase,
-    hold: &Hold,
-    who: &Name,
-    is_able: bool,
-) -> Result<(), StaffFault> {
-    in_phase(phase, Phase::Running)?;
+pub fn transfer_test(phase: Phase, hold: &Hold, who: &Name, is_able: bool) -> Result<(), StaffFault>
+    ensures { result ≡ transfer_answer phase hold.now who.now is_able }
+{
+    in_running(phase)?;
     held_by(hold, who)?;
     able(is_able)
 }
 
 /// Whether an agent may take an item: State, then Eligible.
-pub fn take_test(phase: Phase, manual: bool) -> Result<(), StaffFault> {
-    in_phase(phase, Phase::Ready)?;
+pub fn take_test(phase: Phase, manual: bool) -> Result<(), StaffFault>
+    ensures { result ≡ taking_answer phase manual }
+{
+    in_ready(phase)?;
     able(!manual)
 }
 
 /// Whether a person or an agent may complete an item: State, then Owner or Take.
-pub fn done_test(phase: Phase, hold: &Hold, who: &Who) -> Result<(), StaffFault> {
-    in_phase(phase, Phase::Running)?;
+pub fn done_test(phase: Phase, hold: &Hold, who: &Who) -> Result<(), StaffFault>
+    ensures { result ≡ done_answer phase hold.now who.now }
+{
+    in_running(phase)?;
     match who {
         Who::Person(name) => held_by(hold, name),
         Who::Agent(take) => match hold {

@@ -1,4 +1,14 @@
 //! The open manual items of all roots, and the worklists over them.
+ghost use Rattle.std.specs.Prelude.{◌≡◌, ℕ, ◌∷◌, ◌&&◌, List as Seq, false, true, None, Some, IfOk, OnOk, OnErr, option_map, option_copied, if◌then◌else◌, bytes_eq};
+ghost use Rattle.staff_worklists.specs.Shelves.{claim_shelf as claim_shelf_of, is_held as is_held_test, shelf_for as shelf_of_line, shelves_of};
+ghost use Rattle.std.specs.Prelude.{map};
+ghost use Rattle.std.specs.Option.{option_or, IsSome};
+ghost use Rattle.std.specs.Ordering.{nat_cmp};
+ghost use Rattle.std.specs.Cmp.Lexicographic.{slice_cmp};
+ghost use Rattle.std.specs.BTreeMap.{IsOrdered};
+ghost use Rattle.staff_worklists.specs.Listing.{line_of as work_line, found_at, seen_on, IsWorklist};
+ghost use Rattle.staff_worklists.specs.Standing.{shelf_at, at_rank, item_in, ArePlaced, listed_at, begins_with, is_among};
+
 use flow_model::{DoneBy, Hold, ItemLine, List, Name, Path, PersonDef, WorkLine};
 use indexmap::IndexMap;
 use std::alloc::{AllocError, Global};
@@ -25,10 +35,13 @@ pub struct Worklists {
     shelves: IndexMap<Vec<u8>, Shelf>,
     /// For each item the shelf on which it stands.
     places: BTreeMap<Rank, Vec<u8>>,
+    ghost placed: { ArePlaced shelves places },
 }
 
 /// The shelf of a role or a person: a letter for which it is, then the name.
-fn shelf_of(alloc: Global, letter: u8, name: &Name) -> Result<Vec<u8>, AllocError> {
+fn shelf_of(alloc: Global, letter: u8, name: &Name) -> Result<Vec<u8>, AllocError>
+    ensures { IfOk result (λ shelf. shelf.items ≡ letter ∷ name.now) }
+{
     let mut shelf = Vec::new(alloc);
     shelf.push(letter)?;
     shelf.extend_from_slice(name.as_slice())?;
@@ -41,28 +54,153 @@ const PERSON: u8 = b'P';
 
 const HOLDER: u8 = b'H';
 
-/// The shelf on which an item stands; None where nobody may see it.
-fn shelf_for(alloc: Global, line: &ItemLine) -> Result<Option<Vec<u8>>, AllocError> {
-    match &line.hold {
-        Hold::Person(holder) => return Ok(Some(shelf_of(alloc, HOLDER, holder)?)),
-        Hold::Agent(_) => return Ok(None),
-        Hold::Nobody => {}
-    }
-    if !line.program.manual {
-        return Ok(None);
-    }
-    Ok(Some(match &line.program.by {
-        DoneBy::Role(role) => shelf_of(alloc, ROLE, role)?,
-        DoneBy::Person(name) => shelf_of(alloc, PERSON, name)?,
-        DoneBy::Starter => shelf_of(alloc, PERSON, &line.starter)?,
+/// The shelf of those who may claim an item.
+fn claim_shelf(alloc: Global, line: &ItemLine) -> Result<Vec<u8>, AllocError>
+    ensures { IfOk result (λ shelf. shelf.items ≡ claim_shelf_of line.now.program.by line.now.starter line.now.performer) }
+{
+    match &line.program.by {
+        DoneBy::Role(role) => shelf_of(alloc, ROLE, role),
+        DoneBy::Person(name) => shelf_of(alloc, PERSON, name),
+        DoneBy::Starter => shelf_of(alloc, PERSON, &line.starter),
         DoneBy::PerformerOf(_) => {
-            shelf_of(
-                alloc,
-                PERSON,
-                line.performer.as_ref().unwrap_or(&line.starter),
-            )?
+            let performer = line.performer.as_ref().unwrap_or(&line.starter);
+            shelf_of(alloc, PERSON, performer)
         }
-    }))
+    }
+}
+
+/// The shelf on which an item stands; None where nobody may see it.
+fn shelf_for(alloc: Global, line: &ItemLine) -> Result<Option<Vec<u8>>, AllocError>
+    ensures { IfOk result (λ shelf. option_map (λ s. s.items) shelf ≡ shelf_of_line line.now) }
+{
+    match &line.hold {
+        Hold::Person(holder) => Ok(Some(shelf_of(alloc, HOLDER, holder)?)),
+        Hold::Agent(_) => Ok(None),
+        Hold::Nobody => {
+            if !line.program.manual {
+                return Ok(None);
+            }
+            Ok(Some(claim_shelf(alloc, line)?))
+        }
+    }
+}
+
+/// Takes the item of a rank off a shelf.
+fn take_off(shelves: &mut IndexMap<Vec<u8>, Shelf>, name: &[u8], rank: &Rank)
+    ensures { (q : Seq ℕ) → (r : Seq ℕ) → item_in shelves.new q r ≡ (if bytes_eq name.now q && bytes_eq rank.now.items r then None else item_in shelves.old q r) }
+{
+    if let Some(items) = shelves.get_mut(name) {
+        let _ = items.remove(rank);
+    }
+}
+
+/// Puts an item at a rank of a shelf that isn't there yet.
+fn put_first(
+    shelves: &mut IndexMap<Vec<u8>, Shelf>,
+    alloc: Global,
+    name: Vec<u8>,
+    rank: Rank,
+    listed: Listed,
+) -> Result<(), AllocError>
+    requires { shelf_at shelves.old name.items ≡ None }
+    ensures ok { OnOk result ((q : Seq ℕ) → (r : Seq ℕ) → item_in shelves.new q r ≡ (if bytes_eq name.items q && bytes_eq rank.items r then Some listed else item_in shelves.old q r)) }
+    ensures err { OnErr result (shelves.new.entries ≡ shelves.old.entries) }
+{
+    let mut items = BTreeMap::new(alloc);
+    items.insert(rank, listed)?;
+    shelves.insert(name, items)?;
+    Ok(())
+}
+
+/// Puts an item at a rank of a shelf.
+fn put_on(
+    shelves: &mut IndexMap<Vec<u8>, Shelf>,
+    alloc: Global,
+    name: Vec<u8>,
+    rank: Rank,
+    listed: Listed,
+) -> Result<(), AllocError>
+    ensures ok { OnOk result ((q : Seq ℕ) → (r : Seq ℕ) → item_in shelves.new q r ≡ (if bytes_eq name.items q && bytes_eq rank.items r then Some listed else item_in shelves.old q r)) }
+    ensures err { OnErr result ((q : Seq ℕ) → (r : Seq ℕ) → item_in shelves.new q r ≡ item_in shelves.old q r) }
+{
+    if let Some(items) = shelves.get_mut(name.as_slice()) {
+        items.insert(rank, listed)?;
+        return Ok(());
+    }
+    put_first(shelves, alloc, name, rank, listed)?;
+    Ok(())
+}
+
+/// Whether a person holds an item.
+fn is_held(hold: &Hold) -> bool
+    ensures { result ≡ is_held_test hold.now }
+{
+    matches!(hold, Hold::Person(_))
+}
+
+/// An item as it is listed.
+fn listed_of(alloc: Global, item: &Path, line: &ItemLine) -> Result<Listed, AllocError>
+    ensures { IfOk result (λ listed. listed ≡ record { item = item.now; held = is_held_test line.now.hold }) }
+{
+    let item = item.copy(alloc)?;
+    let held = is_held(&line.hold);
+    Ok(Listed { item, held })
+}
+
+fn copied(alloc: Global, rank: &[u64]) -> Result<Rank, AllocError>
+    ensures { IfOk result (λ copy. copy.items ≡ rank.now) }
+{
+    Vec::from_slice(alloc, rank)
+}
+
+fn copied_name(alloc: Global, name: &[u8]) -> Result<Vec<u8>, AllocError>
+    ensures { IfOk result (λ copy. copy.items ≡ name.now) }
+{
+    Vec::from_slice(alloc, name)
+}
+
+/// Adds the items of a shelf.
+fn add_items<'a>(
+    items: &'a Shelf,
+    found: &mut BTreeMap<&'a [u64], &'a Listed>,
+) -> Result<(), AllocError>
+    ensures { OnOk result ((r : Seq ℕ) → found_at found.new r ≡ option_or (at_rank items.now r) (found_at found.old r)) }
+{
+    for (rank, listed) in items.iter() {
+        found.insert(rank.as_slice(), listed)?;
+    }
+    Ok(())
+}
+
+/// An item as a line of a worklist.
+fn line_of(alloc: Global, listed: &Listed) -> Result<WorkLine, AllocError>
+    ensures { IfOk result (λ line. line ≡ work_line listed.now) }
+{
+    Ok(WorkLine {
+        item: listed.item.copy(alloc)?,
+        held: listed.held,
+    })
+}
+
+/// The lines of what was found, by rising rank.
+fn lines_of(alloc: Global, found: &BTreeMap<&[u64], &Listed>) -> Result<List<WorkLine>, AllocError>
+    ensures { IfOk result (λ lines. (lines ≡ map (λ e. work_line e.1.now) found.now.entries) × IsOrdered (λ k l. slice_cmp nat_cmp k.now l.now) found.now) }
+{
+    let mut lines = List::new(alloc);
+    for (_rank, listed) in found.iter() {
+        lines.push(line_of(alloc, listed)?)?;
+    }
+    Ok(lines)
+}
+
+/// Whether a rank is that of an item of this root.
+fn begins(rank: &Rank, root: u64) -> bool
+    ensures { result ≡ begins_with root rank.now.items }
+{
+    match rank.as_slice() {
+        [] => false,
+        [first, ..] => *first == root,
+    }
 }
 
 impl Worklists {
@@ -75,51 +213,78 @@ impl Worklists {
         }
     }
 
-    /// Puts an item on the shelf that its line asks for, in the place of where it stood.
-    pub fn set(&mut self, item: &Path, rank: &Rank, line: &ItemLine) -> Result<(), AllocError> {
+    /// Puts an item on the shelf that its line asks for, in the place of where it stood. Without memory it may
+    /// have been taken off only.
+    pub fn set(&mut self, item: &Path, rank: &Rank, line: &ItemLine) -> Result<(), AllocError>
+        ensures ok { OnOk result ((q : Seq ℕ) → (r : Seq ℕ) → item_in self.new.shelves q r ≡ (if bytes_eq rank.now.items r then listed_at (shelf_of_line line.now) q (record { item = item.now; held = is_held_test line.now.hold }) else item_in self.old.shelves q r)) }
+        ensures err { OnErr result ((q : Seq ℕ) → (r : Seq ℕ) → item_in self.new.shelves q r ≡ (if bytes_eq rank.now.items r then None else item_in self.old.shelves q r)) }
+    {
         self.drop_item(rank);
         let Some(shelf) = shelf_for(self.alloc, line)? else {
             return Ok(());
         };
-        let listed = Listed {
-            item: item.copy(self.alloc)?,
-            held: matches!(line.hold, Hold::Person(_)),
-        };
-        self.places
-            .insert(rank.clone()?, Vec::from_slice(self.alloc, &shelf)?)?;
-        if let Some(items) = self.shelves.get_mut(shelf.as_slice()) {
-            items.insert(rank.clone()?, listed)?;
-            return Ok(());
-        }
-        let mut items = BTreeMap::new(self.alloc);
-        items.insert(rank.clone()?, listed)?;
-        self.shelves.insert(shelf, items)?;
+        let listed = listed_of(self.alloc, item, line)?;
+        self.put(shelf, rank, listed)?;
+        Ok(())
+    }
+
+    /// Puts an item that stands nowhere on a shelf.
+    fn put(&mut self, shelf: Vec<u8>, rank: &Rank, listed: Listed) -> Result<(), AllocError>
+        requires { (q : Seq ℕ) → item_in self.old.shelves q rank.now.items ≡ None }
+        ensures ok { OnOk result ((q : Seq ℕ) → (r : Seq ℕ) → item_in self.new.shelves q r ≡ (if bytes_eq shelf.items q && bytes_eq rank.now.items r then Some listed else item_in self.old.shelves q r)) }
+        ensures err { OnErr result ((q : Seq ℕ) → (r : Seq ℕ) → item_in self.new.shelves q r ≡ item_in self.old.shelves q r) }
+    {
+        let key = copied(self.alloc, rank.as_slice())?;
+        let other = copied(self.alloc, rank.as_slice())?;
+        let place = copied_name(self.alloc, shelf.as_slice())?;
+        self.places.insert(key, place)?;
+        put_on(&mut self.shelves, self.alloc, shelf, other, listed)?;
         Ok(())
     }
 
     /// Takes an item off its shelf; nothing happens where it stands on none.
-    pub fn drop_item(&mut self, rank: &Rank) {
+    pub fn drop_item(&mut self, rank: &Rank)
+        ensures { (q : Seq ℕ) → (r : Seq ℕ) → item_in self.new.shelves q r ≡ (if bytes_eq rank.now.items r then None else item_in self.old.shelves q r) }
+    {
         if let Some(shelf) = self.places.remove(rank) {
-            if let Some(items) = self.shelves.get_mut(shelf.as_slice()) {
-                let _ = items.remove(rank);
-            }
+            take_off(&mut self.shelves, shelf.as_slice(), rank);
         }
     }
 
-    /// Takes all items of a root off their shelves.
-    pub fn drop_root(&mut self, root: u64) -> Result<(), AllocError> {
+    /// Takes all items of a root off their shelves. Without memory nothing is taken off.
+    pub fn drop_root(&mut self, root: u64) -> Result<(), AllocError>
+        ensures others { (q : Seq ℕ) → (r : Seq ℕ) → begins_with root r ≡ false → item_in self.new.shelves q r ≡ item_in self.old.shelves q r }
+        ensures gone { OnOk result ((q : Seq ℕ) → (r : Seq ℕ) → begins_with root r ≡ true → item_in self.new.shelves q r ≡ None) }
+        ensures err { OnErr result (self.new ≡ self.old) }
+    {
+        let ranks = self.ranks_of(root)?;
+        self.drop_items(ranks.as_slice());
+        Ok(())
+    }
+
+    /// The ranks of the items of a root that stand on a shelf.
+    fn ranks_of(&self, root: u64) -> Result<Vec<Rank>, AllocError>
+        ensures others { IfOk result (λ ranks. (r : Seq ℕ) → begins_with root r ≡ false → is_among ranks.items r ≡ false) }
+        ensures all { IfOk result (λ ranks. (r : Seq ℕ) → begins_with root r ≡ true → IsSome (at_rank self.now.places r) → is_among ranks.items r ≡ true) }
+    {
         let mut ranks = Vec::new(self.alloc);
         let from = vec![in self.alloc; root]?;
         for (rank, _shelf) in self.places.range(from..) {
-            if rank.first().copied() != Some(root) {
-                break;
+            if !begins(rank, root) {
+                return Ok(ranks);
             }
-            ranks.push(rank.clone()?)?;
+            ranks.push(copied(self.alloc, rank.as_slice())?)?;
         }
-        for rank in &ranks {
+        Ok(ranks)
+    }
+
+    /// Takes items off their shelves.
+    fn drop_items(&mut self, ranks: &[Rank])
+        ensures { (q : Seq ℕ) → (r : Seq ℕ) → item_in self.new.shelves q r ≡ (if is_among ranks.now r then None else item_in self.old.shelves q r) }
+    {
+        for rank in ranks {
             self.drop_item(rank);
         }
-        Ok(())
     }
 
     /// Adds the items of a shelf.
@@ -127,33 +292,64 @@ impl Worklists {
         &'a self,
         shelf: &[u8],
         found: &mut BTreeMap<&'a [u64], &'a Listed>,
-    ) -> Result<(), AllocError> {
-        if let Some(items) = self.shelves.get(shelf) {
-            for (rank, listed) in items.iter() {
-                found.insert(rank.as_slice(), listed)?;
-            }
+    ) -> Result<(), AllocError>
+        ensures { OnOk result ((r : Seq ℕ) → found_at found.new r ≡ option_or (item_in self.now.shelves shelf.now r) (found_at found.old r)) }
+    {
+        match self.shelves.get(shelf) {
+            None => Ok(()),
+            Some(items) => add_items(items, found),
+        }
+    }
+
+    /// Adds the items of the shelf of a role.
+    fn add_role<'a>(
+        &'a self,
+        role: &Name,
+        found: &mut BTreeMap<&'a [u64], &'a Listed>,
+    ) -> Result<(), AllocError>
+        ensures { OnOk result ((r : Seq ℕ) → found_at found.new r ≡ option_or (item_in self.now.shelves (ROLE ∷ role.now) r) (found_at found.old r)) }
+    {
+        let shelf = shelf_of(self.alloc, ROLE, role)?;
+        self.add_shelf(shelf.as_slice(), found)?;
+        Ok(())
+    }
+
+    /// Adds the items of the shelves of roles.
+    fn add_roles<'a>(
+        &'a self,
+        roles: &[Name],
+        found: &mut BTreeMap<&'a [u64], &'a Listed>,
+    ) -> Result<(), AllocError>
+        ensures { OnOk result ((r : Seq ℕ) → found_at found.new r ≡ seen_on self.now.shelves (map (λ role. ROLE ∷ role) roles.now) (found_at found.old r) r) }
+    {
+        for role in roles {
+            self.add_role(role, found)?;
         }
         Ok(())
     }
 
-    /// The worklist of a person, in show order.
-    pub fn worklist(&self, person: &PersonDef) -> Result<List<WorkLine>, AllocError> {
-        let mut found = BTreeMap::new(self.alloc);
+    /// Adds the items that a person sees.
+    fn add_seen<'a>(
+        &'a self,
+        person: &PersonDef,
+        found: &mut BTreeMap<&'a [u64], &'a Listed>,
+    ) -> Result<(), AllocError>
+        ensures { OnOk result ((r : Seq ℕ) → found_at found.new r ≡ seen_on self.now.shelves (shelves_of person.now) (found_at found.old r) r) }
+    {
         let named = shelf_of(self.alloc, PERSON, &person.name)?;
-        self.add_shelf(&named, &mut found)?;
+        self.add_shelf(named.as_slice(), found)?;
         let held = shelf_of(self.alloc, HOLDER, &person.name)?;
-        self.add_shelf(&held, &mut found)?;
-        for role in person.roles.as_slice() {
-            let shelf = shelf_of(self.alloc, ROLE, role)?;
-            self.add_shelf(&shelf, &mut found)?;
-        }
-        let mut lines = List::new(self.alloc);
-        for (_rank, listed) in found.iter() {
-            lines.push(WorkLine {
-                item: listed.item.copy(self.alloc)?,
-                held: listed.held,
-            })?;
-        }
-        Ok(lines)
+        self.add_shelf(held.as_slice(), found)?;
+        self.add_roles(person.roles.as_slice(), found)?;
+        Ok(())
+    }
+
+    /// The worklist of a person, in show order.
+    pub fn worklist(&self, person: &PersonDef) -> Result<List<WorkLine>, AllocError>
+        ensures { IfOk result (IsWorklist self.now.shelves person.now) }
+    {
+        let mut found = BTreeMap::new(self.alloc);
+        self.add_seen(person, &mut found)?;
+        lines_of(self.alloc, &found)
     }
 }

@@ -1,4 +1,9 @@
 //! The imports so far.
+ghost use Rattle.std.specs.Prelude.{◌≡◌, ◌-◌, ◌^◌, ◌<◌, ◌≤◌, ◌+◌, [], ◌++◌, min, length, slice_get, option_copied, OnOk, IfOk, ◌==◌, ◌&&◌, position, bytes_eq, true};
+ghost use Rattle.template_check.specs.Imports.{IsIndexed, newest_place, latest_person};
+ghost use Rattle.template_check.specs.declared.compiling.Compiled.{Compiled as Added};
+ghost use Rattle.template_store.specs.Store.{version_place, with_compiled, is_refusal, KeepsIndex};
+
 use flow_model::{Library, Name, PersonDef, Template};
 use std::alloc::{AllocError, Global};
 use template_check::{Catalog, Compiled, ImportFault, compile};
@@ -11,7 +16,10 @@ pub struct TemplateStore {
 
 impl TemplateStore {
     /// No imports yet.
-    pub fn new(alloc: Global) -> TemplateStore {
+    pub fn new(alloc: Global) -> TemplateStore
+        ensures indexed { IsIndexed result.catalog }
+        ensures empty { result.catalog.library ≡ record { templates = []; people = [] } }
+    {
         TemplateStore {
             catalog: Catalog::new(alloc),
         }
@@ -23,50 +31,92 @@ impl TemplateStore {
     }
 
     /// Adds the processes and people of a text; answers the number of processes. A refusal changes nothing.
-    pub fn import(&mut self, alloc: Global, text: &[u8]) -> Result<u32, ImportFault> {
+    /// Without memory a part of them may have been added, the last one with no name that leads to it.
+    pub fn import(&mut self, alloc: Global, text: &[u8]) -> Result<u32, ImportFault>
+        ensures added { IfOk result (λ count. (added : Added) × (count ≡ min (length added.templates) (2 ^ 32 - 1)) × (self.new.catalog.library ≡ with_compiled self.old.catalog.library added)) }
+        ensures indexed { OnOk result (KeepsIndex self.old.catalog self.new.catalog) }
+        ensures refused { is_refusal result ≡ true → self.new ≡ self.old }
+    {
         let compiled = self.check(alloc, text)?;
-        Ok(self.add(alloc, compiled)?)
-    }
-
-    /// Adds what a text compiled to; answers the number of processes.
-    fn add(&mut self, alloc: Global, compiled: Compiled) -> Result<u32, AllocError> {
-        let Compiled { templates, people } = compiled;
-        let count = u32::try_from(templates.len()).unwrap_or(u32::MAX);
-        for template in templates.into_vec() {
-            self.catalog.add_template(alloc, template)?;
-        }
-        for person in people.into_vec() {
-            self.catalog.add_person(alloc, person)?;
-        }
+        let count = self.add(alloc, compiled)?;
         Ok(count)
     }
 
+    /// Adds what a text compiled to; answers the number of processes.
+    fn add(&mut self, alloc: Global, compiled: Compiled) -> Result<u32, AllocError>
+        ensures indexed { OnOk result (KeepsIndex self.old.catalog self.new.catalog) }
+        ensures added { IfOk result (λ count. (count ≡ min (length compiled.templates) (2 ^ 32 - 1)) × (self.new.catalog.library ≡ with_compiled self.old.catalog.library compiled)) }
+    {
+        let Compiled { templates, people } = compiled;
+        let count = u32::try_from(templates.len()).unwrap_or(u32::MAX);
+        self.add_templates(alloc, templates.into_vec())?;
+        self.add_people(alloc, people.into_vec())?;
+        Ok(count)
+    }
+
+    fn add_templates(&mut self, alloc: Global, templates: Vec<Template>) -> Result<(), AllocError>
+        ensures indexed { OnOk result (KeepsIndex self.old.catalog self.new.catalog) }
+        ensures added { OnOk result (self.new.catalog.library ≡ record { templates = self.old.catalog.library.templates ++ templates.items; people = self.old.catalog.library.people }) }
+    {
+        for template in templates {
+            self.catalog.add_template(alloc, template)?;
+        }
+        Ok(())
+    }
+
+    fn add_people(&mut self, alloc: Global, people: Vec<PersonDef>) -> Result<(), AllocError>
+        ensures indexed { OnOk result (KeepsIndex self.old.catalog self.new.catalog) }
+        ensures added { OnOk result (self.new.catalog.library ≡ record { templates = self.old.catalog.library.templates; people = self.old.catalog.library.people ++ people.items }) }
+    {
+        for person in people {
+            self.catalog.add_person(alloc, person)?;
+        }
+        Ok(())
+    }
+
     /// The library.
-    pub fn library(&self) -> &Library {
+    pub fn library(&self) -> &Library
+        ensures { result.now ≡ self.now.catalog.library }
+    {
         self.catalog.library()
     }
 
     /// The place of the newest template of this name; None exactly where there is none.
-    pub fn newest(&self, name: &Name) -> Option<u32> {
+    pub fn newest(&self, name: &Name) -> Option<u32>
+        ensures { IsIndexed self.now.catalog → result ≡ newest_place self.now.catalog.library name.now }
+    {
         self.catalog.newest(name)
     }
 
     /// The template at a place.
-    pub fn template(&self, place: u32) -> Option<&Template> {
+    pub fn template(&self, place: u32) -> Option<&Template>
+        ensures { option_copied result ≡ slice_get self.now.catalog.library.templates place }
+    {
         self.catalog.template(place)
     }
 
     /// The place of this version of a name; None exactly where there is none.
-    pub fn version(&self, name: &Name, version: u32) -> Option<u32> {
+    pub fn version(&self, name: &Name, version: u32) -> Option<u32>
+        ensures { length self.now.catalog.library.templates ≤ 2 ^ 32 → result ≡ version_place self.now.catalog.library name.now version }
+    {
         let templates = self.catalog.library().templates.as_slice();
-        let place = templates.iter().position(|template| {
-            template.version == version && template.name.as_slice() == name.as_slice()
-        })?;
+        let place = position_of(templates, name, version)?;
         u32::try_from(place).ok()
     }
 
     /// The latest declaration of the person of this name; None exactly where there is none.
-    pub fn person(&self, name: &Name) -> Option<&PersonDef> {
+    pub fn person(&self, name: &Name) -> Option<&PersonDef>
+        ensures { IsIndexed self.now.catalog → option_copied result ≡ latest_person self.now.catalog.library name.now }
+    {
         self.catalog.person(name)
     }
+}
+
+/// Where this version of a name stands.
+fn position_of(templates: &[Template], name: &Name, version: u32) -> Option<usize>
+    ensures { result ≡ position (λ t. t.version == version && bytes_eq t.name name.now) templates.now }
+{
+    templates.iter().position(|template| {
+        template.version == version && template.name.as_slice() == name.as_slice()
+    })
 }

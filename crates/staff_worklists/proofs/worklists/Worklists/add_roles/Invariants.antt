@@ -1,0 +1,6 @@
+use Rattle.std.proofs.Common.{◌≡◌, ℕ, List, ◌∷◌, map, drop}
+use Rattle.staff_worklists.specs.Listing.{found_at, seen_on}
+use Rattle.staff_worklists.proofs.worklists.Worklists.add_roles.Given as goal
+
+abbrev pub invariant-loop-role : goal.invariant-loop-role
+invariant-loop-role l = (r : List ℕ) → seen_on l.self.shelves (map (λ role. 82 ∷ role) (drop l.role-index l.roles)) (found_at l.found r) r ≡ seen_on l.self.shelves (map (λ role. 82 ∷ role) l.roles) (found_at l.initial.found r) r

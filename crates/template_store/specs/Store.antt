@@ -1,0 +1,30 @@
+-- The library of the imports, and what an import adds to it.
+use Rattle.std.specs.Prelude.{ℕ, ◌==◌, ◌^◌, ◌≤◌, ◌&&◌, Bool, true, false, Result, Ok, Err, Option, List, ◌++◌, length, position, bytes_eq}
+use Rattle.flow_model.specs.declared.graphs.Library.{Library}
+use Rattle.template_check.specs.Imports.{IsIndexed}
+use Rattle.template_check.specs.declared.catalog.Catalog.{Catalog}
+use Rattle.template_check.specs.declared.faults.ImportFault.{ImportFault}
+use Rattle.template_check.specs.declared.faults.ImportFault.TheVariants.{Rule, NoMemory}
+use Rattle.template_check.specs.declared.compiling.Compiled.{Compiled}
+
+-- the first place of this version of a name
+abbrev pub version_place : Library → List ℕ → ℕ → Option ℕ
+version_place library name version = position (λ t. t.version == version && bytes_eq t.name name) library.templates
+
+-- the library with what a text compiled to behind it
+abbrev pub with_compiled : Library → Compiled → Library
+with_compiled library added = record { templates = library.templates ++ added.templates; people = library.people ++ added.people }
+
+-- a text is refused for a rule that it breaks
+abbrev pub is_refusal : {X : Type 0} → Result X ImportFault → Bool
+is_refusal (Ok x) = false
+is_refusal (Err (Rule fault)) = true
+is_refusal (Err NoMemory) = false
+
+-- places of 32 bits tell all elements of the library apart
+abbrev pub IsSmall : Library → Type 0
+IsSmall library = (length library.templates ≤ 2 ^ 32) × (length library.people ≤ 2 ^ 32)
+
+-- where the second catalog is small, its names lead to the newest if those of the first did
+abbrev pub KeepsIndex : Catalog → Catalog → Type 0
+KeepsIndex old new = IsSmall new.library → IsIndexed old → IsIndexed new
