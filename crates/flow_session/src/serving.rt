@@ -1,5 +1,8 @@
 //! A session: the state, and the text of an IMPORT that isn't ended yet.
-ghost use Rattle.std.specs.Prelude.{◌≡◌};
+ghost use Rattle.std.specs.Prelude.{◌≡◌, ◌<◌, [], IfOk, OnOk};
+ghost use Rattle.flow_disk.specs.Moments.{LeavesOnly};
+ghost use Rattle.flow_core.specs.Summaries.{summary, next};
+ghost use Rattle.flow_session.specs.Serving.{Makes, WithOrWithout};
 ghost use Rattle.flow_session.specs.declared.serving.Stop.TheVariants.{NoMemory};
 
 use crate::journal::Journal;
@@ -96,7 +99,9 @@ impl Gathered {
 
 impl Session {
     /// A session over the empty history.
-    pub fn fresh(alloc: Global, queues: u8, limit: u64) -> Result<Session, AllocError> {
+    pub fn fresh(alloc: Global, queues: u8, limit: u64) -> Result<Session, AllocError>
+        ensures { IfOk result (λ session. summary session.core ≡ record { queues = queues; limit = limit; transactions = 0; roots = 0; live = [] }) }
+    {
         Ok(Session {
             alloc,
             core: Core::new(alloc, queues, limit)?,
@@ -105,7 +110,9 @@ impl Session {
     }
 
     /// A session over a state.
-    pub fn over(alloc: Global, core: Core) -> Session {
+    pub fn over(alloc: Global, core: Core) -> Session
+        ensures { result.core ≡ core }
+    {
         Session {
             alloc,
             core,
@@ -114,26 +121,38 @@ impl Session {
     }
 
     /// The state.
-    pub fn core(&self) -> &Core {
+    pub fn core(&self) -> &Core
+        ensures { result.now ≡ self.now.core }
+    {
         &self.core
     }
 
-    /// Makes a transaction: it is kept, and then applied in memory. Where there is no memory for that, the
-    /// session ends without an answer, and a reopening applies it.
+    /// Makes a transaction: all that may want memory is done first, and then its record is kept, before
+    /// anything is answered.
     fn make<J: Journal>(
         &mut self,
         journal: &mut J,
         t: Transaction,
         out: &mut Vec<u8>,
-    ) -> Result<(), Stop> {
-        journal.keep(self.core.number().saturating_add(1), &t)?;
+    ) -> Result<(), Stop>
+        requires room { self.old.core.number < self.old.core.limit }
+        requires open { J.tells → J.holds journal.old (summary self.old.core) }
+        ensures made { OnOk result (summary self.new.core ≡ next t (summary self.old.core)) }
+        ensures kept { J.tells → OnOk result (J.holds journal.new (summary self.new.core)) }
+        ensures any_moment { J.tells → LeavesOnly J.moment J.left_since journal.old journal.new (WithOrWithout t (summary self.old.core)) }
+    {
+        let record = journal.record(self.core.number() + 1, &t)?;
         let applied = self.core.apply(t)?;
         write_applied(out, &applied)?;
-        Ok(())
+        journal.keep(&record)
     }
 
     /// Judges a command, and makes its transaction where it is allowed.
-    fn obey<J: Journal>(&mut self, journal: &mut J, command: &Command) -> Result<Vec<u8>, Stop> {
+    fn obey<J: Journal>(&mut self, journal: &mut J, command: &Command) -> Result<Vec<u8>, Stop>
+        requires open { J.tells → J.holds journal.old (summary self.old.core) }
+        ensures kept { J.tells → OnOk result (J.holds journal.new (summary self.new.core)) }
+        ensures makes { Makes J.tells J.moment J.left_since journal.old journal.new (summary self.old.core) (λ s. OnOk result (summary self.new.core ≡ s)) }
+    {
         let mut out = Vec::new(self.alloc);
         match self.core.judge(command)? {
             Verdict::Do(t) => self.make(journal, t, &mut out)?,
@@ -144,7 +163,11 @@ impl Session {
     }
 
     /// Takes the front message of a queue; whether there was one.
-    fn turn<J: Journal>(&mut self, journal: &mut J, queue: u8) -> Result<bool, Stop> {
+    fn turn<J: Journal>(&mut self, journal: &mut J, queue: u8) -> Result<bool, Stop>
+        requires open { J.tells → J.holds journal.old (summary self.old.core) }
+        ensures kept { J.tells → OnOk result (J.holds journal.new (summary self.new.core)) }
+        ensures makes { Makes J.tells J.moment J.left_since journal.old journal.new (summary self.old.core) (λ s. OnOk result (summary self.new.core ≡ s)) }
+    {
         if !self.core.has_message(queue) {
             return Ok(false);
         }
@@ -172,7 +195,11 @@ impl Session {
     }
 
     /// Turns on the queues one after the other, until all are empty or the limit is met.
-    fn drain<J: Journal>(&mut self, journal: &mut J) -> Result<Vec<u8>, Stop> {
+    fn drain<J: Journal>(&mut self, journal: &mut J) -> Result<Vec<u8>, Stop>
+        requires open { J.tells → J.holds journal.old (summary self.old.core) }
+        ensures kept { J.tells → OnOk result (J.holds journal.new (summary self.new.core)) }
+        ensures makes { Makes J.tells J.moment J.left_since journal.old journal.new (summary self.old.core) (λ s. OnOk result (summary self.new.core ≡ s)) }
+    {
         let mut turns = 0u64;
         let mut queue = 1u8;
         for _ in 0..u64::MAX {
@@ -191,13 +218,21 @@ impl Session {
         self.drained(turns)
     }
 
-    fn checkpoint<J: Journal>(&mut self, journal: &mut J) -> Result<Vec<u8>, Stop> {
+    fn checkpoint<J: Journal>(&mut self, journal: &mut J) -> Result<Vec<u8>, Stop>
+        requires open { J.tells → J.holds journal.old (summary self.old.core) }
+        ensures kept { J.tells → OnOk result (J.holds journal.new (summary self.new.core)) }
+        ensures makes { Makes J.tells J.moment J.left_since journal.old journal.new (summary self.old.core) (λ s. OnOk result (summary self.new.core ≡ s)) }
+    {
         journal.checkpoint(&self.core)?;
         numbered(self.alloc, b"ok CHECKPOINT ", self.core.live().len() as u64)
     }
 
     /// The reply to a command.
-    fn command<J: Journal>(&mut self, journal: &mut J, command: &Command) -> Result<Vec<u8>, Stop> {
+    fn command<J: Journal>(&mut self, journal: &mut J, command: &Command) -> Result<Vec<u8>, Stop>
+        requires open { J.tells → J.holds journal.old (summary self.old.core) }
+        ensures kept { J.tells → OnOk result (J.holds journal.new (summary self.new.core)) }
+        ensures makes { Makes J.tells J.moment J.left_since journal.old journal.new (summary self.old.core) (λ s. OnOk result (summary self.new.core ≡ s)) }
+    {
         match command {
             Command::Import(_) => {
                 self.gathered = Some(Gathered {
@@ -214,7 +249,11 @@ impl Session {
     }
 
     /// The reply to a line outside an IMPORT.
-    fn line<J: Journal>(&mut self, journal: &mut J, line: &[u8]) -> Result<Vec<u8>, Stop> {
+    fn line<J: Journal>(&mut self, journal: &mut J, line: &[u8]) -> Result<Vec<u8>, Stop>
+        requires open { J.tells → J.holds journal.old (summary self.old.core) }
+        ensures kept { J.tells → OnOk result (J.holds journal.new (summary self.new.core)) }
+        ensures makes { Makes J.tells J.moment J.left_since journal.old journal.new (summary self.old.core) (λ s. OnOk result (summary self.new.core ≡ s)) }
+    {
         if line.len() > MOST_LINE {
             return words(self.alloc, b"no LINE\n");
         }
@@ -233,7 +272,11 @@ impl Session {
         &mut self,
         journal: &mut J,
         gathered: Gathered,
-    ) -> Result<Vec<u8>, Stop> {
+    ) -> Result<Vec<u8>, Stop>
+        requires open { J.tells → J.holds journal.old (summary self.old.core) }
+        ensures kept { J.tells → OnOk result (J.holds journal.new (summary self.new.core)) }
+        ensures makes { Makes J.tells J.moment J.left_since journal.old journal.new (summary self.old.core) (λ s. OnOk result (summary self.new.core ≡ s)) }
+    {
         let Gathered { text, has_long } = gathered;
         if has_long {
             return words(self.alloc, b"no LINE\n");
@@ -248,7 +291,11 @@ impl Session {
         journal: &mut J,
         gathered: Gathered,
         input: Input<'_>,
-    ) -> Result<Vec<u8>, Stop> {
+    ) -> Result<Vec<u8>, Stop>
+        requires open { J.tells → J.holds journal.old (summary self.old.core) }
+        ensures kept { J.tells → OnOk result (J.holds journal.new (summary self.new.core)) }
+        ensures makes { Makes J.tells J.moment J.left_since journal.old journal.new (summary self.old.core) (λ s. OnOk result (summary self.new.core ≡ s)) }
+    {
         let mut gathered = gathered;
         match input {
             Input::Text(line) if ends_import(line) => return self.imported(journal, gathered),
@@ -271,7 +318,11 @@ impl Session {
         &mut self,
         journal: &mut J,
         input: Input<'_>,
-    ) -> Result<Vec<u8>, Stop> {
+    ) -> Result<Vec<u8>, Stop>
+        requires open { J.tells → J.holds journal.old (summary self.old.core) }
+        ensures kept { J.tells → OnOk result (J.holds journal.new (summary self.new.core)) }
+        ensures makes { Makes J.tells J.moment J.left_since journal.old journal.new (summary self.old.core) (λ s. OnOk result (summary self.new.core ≡ s)) }
+    {
         if let Some(gathered) = self.gathered.take() {
             return self.gather(journal, gathered, input);
         }

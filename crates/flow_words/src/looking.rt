@@ -1,4 +1,7 @@
 //! The words that only look into a store: `explain`, `verify` and `overdue`.
+ghost use Rattle.flow_disk.specs.Moments.{Only};
+ghost use Rattle.flow_session.specs.Runs.{KeepsStore};
+
 use crate::input::all_lines;
 use crate::script::{line_status, print};
 use crate::status::Status;
@@ -6,11 +9,10 @@ use crate::stored::refuse;
 use deadlines::overdue_text;
 use explain::{activity_in, explain_word, verify_lines};
 use flow_core::Core;
-use flow_disk::FileDisk;
+use flow_disk::Disk;
 use flow_io::{Sink, Source};
 use flow_session::reopen;
 use std::alloc::Global;
-use std::rt::Files;
 
 /// Prints an answer, and says whether it is a refusal.
 pub fn print_answer<K: Sink>(out: &mut K, text: &[u8], is_refused: bool) -> Result<Status, Status> {
@@ -29,12 +31,14 @@ fn print_usage<K: Sink>(out: &mut K) -> Result<Status, Status> {
 }
 
 /// Prints why an activity is dead or finished. The word is judged before the store is opened.
-pub fn explain_in<K: Sink, R: Files>(
+pub fn explain_in<K: Sink, D: Disk>(
     alloc: Global,
     activity: &[u8],
     out: &mut K,
-    disk: &mut FileDisk<'_, R>,
-) -> Result<Status, Status> {
+    disk: &mut D,
+) -> Result<Status, Status>
+    ensures { D.tells → Only (D.seen disk.old) (D.images disk.old) → KeepsStore D.moment D.left_since D.seen disk.old disk.new }
+{
     if activity_in(alloc, activity)?.is_none() {
         return print_usage(out);
     }
@@ -64,12 +68,14 @@ fn verify_over<S: Source, K: Sink>(
 }
 
 /// Prints whether the certificate that is read holds over a store.
-pub fn verify_in<S: Source, K: Sink, R: Files>(
+pub fn verify_in<S: Source, K: Sink, D: Disk>(
     alloc: Global,
     src: &mut S,
     out: &mut K,
-    disk: &mut FileDisk<'_, R>,
-) -> Result<Status, Status> {
+    disk: &mut D,
+) -> Result<Status, Status>
+    ensures { D.tells → Only (D.seen disk.old) (D.images disk.old) → KeepsStore D.moment D.left_since D.seen disk.old disk.new }
+{
     match reopen(alloc, disk) {
         Err(stop) => refuse(alloc, out, &stop),
         Ok((session, _log)) => verify_over(alloc, session.core(), src, out),
@@ -77,11 +83,13 @@ pub fn verify_in<S: Source, K: Sink, R: Files>(
 }
 
 /// Prints the items of a store that have been open for too long.
-pub fn overdue_in<K: Sink, R: Files>(
+pub fn overdue_in<K: Sink, D: Disk>(
     alloc: Global,
     out: &mut K,
-    disk: &mut FileDisk<'_, R>,
-) -> Result<Status, Status> {
+    disk: &mut D,
+) -> Result<Status, Status>
+    ensures { D.tells → Only (D.seen disk.old) (D.images disk.old) → KeepsStore D.moment D.left_since D.seen disk.old disk.new }
+{
     match reopen(alloc, disk) {
         Err(stop) => refuse(alloc, out, &stop),
         Ok((session, _log)) => {
