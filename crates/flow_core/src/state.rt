@@ -1,5 +1,5 @@
 //! The state: what the transactions so far come to.
-ghost use Rattle.std.specs.Prelude.{◌≡◌, ◌<◌, ◌↔◌, ◌≤◌, length, [], IfOk, IsTrue};
+ghost use Rattle.std.specs.Prelude.{◌≡◌, ◌+◌, ◌<◌, ◌↔◌, ◌≤◌, length, [], IfOk, IsTrue};
 ghost use Rattle.flow_core.specs.Summaries.{summary};
 
 use flow_model::{Graph, Library, Mode, Name, Numbered};
@@ -84,6 +84,14 @@ impl Core {
         ensures { result ≡ self.now.number }
     {
         self.number
+    }
+
+    /// The number of the next transaction, where there is room for one.
+    pub fn next_number(&self) -> u64
+        requires { self.now.number < self.now.limit }
+        ensures { result ≡ self.now.number + 1 }
+    {
+        self.number + 1
     }
 
     /// The number of roots so far.

@@ -14,12 +14,8 @@ use Rattle.flow_disk.specs.Moments.{LeavesOnly, Only}
 use Rattle.txn_log.specs.declared.log.Log.{Log}
 use Rattle.flow_core.specs.Summaries.{Summary, Follows, taken_up}
 use Rattle.flow_session.specs.Histories.{StandsFor, IsLive, payloads, under}
-use Rattle.flow_session.specs.Keeping.{IsOpen, Brings}
+use Rattle.flow_session.specs.Keeping.{Brings}
 use Rattle.flow_session.proofs.Summaries.{live_with, all_append}
-
--- each image of now stands for the summary
-pub rests : {D : Type 0} (seen : D → Image) (images : D → Image → Type 0) (log : Log) (disk : D) (s : Summary) (c : Image) → IsOpen seen images log disk s → images disk c → StandsFor s c
-rests seen images log disk s c is now = subst (StandsFor s) (sym (is.only c now)) is.holds
 
 -- nothing was done
 pub nothing_done : {J : Type 0} (moment : J → ℕ) (left_since : J → ℕ → Image → Type 0) (journal : J) (P : Image → Type 0) → ((c : Image) → left_since journal (moment journal) c → P c) → LeavesOnly moment left_since journal journal P
@@ -30,7 +26,7 @@ pub brings_none : (h : Header) → Brings h [] (under h)
 brings_none h = record { records = []; spelled = refl; comes_to = refl; later = omega arith; live = All-nil (IsLive (under h)) }
 
 taken_facts : (kept : ℕ) (s : Summary) (n : Numbered) → kept ≤ s.transactions → All (IsLive s) s.live → Follows kept s n → (kept ≤ (taken_up kept n s).transactions) × All (IsLive (taken_up kept n s)) (taken_up kept n s).live
-taken_facts kept s n le all (inl f) = rw (le-leb n.number kept f.0) (le, live_with s s.transactions n.number n.transaction (omega arith) (omega (arith, f.0, f.1.0)) all)
+taken_facts kept s n le all (inl f) = rw (le-leb n.number kept f.0) (le, live_with s s.transactions n.number n.transaction (omega arith) (omega (arith, f.0, f.1)) all)
 taken_facts kept s n le all (inr f) = rw (lt-leb n.number kept f.0) (omega (arith, f.0), live_with s n.number n.number n.transaction (omega (arith, f.1)) (omega arith) all)
 
 -- one record more
@@ -57,3 +53,7 @@ stands_for slot h bytes end image s counts b = record {
   later = b.later;
   live = b.live;
 }
+
+-- what a disk leaves, its journal leaves
+pub in_journal : {J D : Type 0} (disk_of : J → D) (moment : D → ℕ) (left_since : D → ℕ → Image → Type 0) (old new : J) (P : Image → Type 0) → LeavesOnly moment left_since (disk_of old) (disk_of new) P → LeavesOnly (λ j. moment (disk_of j)) (λ j. left_since (disk_of j)) old new P
+in_journal disk_of moment left_since old new P run = record { later = run.later; each = run.each; before = run.before }

@@ -1,6 +1,6 @@
--- Read Summaries first, then Histories, Keeping, Serving and Runs.
+-- Read Summaries first, then Histories, Keeping, Calls and Runs.
 pub mod Summaries
 pub mod Histories
 pub mod Keeping
-pub mod Serving
+pub mod Calls
 pub mod Runs

@@ -7,7 +7,7 @@ use Rattle.flow_core.specs.Summaries.{Summary}
 use Rattle.flow_session.specs.Histories.{StandsFor}
 use Rattle.flow_session.specs.Runs.{KeepsStore, ServesStore}
 use Rattle.flow_session.specs.Serving.{Makes}
-use Rattle.flow_session.proofs.Serving.{makes_none, makes_more}
+use Rattle.flow_session.proofs.Calls.{makes_none, makes_more}
 
 -- what a journal leaves, its disk leaves
 pub on_disk : {J D : Type 0} (disk_of : J → D) (moment : D → ℕ) (left_since : D → ℕ → Image → Type 0) (old new : J) (P : Image → Type 0) → LeavesOnly (λ j. moment (disk_of j)) (λ j. left_since (disk_of j)) old new P → LeavesOnly moment left_since (disk_of old) (disk_of new) P

@@ -1,5 +1,6 @@
 -- What a journal on a disk is while it is open, and how its records come to a summary.
 use Rattle.std.specs.Prelude.{◌≡◌, ℕ, ◌≤◌, false, List}
+use Rattle.std.proofs.Common.{subst, sym}
 use Rattle.std.specs.List.{All}
 use Rattle.flow_model.specs.declared.transactions.Numbered.{Numbered}
 use Rattle.txn_log.specs.declared.opening.Opened.{Opened}
@@ -18,6 +19,10 @@ pub record IsOpen {D : Type 0} (seen : D → Image) (images : D → Image → Ty
   pub stands : StandsOn log (seen disk)
   pub only : Only (seen disk) (images disk)
   pub holds : StandsFor s (seen disk)
+
+-- each image of now stands for the summary
+pub rests : {D : Type 0} (seen : D → Image) (images : D → Image → Type 0) (log : Log) (disk : D) (s : Summary) (c : Image) → IsOpen seen images log disk s → images disk c → StandsFor s c
+rests seen images log disk s c is now = subst (StandsFor s) (sym (is.only c now)) is.holds
 
 -- records with these payloads, taken up under a header, come to a summary
 pub record Brings (h : Header) (bytes : List (List ℕ)) (s : Summary) : Type 0 where

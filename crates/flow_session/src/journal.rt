@@ -29,16 +29,16 @@ pub trait Journal {
     /// What a crash at some moment from that one on might have left.
     ghost left_since: { Self → ℕ → Image → Type 0 };
 
-    /// The record of a transaction under a number; a journal that keeps nothing needs none.
-    fn record(&self, number: u64, t: &Transaction) -> Result<Vec<u8>, Stop>
-        ensures { IfOk result (λ record. tells → record.items ≡ record_bytes number t.now) };
+    /// The payload of a transaction under a number; a journal that keeps nothing needs none.
+    fn payload(&self, number: u64, t: &Transaction) -> Result<Vec<u8>, Stop>
+        ensures { IfOk result (λ bytes. tells → bytes.items ≡ record_bytes number t.now) };
 
-    /// Keeps a record: that of the next transaction.
-    fn keep(&mut self, record: &[u8]) -> Result<(), Stop>
+    /// Keeps a payload: that of the next transaction.
+    fn keep(&mut self, payload: &[u8]) -> Result<(), Stop>
         requires open { tells → (s : Summary) × holds self.old s }
-        ensures kept { (s : Summary) (t : TransactionOf) → tells → holds self.old s → record.now ≡ record_bytes (s.transactions + 1) t
+        ensures kept { (s : Summary) (t : TransactionOf) → tells → holds self.old s → payload.now ≡ record_bytes (s.transactions + 1) t
             → OnOk result (holds self.new (next t s)) }
-        ensures any_moment { (s : Summary) (t : TransactionOf) → tells → holds self.old s → record.now ≡ record_bytes (s.transactions + 1) t
+        ensures any_moment { (s : Summary) (t : TransactionOf) → tells → holds self.old s → payload.now ≡ record_bytes (s.transactions + 1) t
             → LeavesOnly moment left_since self.old self.new (WithOrWithout t s) };
 
     /// Keeps the live transactions alone from now on.
@@ -75,11 +75,11 @@ impl Journal for NoJournal {
 
     ghost at_rest = { λ _ _ _ none. absurd none };
 
-    fn record(&self, _number: u64, _t: &Transaction) -> Result<Vec<u8>, Stop> {
+    fn payload(&self, _number: u64, _t: &Transaction) -> Result<Vec<u8>, Stop> {
         Ok(Vec::new(self.alloc))
     }
 
-    fn keep(&mut self, _record: &[u8]) -> Result<(), Stop> {
+    fn keep(&mut self, _payload: &[u8]) -> Result<(), Stop> {
         Ok(())
     }
 

@@ -2,7 +2,7 @@
 ghost use Rattle.std.specs.Prelude.{◌≡◌, ◌<◌, [], IfOk, OnOk};
 ghost use Rattle.flow_disk.specs.Moments.{LeavesOnly};
 ghost use Rattle.flow_core.specs.Summaries.{summary, next};
-ghost use Rattle.flow_session.specs.Serving.{Makes, WithOrWithout};
+ghost use Rattle.flow_session.specs.Serving.{WithOrWithout};
 ghost use Rattle.flow_session.specs.declared.serving.Stop.TheVariants.{NoMemory};
 
 use crate::journal::Journal;
@@ -127,8 +127,8 @@ impl Session {
         &self.core
     }
 
-    /// Makes a transaction: all that may want memory is done first, and then its record is kept, before
-    /// anything is answered.
+    /// Makes a transaction: all that may want memory is done first, and then it is kept, before anything is
+    /// answered.
     fn make<J: Journal>(
         &mut self,
         journal: &mut J,
@@ -141,17 +141,16 @@ impl Session {
         ensures kept { J.tells → OnOk result (J.holds journal.new (summary self.new.core)) }
         ensures any_moment { J.tells → LeavesOnly J.moment J.left_since journal.old journal.new (WithOrWithout t (summary self.old.core)) }
     {
-        let record = journal.record(self.core.number() + 1, &t)?;
+        let payload = journal.payload(self.core.next_number(), &t)?;
         let applied = self.core.apply(t)?;
         write_applied(out, &applied)?;
-        journal.keep(&record)
+        journal.keep(&payload)
     }
 
     /// Judges a command, and makes its transaction where it is allowed.
     fn obey<J: Journal>(&mut self, journal: &mut J, command: &Command) -> Result<Vec<u8>, Stop>
-        requires open { J.tells → J.holds journal.old (summary self.old.core) }
-        ensures kept { J.tells → OnOk result (J.holds journal.new (summary self.new.core)) }
-        ensures makes { Makes J.tells J.moment J.left_since journal.old journal.new (summary self.old.core) (λ s. OnOk result (summary self.new.core ≡ s)) }
+        requires { J.tells → J.holds journal.old (summary self.old.core) }
+        ensures { J.tells → OnOk result (J.holds journal.new (summary self.new.core)) }
     {
         let mut out = Vec::new(self.alloc);
         match self.core.judge(command)? {
@@ -164,9 +163,8 @@ impl Session {
 
     /// Takes the front message of a queue; whether there was one.
     fn turn<J: Journal>(&mut self, journal: &mut J, queue: u8) -> Result<bool, Stop>
-        requires open { J.tells → J.holds journal.old (summary self.old.core) }
-        ensures kept { J.tells → OnOk result (J.holds journal.new (summary self.new.core)) }
-        ensures makes { Makes J.tells J.moment J.left_since journal.old journal.new (summary self.old.core) (λ s. OnOk result (summary self.new.core ≡ s)) }
+        requires { J.tells → J.holds journal.old (summary self.old.core) }
+        ensures { J.tells → OnOk result (J.holds journal.new (summary self.new.core)) }
     {
         if !self.core.has_message(queue) {
             return Ok(false);
@@ -196,9 +194,8 @@ impl Session {
 
     /// Turns on the queues one after the other, until all are empty or the limit is met.
     fn drain<J: Journal>(&mut self, journal: &mut J) -> Result<Vec<u8>, Stop>
-        requires open { J.tells → J.holds journal.old (summary self.old.core) }
-        ensures kept { J.tells → OnOk result (J.holds journal.new (summary self.new.core)) }
-        ensures makes { Makes J.tells J.moment J.left_since journal.old journal.new (summary self.old.core) (λ s. OnOk result (summary self.new.core ≡ s)) }
+        requires { J.tells → J.holds journal.old (summary self.old.core) }
+        ensures { J.tells → OnOk result (J.holds journal.new (summary self.new.core)) }
     {
         let mut turns = 0u64;
         let mut queue = 1u8;
@@ -219,9 +216,8 @@ impl Session {
     }
 
     fn checkpoint<J: Journal>(&mut self, journal: &mut J) -> Result<Vec<u8>, Stop>
-        requires open { J.tells → J.holds journal.old (summary self.old.core) }
-        ensures kept { J.tells → OnOk result (J.holds journal.new (summary self.new.core)) }
-        ensures makes { Makes J.tells J.moment J.left_since journal.old journal.new (summary self.old.core) (λ s. OnOk result (summary self.new.core ≡ s)) }
+        requires { J.tells → J.holds journal.old (summary self.old.core) }
+        ensures { J.tells → OnOk result (J.holds journal.new (summary self.new.core)) }
     {
         journal.checkpoint(&self.core)?;
         numbered(self.alloc, b"ok CHECKPOINT ", self.core.live().len() as u64)
@@ -229,9 +225,8 @@ impl Session {
 
     /// The reply to a command.
     fn command<J: Journal>(&mut self, journal: &mut J, command: &Command) -> Result<Vec<u8>, Stop>
-        requires open { J.tells → J.holds journal.old (summary self.old.core) }
-        ensures kept { J.tells → OnOk result (J.holds journal.new (summary self.new.core)) }
-        ensures makes { Makes J.tells J.moment J.left_since journal.old journal.new (summary self.old.core) (λ s. OnOk result (summary self.new.core ≡ s)) }
+        requires { J.tells → J.holds journal.old (summary self.old.core) }
+        ensures { J.tells → OnOk result (J.holds journal.new (summary self.new.core)) }
     {
         match command {
             Command::Import(_) => {
@@ -250,9 +245,8 @@ impl Session {
 
     /// The reply to a line outside an IMPORT.
     fn line<J: Journal>(&mut self, journal: &mut J, line: &[u8]) -> Result<Vec<u8>, Stop>
-        requires open { J.tells → J.holds journal.old (summary self.old.core) }
-        ensures kept { J.tells → OnOk result (J.holds journal.new (summary self.new.core)) }
-        ensures makes { Makes J.tells J.moment J.left_since journal.old journal.new (summary self.old.core) (λ s. OnOk result (summary self.new.core ≡ s)) }
+        requires { J.tells → J.holds journal.old (summary self.old.core) }
+        ensures { J.tells → OnOk result (J.holds journal.new (summary self.new.core)) }
     {
         if line.len() > MOST_LINE {
             return words(self.alloc, b"no LINE\n");
@@ -273,9 +267,8 @@ impl Session {
         journal: &mut J,
         gathered: Gathered,
     ) -> Result<Vec<u8>, Stop>
-        requires open { J.tells → J.holds journal.old (summary self.old.core) }
-        ensures kept { J.tells → OnOk result (J.holds journal.new (summary self.new.core)) }
-        ensures makes { Makes J.tells J.moment J.left_since journal.old journal.new (summary self.old.core) (λ s. OnOk result (summary self.new.core ≡ s)) }
+        requires { J.tells → J.holds journal.old (summary self.old.core) }
+        ensures { J.tells → OnOk result (J.holds journal.new (summary self.new.core)) }
     {
         let Gathered { text, has_long } = gathered;
         if has_long {
@@ -292,9 +285,8 @@ impl Session {
         gathered: Gathered,
         input: Input<'_>,
     ) -> Result<Vec<u8>, Stop>
-        requires open { J.tells → J.holds journal.old (summary self.old.core) }
-        ensures kept { J.tells → OnOk result (J.holds journal.new (summary self.new.core)) }
-        ensures makes { Makes J.tells J.moment J.left_since journal.old journal.new (summary self.old.core) (λ s. OnOk result (summary self.new.core ≡ s)) }
+        requires { J.tells → J.holds journal.old (summary self.old.core) }
+        ensures { J.tells → OnOk result (J.holds journal.new (summary self.new.core)) }
     {
         let mut gathered = gathered;
         match input {
@@ -319,9 +311,8 @@ impl Session {
         journal: &mut J,
         input: Input<'_>,
     ) -> Result<Vec<u8>, Stop>
-        requires open { J.tells → J.holds journal.old (summary self.old.core) }
-        ensures kept { J.tells → OnOk result (J.holds journal.new (summary self.new.core)) }
-        ensures makes { Makes J.tells J.moment J.left_since journal.old journal.new (summary self.old.core) (λ s. OnOk result (summary self.new.core ≡ s)) }
+        requires { J.tells → J.holds journal.old (summary self.old.core) }
+        ensures { J.tells → OnOk result (J.holds journal.new (summary self.new.core)) }
     {
         if let Some(gathered) = self.gathered.take() {
             return self.gather(journal, gathered, input);

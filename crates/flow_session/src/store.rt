@@ -9,8 +9,7 @@ ghost use Rattle.txn_log.specs.Stored.{InRange};
 ghost use Rattle.checkpoint.specs.Compacting.{IsCompacted, MayBeCompacted};
 ghost use Rattle.flow_core.specs.Summaries.{summary};
 ghost use Rattle.flow_session.specs.Histories.{payloads as payloads_of, IsHeaderOf};
-ghost use Rattle.flow_session.specs.Keeping.{IsOpen};
-ghost use Rattle.flow_session.proofs.Keeping.{rests};
+ghost use Rattle.flow_session.specs.Keeping.{IsOpen, rests};
 
 use crate::journal::Journal;
 use crate::serving::Stop;
@@ -160,14 +159,15 @@ impl<D: Disk + Drop> Journal for Stored<D> {
 
     ghost left_since = { λ journal. D.left_since journal.disk };
 
-    ghost at_rest = { λ journal s c told open left. rests D.seen D.images journal.log journal.disk s c open (D.only_now journal.disk c left) };
+    ghost at_rest = { λ journal s c told is left. rests D.seen D.images journal.log journal.disk s c is (D.only_now journal.disk c left) };
 
-    fn record(&self, number: u64, t: &Transaction) -> Result<Vec<u8>, Stop> {
+    fn payload(&self, number: u64, t: &Transaction) -> Result<Vec<u8>, Stop> {
         Ok(encode(self.alloc, number, t)?)
     }
 
-    fn keep(&mut self, record: &[u8]) -> Result<(), Stop> {
-        append(&mut self.log, &mut self.disk, record)
+    fn keep(&mut self, payload: &[u8]) -> Result<(), Stop> {
+        append(&mut self.log, &mut self.disk, payload)?;
+        Ok(())
     }
 
     fn checkpoint(&mut self, core: &Core) -> Result<(), Stop> {
@@ -177,6 +177,7 @@ impl<D: Disk + Drop> Journal for Stored<D> {
         let Some(kept) = payloads(self.alloc, core.live())? else {
             return Ok(());
         };
-        move_log(&mut self.log, &mut self.disk, &header, &kept)
+        move_log(&mut self.log, &mut self.disk, &header, &kept)?;
+        Ok(())
     }
 }
