@@ -7,6 +7,7 @@ use Rattle.flow_model.specs.declared.transactions.Transaction.{Transaction}
 use Rattle.flow_core.specs.Summaries.{Summary, next}
 use Rattle.flow_session.specs.Histories.{StandsFor, StandsAfterSome, after}
 use Rattle.flow_session.specs.Serving.{Makes, WithOrWithout}
+use Rattle.flow_session.proofs.Keeping.{nothing_done}
 
 after_append : (s : Summary) (ts us : List Transaction) → after s (ts ++ us) ≡ after (after s ts) us
 after_append s [] us = refl
@@ -59,3 +60,14 @@ module _ {J : Type 0} (tells : Type 0) (moment : J → ℕ) (left_since : J → 
           (λ c some. some_behind s first.transactions second.transactions c (subst (λ x. StandsAfterSome x second.transactions c) first.ended some)));
     ended = subst IsEnd (ap (λ x. after x second.transactions) first.ended ∙ sym (after_append s first.transactions second.transactions)) second.ended;
   }
+
+  -- a call that leaves an open journal alone
+  pub makes_nothing : (holds : J → Summary → Type 0) → ((journal : J) (s : Summary) (c : Image) → tells → holds journal s → left_since journal (moment journal) c → StandsFor s c) → (journal : J) (s : Summary) (IsEnd : Summary → Type 0) → (tells → holds journal s) → IsEnd s → Makes tells moment left_since journal journal s IsEnd
+  makes_nothing holds at_rest journal s IsEnd is ended =
+      makes_none journal journal s IsEnd (λ told. nothing_done moment left_since journal (StandsFor s) (λ c left. at_rest journal s c told (is told) left)) ended
+
+  -- one call after another, where the last one ends otherwise
+  pub makes_last : (old mid new : J) (s now : Summary) (IsMid IsEnd : Summary → Type 0) → Makes tells moment left_since old mid s (λ x. now ≡ x) → Makes tells moment left_since mid new now IsMid → ((x : Summary) → IsMid x → IsEnd x) → Makes tells moment left_since old new s IsEnd
+  makes_last old mid new s now IsMid IsEnd first second leads =
+      let all = makes_more old mid new s now IsMid first second in
+      record { transactions = all.transactions; any_moment = all.any_moment; ended = leads _ all.ended }

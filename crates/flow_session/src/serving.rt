@@ -2,13 +2,13 @@
 ghost use Rattle.std.specs.Prelude.{◌≡◌, ◌<◌, [], IfOk, OnOk};
 ghost use Rattle.flow_disk.specs.Moments.{LeavesOnly};
 ghost use Rattle.flow_core.specs.Summaries.{summary, next};
-ghost use Rattle.flow_session.specs.Serving.{WithOrWithout};
+ghost use Rattle.flow_session.specs.Serving.{Makes, WithOrWithout};
 ghost use Rattle.flow_session.specs.declared.serving.Stop.TheVariants.{NoMemory};
 
 use crate::journal::Journal;
 use command_lang::{CommandFault, read_command};
-use flow_core::{Core, Verdict, write_applied, write_refusal};
-use flow_model::{Bytes, Command, Transaction};
+use flow_core::{Core, Refusal, Verdict, write_applied, write_refusal};
+use flow_model::{Bytes, Command, Query, Transaction};
 use flow_text::decimal;
 use std::alloc::{AllocError, AllocFailed, Global};
 use thiserror::Error;
@@ -81,6 +81,13 @@ fn numbered(alloc: Global, text: &[u8], number: u64) -> Result<Vec<u8>, Stop> {
     Ok(out)
 }
 
+/// The reply of a refusal.
+fn refused(alloc: Global, refusal: &Refusal) -> Result<Vec<u8>, Stop> {
+    let mut out = Vec::new(alloc);
+    write_refusal(&mut out, refusal)?;
+    Ok(out)
+}
+
 /// Whether a line ends an IMPORT: `.`, or `.` and a carriage return.
 fn ends_import(line: &[u8]) -> bool {
     line == b".".as_slice() || line == b".\r".as_slice()
@@ -150,32 +157,38 @@ impl Session {
     /// Judges a command, and makes its transaction where it is allowed.
     fn obey<J: Journal>(&mut self, journal: &mut J, command: &Command) -> Result<Vec<u8>, Stop>
         requires { J.tells → J.holds journal.old (summary self.old.core) }
-        ensures { J.tells → OnOk result (J.holds journal.new (summary self.new.core)) }
+        ensures kept { J.tells → OnOk result (J.holds journal.new (summary self.new.core)) }
+        ensures makes { Makes J.tells J.moment J.left_since journal.old journal.new (summary self.old.core) (λ s. OnOk result (summary self.new.core ≡ s)) }
     {
-        let mut out = Vec::new(self.alloc);
-        match self.core.judge(command)? {
-            Verdict::Do(t) => self.make(journal, t, &mut out)?,
-            Verdict::Same(root) => return numbered(self.alloc, b"ok SAME ", root),
-            Verdict::Refused(refusal) => write_refusal(&mut out, &refusal)?,
+        match self.core.judge(command) {
+            Ok(Verdict::Do(t)) => {
+                let mut out = Vec::new(self.alloc);
+                self.make(journal, t, &mut out)?;
+                Ok(out)
+            }
+            Ok(Verdict::Same(root)) => numbered(self.alloc, b"ok SAME ", root),
+            Ok(Verdict::Refused(refusal)) => refused(self.alloc, &refusal),
+            Err(_) => Err(Stop::NoMemory),
         }
-        Ok(out)
     }
 
     /// Takes the front message of a queue; whether there was one.
     fn turn<J: Journal>(&mut self, journal: &mut J, queue: u8) -> Result<bool, Stop>
         requires { J.tells → J.holds journal.old (summary self.old.core) }
-        ensures { J.tells → OnOk result (J.holds journal.new (summary self.new.core)) }
+        ensures kept { J.tells → OnOk result (J.holds journal.new (summary self.new.core)) }
+        ensures makes { Makes J.tells J.moment J.left_since journal.old journal.new (summary self.old.core) (λ s. OnOk result (summary self.new.core ≡ s)) }
     {
         if !self.core.has_message(queue) {
             return Ok(false);
         }
-        match self.core.judge(&Command::Turn(u64::from(queue)))? {
-            Verdict::Do(t) => {
+        match self.core.judge(&Command::Turn(u64::from(queue))) {
+            Ok(Verdict::Do(t)) => {
                 let mut out = Vec::new(self.alloc);
                 self.make(journal, t, &mut out)?;
                 Ok(true)
             }
-            _ => Ok(false),
+            Ok(_) => Ok(false),
+            Err(_) => Err(Stop::NoMemory),
         }
     }
 
@@ -195,7 +208,8 @@ impl Session {
     /// Turns on the queues one after the other, until all are empty or the limit is met.
     fn drain<J: Journal>(&mut self, journal: &mut J) -> Result<Vec<u8>, Stop>
         requires { J.tells → J.holds journal.old (summary self.old.core) }
-        ensures { J.tells → OnOk result (J.holds journal.new (summary self.new.core)) }
+        ensures kept { J.tells → OnOk result (J.holds journal.new (summary self.new.core)) }
+        ensures makes { Makes J.tells J.moment J.left_since journal.old journal.new (summary self.old.core) (λ s. OnOk result (summary self.new.core ≡ s)) }
     {
         let mut turns = 0u64;
         let mut queue = 1u8;
@@ -217,16 +231,23 @@ impl Session {
 
     fn checkpoint<J: Journal>(&mut self, journal: &mut J) -> Result<Vec<u8>, Stop>
         requires { J.tells → J.holds journal.old (summary self.old.core) }
-        ensures { J.tells → OnOk result (J.holds journal.new (summary self.new.core)) }
+        ensures kept { J.tells → OnOk result (J.holds journal.new (summary self.new.core)) }
+        ensures makes { Makes J.tells J.moment J.left_since journal.old journal.new (summary self.old.core) (λ s. OnOk result (summary self.new.core ≡ s)) }
     {
         journal.checkpoint(&self.core)?;
         numbered(self.alloc, b"ok CHECKPOINT ", self.core.live().len() as u64)
     }
 
+    /// The reply to a query.
+    fn answer(&self, query: &Query) -> Result<Vec<u8>, Stop> {
+        Ok(self.core.answer(query)?)
+    }
+
     /// The reply to a command.
     fn command<J: Journal>(&mut self, journal: &mut J, command: &Command) -> Result<Vec<u8>, Stop>
         requires { J.tells → J.holds journal.old (summary self.old.core) }
-        ensures { J.tells → OnOk result (J.holds journal.new (summary self.new.core)) }
+        ensures kept { J.tells → OnOk result (J.holds journal.new (summary self.new.core)) }
+        ensures makes { Makes J.tells J.moment J.left_since journal.old journal.new (summary self.old.core) (λ s. OnOk result (summary self.new.core ≡ s)) }
     {
         match command {
             Command::Import(_) => {
@@ -238,7 +259,7 @@ impl Session {
             }
             Command::Drain => self.drain(journal),
             Command::Checkpoint => self.checkpoint(journal),
-            Command::Ask(query) => Ok(self.core.answer(query)?),
+            Command::Ask(query) => self.answer(query),
             _ => self.obey(journal, command),
         }
     }
@@ -246,7 +267,8 @@ impl Session {
     /// The reply to a line outside an IMPORT.
     fn line<J: Journal>(&mut self, journal: &mut J, line: &[u8]) -> Result<Vec<u8>, Stop>
         requires { J.tells → J.holds journal.old (summary self.old.core) }
-        ensures { J.tells → OnOk result (J.holds journal.new (summary self.new.core)) }
+        ensures kept { J.tells → OnOk result (J.holds journal.new (summary self.new.core)) }
+        ensures makes { Makes J.tells J.moment J.left_since journal.old journal.new (summary self.old.core) (λ s. OnOk result (summary self.new.core ≡ s)) }
     {
         if line.len() > MOST_LINE {
             return words(self.alloc, b"no LINE\n");
@@ -268,7 +290,8 @@ impl Session {
         gathered: Gathered,
     ) -> Result<Vec<u8>, Stop>
         requires { J.tells → J.holds journal.old (summary self.old.core) }
-        ensures { J.tells → OnOk result (J.holds journal.new (summary self.new.core)) }
+        ensures kept { J.tells → OnOk result (J.holds journal.new (summary self.new.core)) }
+        ensures makes { Makes J.tells J.moment J.left_since journal.old journal.new (summary self.old.core) (λ s. OnOk result (summary self.new.core ≡ s)) }
     {
         let Gathered { text, has_long } = gathered;
         if has_long {
@@ -286,7 +309,8 @@ impl Session {
         input: Input<'_>,
     ) -> Result<Vec<u8>, Stop>
         requires { J.tells → J.holds journal.old (summary self.old.core) }
-        ensures { J.tells → OnOk result (J.holds journal.new (summary self.new.core)) }
+        ensures kept { J.tells → OnOk result (J.holds journal.new (summary self.new.core)) }
+        ensures makes { Makes J.tells J.moment J.left_since journal.old journal.new (summary self.old.core) (λ s. OnOk result (summary self.new.core ≡ s)) }
     {
         let mut gathered = gathered;
         match input {
@@ -312,7 +336,8 @@ impl Session {
         input: Input<'_>,
     ) -> Result<Vec<u8>, Stop>
         requires { J.tells → J.holds journal.old (summary self.old.core) }
-        ensures { J.tells → OnOk result (J.holds journal.new (summary self.new.core)) }
+        ensures kept { J.tells → OnOk result (J.holds journal.new (summary self.new.core)) }
+        ensures makes { Makes J.tells J.moment J.left_since journal.old journal.new (summary self.old.core) (λ s. OnOk result (summary self.new.core ≡ s)) }
     {
         if let Some(gathered) = self.gathered.take() {
             return self.gather(journal, gathered, input);

@@ -1,7 +1,6 @@
 //! A script served line by line, each reply printed before the next line is read.
 ghost use Rattle.std.specs.Prelude.{◌≡◌, ℕ, MatchResult, IfErr, OnOk};
 ghost use Rattle.flow_core.specs.Summaries.{summary};
-ghost use Rattle.flow_session.specs.Serving.{Makes};
 ghost use Rattle.flow_words.specs.Endings.{PrintCause, RunCause, status_of};
 
 use crate::input::MOST_BYTES;
@@ -51,7 +50,6 @@ fn serve_one<J: Journal, K: Sink>(
 ) -> Result<(), Status>
     requires open { J.tells → J.holds journal.old (summary session.old.core) }
     ensures kept { J.tells → OnOk result (J.holds journal.new (summary session.new.core)) }
-    ensures makes { Makes J.tells J.moment J.left_since journal.old journal.new (summary session.old.core) (λ s. OnOk result (summary session.new.core ≡ s)) }
     ensures cause { MatchResult result (λ _. K.faults out.new ≡ K.faults out.old) (PrintCause (K.faults out.old) (K.faults out.new)) }
 {
     match session.serve(journal, input) {
@@ -76,7 +74,6 @@ pub fn serve_all<S: Source, K: Sink, J: Journal>(
 ) -> Result<(), Status>
     requires open { J.tells → J.holds journal.old (summary session.old.core) }
     ensures kept { J.tells → OnOk result (J.holds journal.new (summary session.new.core)) }
-    ensures makes { Makes J.tells J.moment J.left_since journal.old journal.new (summary session.old.core) (λ s. OnOk result (summary session.new.core ≡ s)) }
     ensures cause { IfErr result (RunCause (S.faults src.old) (S.faults src.new) (K.faults out.old) (K.faults out.new)) }
 {
     let mut lines = match Lines::new(alloc, MOST_BYTES) {

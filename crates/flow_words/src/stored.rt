@@ -163,7 +163,7 @@ fn serve_store<S: Source, K: Sink, D: Disk + Drop>(
     disk: D,
 ) -> (Result<Status, Status>, D)
     requires open { D.tells → IsOpen D.seen D.images log disk (summary session.core) }
-    ensures { Makes D.tells D.moment D.left_since disk result.1 (summary session.core) (λ s. OnOk result.0 (D.tells → (c : Image) → D.images result.1 c → StandsFor s c)) }
+    ensures { OnOk result.0 (D.tells → (s : Summary) × ((image : Image) → D.images result.1 image → StandsFor s image)) }
 {
     let mut session = session;
     let mut journal = Stored::new(alloc, log, disk);
