@@ -1,2 +1,1 @@
-pub mod Crashes
 pub mod Endings

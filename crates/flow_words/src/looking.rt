@@ -1,7 +1,4 @@
 //! The words that only look into a store: `explain`, `verify` and `overdue`.
-ghost use Rattle.flow_disk.specs.Moments.{Only};
-ghost use Rattle.flow_session.specs.Runs.{KeepsStore};
-
 use crate::input::all_lines;
 use crate::script::{line_status, print};
 use crate::status::Status;
@@ -36,9 +33,7 @@ pub fn explain_in<K: Sink, D: Disk>(
     activity: &[u8],
     out: &mut K,
     disk: &mut D,
-) -> Result<Status, Status>
-    ensures { D.tells → Only (D.seen disk.old) (D.images disk.old) → KeepsStore D.moment D.left_since D.seen disk.old disk.new }
-{
+) -> Result<Status, Status> {
     if activity_in(alloc, activity)?.is_none() {
         return print_usage(out);
     }
@@ -73,9 +68,7 @@ pub fn verify_in<S: Source, K: Sink, D: Disk>(
     src: &mut S,
     out: &mut K,
     disk: &mut D,
-) -> Result<Status, Status>
-    ensures { D.tells → Only (D.seen disk.old) (D.images disk.old) → KeepsStore D.moment D.left_since D.seen disk.old disk.new }
-{
+) -> Result<Status, Status> {
     match reopen(alloc, disk) {
         Err(stop) => refuse(alloc, out, &stop),
         Ok((session, _log)) => verify_over(alloc, session.core(), src, out),
@@ -87,9 +80,7 @@ pub fn overdue_in<K: Sink, D: Disk>(
     alloc: Global,
     out: &mut K,
     disk: &mut D,
-) -> Result<Status, Status>
-    ensures { D.tells → Only (D.seen disk.old) (D.images disk.old) → KeepsStore D.moment D.left_since D.seen disk.old disk.new }
-{
+) -> Result<Status, Status> {
     match reopen(alloc, disk) {
         Err(stop) => refuse(alloc, out, &stop),
         Ok((session, _log)) => {

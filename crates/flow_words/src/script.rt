@@ -88,7 +88,9 @@ pub fn serve_all<S: Source, K: Sink, J: Journal>(
             Ok(Line::Ended) => Input::Ended,
         };
         let is_last = matches!(input, Input::Ended);
-        serve_one(session, journal, out, input)?;
+        if let Err(status) = serve_one(session, journal, out, input) {
+            return Err(status);
+        }
         if is_last {
             break;
         }

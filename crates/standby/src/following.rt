@@ -1,8 +1,13 @@
 //! A stream taken into a store.
-ghost use Rattle.std.specs.Prelude.{◌≡◌, ℕ, IfErr, MatchResult, OnOk};
+ghost use Rattle.std.specs.Prelude.{◌≡◌, ℕ, IfErr, IsOk, MatchResult, OnOk};
+ghost use Rattle.flow_disk.specs.Images.{Image};
+ghost use Rattle.flow_disk.specs.Moments.{Only};
 ghost use Rattle.flow_txn.specs.Records.{record_bytes};
 ghost use Rattle.flow_core.specs.Summaries.{summary};
+ghost use Rattle.flow_session.specs.Histories.{StandsFor};
 ghost use Rattle.flow_session.specs.Keeping.{IsOpen};
+ghost use Rattle.flow_session.specs.Runs.{KeepsOrServes};
+ghost use Rattle.flow_session.specs.Serving.{Makes};
 ghost use Rattle.standby.specs.Endings.{FollowEnd};
 
 use crate::blocks::Blocks;
@@ -42,6 +47,7 @@ fn follow_from<S: Source, D: Disk + Drop>(
     disk: D,
 ) -> (Result<Followed, FollowStop>, D)
     requires open { D.tells → IsOpen D.seen D.images log disk (summary core) }
+    ensures { Makes D.tells D.moment D.left_since disk result.1 (summary core) (λ s. IsOk result.0 → D.tells → (c : Image) → D.images result.1 c → StandsFor s c) }
 {
     let mut standby = Standby {
         alloc,
@@ -65,6 +71,7 @@ impl<D: Disk + Drop> Standby<D> {
         requires open { D.tells → IsOpen D.seen D.images self.old.journal.log self.old.journal.disk (summary self.old.core) }
         requires spelled { record_bytes numbered.number numbered.transaction ≡ payload.now }
         ensures kept { OnOk result (D.tells → IsOpen D.seen D.images self.new.journal.log self.new.journal.disk (summary self.new.core)) }
+        ensures makes { Makes D.tells D.moment D.left_since self.old.journal.disk self.new.journal.disk (summary self.old.core) (λ s. OnOk result (summary self.new.core ≡ s)) }
         ensures cause { IfErr result (λ stop. (count : ℕ) → FollowEnd count count stop) }
     {
         let Numbered {
@@ -91,6 +98,7 @@ impl<D: Disk + Drop> Standby<D> {
     fn take_payload(&mut self, place: u64, number: u64, payload: &[u8]) -> Result<(), FollowStop>
         requires open { D.tells → IsOpen D.seen D.images self.old.journal.log self.old.journal.disk (summary self.old.core) }
         ensures kept { OnOk result (D.tells → IsOpen D.seen D.images self.new.journal.log self.new.journal.disk (summary self.new.core)) }
+        ensures makes { Makes D.tells D.moment D.left_since self.old.journal.disk self.new.journal.disk (summary self.old.core) (λ s. OnOk result (summary self.new.core ≡ s)) }
         ensures cause { IfErr result (λ stop. (count : ℕ) → FollowEnd count count stop) }
     {
         match decode(self.alloc, payload) {
@@ -129,6 +137,7 @@ impl<D: Disk + Drop> Standby<D> {
     ) -> Result<(), FollowStop>
         requires open { D.tells → IsOpen D.seen D.images self.old.journal.log self.old.journal.disk (summary self.old.core) }
         ensures kept { OnOk result (D.tells → IsOpen D.seen D.images self.new.journal.log self.new.journal.disk (summary self.new.core)) }
+        ensures makes { Makes D.tells D.moment D.left_since self.old.journal.disk self.new.journal.disk (summary self.old.core) (λ s. OnOk result (summary self.new.core ≡ s)) }
     {
         let mut payload = Vec::new(self.alloc);
         'frames: for number in from.saturating_add(1)..u64::MAX {
@@ -146,6 +155,7 @@ impl<D: Disk + Drop> Standby<D> {
     fn take_stream<S: Source>(&mut self, src: &mut S) -> Result<Followed, FollowStop>
         requires open { D.tells → IsOpen D.seen D.images self.old.journal.log self.old.journal.disk (summary self.old.core) }
         ensures kept { OnOk result (D.tells → IsOpen D.seen D.images self.new.journal.log self.new.journal.disk (summary self.new.core)) }
+        ensures makes { Makes D.tells D.moment D.left_since self.old.journal.disk self.new.journal.disk (summary self.old.core) (λ s. OnOk result (summary self.new.core ≡ s)) }
     {
         let mut blocks = Blocks::new(self.alloc)?;
         let mut bytes = Vec::new(self.alloc);
@@ -211,6 +221,7 @@ pub fn follow<S: Source, D: Disk + Drop>(
     src: &mut S,
     disk: D,
 ) -> (Result<Followed, FollowStop>, D)
+    ensures { D.tells → Only (D.seen disk) (D.images disk) → KeepsOrServes D.tells D.moment D.left_since D.seen D.images disk result.1 (IsOk result.0) }
 {
     let mut disk = disk;
     match open(alloc, &mut disk) {
