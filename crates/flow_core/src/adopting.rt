@@ -1,7 +1,9 @@
 //! Records of a store: which are allowed, and the state after them.
-ghost use Rattle.std.specs.Prelude.{◌≡◌};
+ghost use Rattle.std.specs.Prelude.{◌≡◌, ◌⊎◌, ◌<◌, ◌≤◌, ◌+◌, None, OnOk, IsTrue};
+ghost use Rattle.flow_core.specs.Summaries.{summary, taken_up, counted, Follows, deleted, roots_after};
 ghost use Rattle.flow_core.specs.declared.adopting.AdoptFault.TheVariants.{NoMemory};
 
+use crate::applying::{deleted_root, started_root};
 use crate::items::{Known, settings_fit};
 use crate::paths::same_message;
 use crate::refusals::Stop;
@@ -191,42 +193,76 @@ impl Core {
     }
 
     /// Whether the number of a record is allowed: above that of the kept one before, or the next one.
-    fn allows_number(&self, number: u64) -> bool {
+    fn allows_number(&self, number: u64) -> bool
+        ensures { IsTrue result → ((number ≤ self.now.kept) × (self.now.kept ≡ self.now.number)) ⊎ ((self.now.kept < number) × (number ≡ self.now.number + 1)) }
+    {
         if number <= self.kept {
             number > self.kept_number && self.number == self.kept
         } else {
-            number == self.number.saturating_add(1) && number <= self.limit
+            self.number < self.limit && number == self.number + 1
         }
     }
 
-    /// Whether the root of a Start, and a Delete, are allowed under a number.
-    fn allows_root_number(&self, number: u64, t: &Transaction) -> bool {
-        match t {
-            Transaction::Start(root, _, _, _, _, _) if number <= self.kept => {
-                *root > self.kept_root && *root <= self.roots
-            }
-            Transaction::Start(root, _, _, _, _, _) => *root == self.roots.saturating_add(1),
-            Transaction::Delete(_) => number > self.kept,
-            _ => true,
+    /// Whether the root of a kept Start is the next of the kept ones, and there is no kept Delete.
+    fn allows_kept(&self, t: &Transaction) -> bool
+        ensures { IsTrue result → (deleted t.now ≡ None) × (roots_after t.now self.now.roots ≡ self.now.roots) }
+    {
+        if deleted_root(t).is_some() {
+            return false;
+        }
+        match started_root(t) {
+            None => true,
+            Some(root) => root > self.kept_root && root <= self.roots,
+        }
+    }
+
+    /// Whether the root of a Start is the next one.
+    fn allows_new(&self, t: &Transaction) -> bool {
+        match started_root(t) {
+            None => true,
+            Some(root) => root == self.roots.saturating_add(1),
+        }
+    }
+
+    /// Whether a record may stand under its number.
+    fn allows_place(&self, number: u64, t: &Transaction) -> bool
+        ensures { IsTrue result → Follows self.now.kept (summary self.now) (record { number = number; transaction = t.now }) }
+    {
+        if !self.allows_number(number) {
+            return false;
+        }
+        if number <= self.kept {
+            self.allows_kept(t)
+        } else {
+            self.allows_new(t)
+        }
+    }
+
+    /// Counts a record as kept, or as the next transaction.
+    fn count(&mut self, number: u64, t: &Transaction)
+        ensures counted { summary self.new ≡ counted self.old.kept number (summary self.old) }
+        ensures kept { self.new.kept ≡ self.old.kept }
+    {
+        if number > self.kept {
+            self.number = number;
+            return;
+        }
+        self.kept_number = number;
+        if let Some(root) = started_root(t) {
+            self.kept_root = root;
         }
     }
 
     /// Adopts a record of a store, in the order of the records.
-    pub fn adopt(&mut self, number: u64, t: Transaction) -> Result<(), AdoptFault> {
-        if !self.allows_number(number)
-            || !self.allows_root_number(number, &t)
-            || !self.allows(&t)?
-        {
+    pub fn adopt(&mut self, number: u64, t: Transaction) -> Result<(), AdoptFault>
+        ensures follows { OnOk result (Follows self.old.kept (summary self.old) (record { number = number; transaction = t })) }
+        ensures taken { OnOk result (summary self.new ≡ taken_up self.old.kept (record { number = number; transaction = t }) (summary self.old)) }
+        ensures kept { OnOk result (self.new.kept ≡ self.old.kept) }
+    {
+        if !self.allows_place(number, &t) || !self.allows(&t)? {
             return Err(AdoptFault::NotAllowed);
         }
-        if number <= self.kept {
-            self.kept_number = number;
-            if let Transaction::Start(root, _, _, _, _, _) = &t {
-                self.kept_root = *root;
-            }
-        } else {
-            self.number = number;
-        }
+        self.count(number, &t);
         let _ = self.apply_as(number, t)?;
         Ok(())
     }

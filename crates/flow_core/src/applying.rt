@@ -1,4 +1,7 @@
 //! The state after a transaction that is allowed.
+ghost use Rattle.std.specs.Prelude.{◌≡◌, ◌<◌, ◌+◌, OnOk, IfOk};
+ghost use Rattle.flow_core.specs.Summaries.{summary, noted, next, with_transaction, with_root_of, without, kept_by, root_about, is_root, deleted, started};
+
 use crate::paths::{queue_of, rank_of, root_of};
 use crate::refusals::copy_hold;
 use crate::state::{Core, Root};
@@ -33,7 +36,9 @@ pub struct Applied {
 }
 
 /// The root that a transaction names.
-pub fn transaction_root(t: &Transaction) -> Option<u64> {
+pub fn transaction_root(t: &Transaction) -> Option<u64>
+    ensures { result ≡ root_about t.now }
+{
     match t {
         Transaction::Import(_) => None,
         Transaction::Clock(_) => None,
@@ -53,6 +58,62 @@ pub fn transaction_root(t: &Transaction) -> Option<u64> {
     }
 }
 
+/// The root that a transaction starts.
+pub fn started_root(t: &Transaction) -> Option<u64>
+    ensures { result ≡ started t.now }
+{
+    match t {
+        Transaction::Import(_) => None,
+        Transaction::Start(root, _, _, _, _, _) => Some(*root),
+        Transaction::Turn(_, _) => None,
+        Transaction::Claim(_, _) => None,
+        Transaction::Release(_, _) => None,
+        Transaction::Transfer(_, _, _) => None,
+        Transaction::Take(_, _) => None,
+        Transaction::Done(_, _, _) => None,
+        Transaction::Force(_, _) => None,
+        Transaction::Restart(_) => None,
+        Transaction::Suspend(_) => None,
+        Transaction::Resume(_) => None,
+        Transaction::Terminate(_) => None,
+        Transaction::Delete(_) => None,
+        Transaction::Clock(_) => None,
+    }
+}
+
+/// The root that a transaction deletes.
+pub fn deleted_root(t: &Transaction) -> Option<u64>
+    ensures { result ≡ deleted t.now }
+{
+    match t {
+        Transaction::Import(_) => None,
+        Transaction::Start(_, _, _, _, _, _) => None,
+        Transaction::Turn(_, _) => None,
+        Transaction::Claim(_, _) => None,
+        Transaction::Release(_, _) => None,
+        Transaction::Transfer(_, _, _) => None,
+        Transaction::Take(_, _) => None,
+        Transaction::Done(_, _, _) => None,
+        Transaction::Force(_, _) => None,
+        Transaction::Restart(_) => None,
+        Transaction::Suspend(_) => None,
+        Transaction::Resume(_) => None,
+        Transaction::Terminate(_) => None,
+        Transaction::Delete(root) => Some(*root),
+        Transaction::Clock(_) => None,
+    }
+}
+
+/// Whether a transaction is about a root.
+fn is_about(root: u64, numbered: &Numbered) -> bool
+    ensures { result ≡ is_root root (root_about numbered.now.transaction) }
+{
+    match transaction_root(&numbered.transaction) {
+        Some(other) => other == root,
+        None => false,
+    }
+}
+
 /// An equal program.
 fn copy_program(alloc: Global, program: &Program) -> Result<Program, AllocError> {
     Ok(Program {
@@ -69,7 +130,9 @@ fn copy_program(alloc: Global, program: &Program) -> Result<Program, AllocError>
 
 impl Core {
     /// Puts a message into its queue.
-    fn put(&mut self, message: Message) -> Result<(), AllocError> {
+    fn put(&mut self, message: Message) -> Result<(), AllocError>
+        ensures { noted self.new ≡ noted self.old }
+    {
         let queue = match self.root_graph(root_of(&message)) {
             None => 1,
             Some(graph) => queue_of(self.library(), graph, self.queues.count(), &message),
@@ -98,7 +161,9 @@ impl Core {
     }
 
     /// Lists an open manual item as it stands now.
-    fn list_item(&mut self, item: &Path) -> Result<(), AllocError> {
+    fn list_item(&mut self, item: &Path) -> Result<(), AllocError>
+        ensures { noted self.new ≡ noted self.old }
+    {
         let is_manual = match self.known(item) {
             None => false,
             Some(known) => known.program.manual,
@@ -117,7 +182,9 @@ impl Core {
     }
 
     /// Takes an item off the worklists.
-    fn unlist_item(&mut self, item: &Path) -> Result<(), AllocError> {
+    fn unlist_item(&mut self, item: &Path) -> Result<(), AllocError>
+        ensures { noted self.new ≡ noted self.old }
+    {
         if let Some(graph) = self.root_graph(item.root) {
             let rank = rank_of(self.alloc, self.library(), graph, item)?;
             self.worklists.drop_item(&rank);
@@ -125,7 +192,9 @@ impl Core {
         Ok(())
     }
 
-    fn import(&mut self, text: &Bytes) -> Result<Note, AllocError> {
+    fn import(&mut self, text: &Bytes) -> Result<Note, AllocError>
+        ensures { noted self.new ≡ noted self.old }
+    {
         match self.store.import(self.alloc, text.as_slice()) {
             Ok(count) => Ok(Note::Imported(count)),
             Err(ImportFault::Rule(_)) => Ok(Note::Imported(0)),
@@ -169,7 +238,9 @@ impl Core {
         starter: &Name,
         key: Option<&Name>,
         settings: &[Setting],
-    ) -> Result<Note, AllocError> {
+    ) -> Result<Note, AllocError>
+        ensures { noted self.new ≡ noted self.old }
+    {
         let made = self.new_instance(root, process, version, starter, settings)?;
         let Some(instance) = made else {
             return Ok(Note::Rooted(root));
@@ -183,9 +254,6 @@ impl Core {
             }
         };
         self.live_roots.insert(root, Root { instance, key })?;
-        if root > self.roots {
-            self.roots = root;
-        }
         self.put(Message::Begin(Path {
             root,
             parts: List::new(self.alloc),
@@ -194,7 +262,9 @@ impl Core {
     }
 
     /// Puts messages, and lists the items that came to be ready.
-    fn follow(&mut self, messages: List<Message>, ready: Vec<Path>) -> Result<(), AllocError> {
+    fn follow(&mut self, messages: List<Message>, ready: Vec<Path>) -> Result<(), AllocError>
+        ensures { noted self.new ≡ noted self.old }
+    {
         for message in messages.into_vec() {
             self.put(message)?;
         }
@@ -204,7 +274,9 @@ impl Core {
         Ok(())
     }
 
-    fn turn(&mut self, queue: u8) -> Result<Option<Note>, AllocError> {
+    fn turn(&mut self, queue: u8) -> Result<Option<Note>, AllocError>
+        ensures { noted self.new ≡ noted self.old }
+    {
         if queue < 1 || queue > self.queues.count() {
             return Ok(None);
         }
@@ -238,7 +310,9 @@ impl Core {
         item: &Path,
         performer: Option<Name>,
         settings: &[Setting],
-    ) -> Result<Note, AllocError> {
+    ) -> Result<Note, AllocError>
+        ensures { noted self.new ≡ noted self.old }
+    {
         let Some(output) = self.output(item, settings)? else {
             return Ok(Note::Fated(Fate::Waiting));
         };
@@ -271,7 +345,9 @@ impl Core {
     }
 
     /// Changes who holds an item; answers the take number of an agent.
-    fn change_hold(&mut self, item: &Path, change: HoldChange) -> Result<u64, AllocError> {
+    fn change_hold(&mut self, item: &Path, change: HoldChange) -> Result<u64, AllocError>
+        ensures { noted self.new ≡ noted self.old }
+    {
         let take = match self.live_roots.get_mut(&item.root) {
             None => 0,
             Some(root) => root
@@ -282,18 +358,24 @@ impl Core {
         Ok(take)
     }
 
-    fn hold_by(&mut self, item: &Path, who: &Name) -> Result<Note, AllocError> {
+    fn hold_by(&mut self, item: &Path, who: &Name) -> Result<Note, AllocError>
+        ensures { noted self.new ≡ noted self.old }
+    {
         let who = who.copy(self.alloc)?;
         self.change_hold(item, HoldChange::Person(who))?;
         Ok(Note::Fated(self.fate_of(item)))
     }
 
-    fn give_back(&mut self, item: &Path) -> Result<Note, AllocError> {
+    fn give_back(&mut self, item: &Path) -> Result<Note, AllocError>
+        ensures { noted self.new ≡ noted self.old }
+    {
         self.change_hold(item, HoldChange::Nobody)?;
         Ok(Note::Fated(self.fate_of(item)))
     }
 
-    fn terminate(&mut self, root: u64) -> Result<Note, AllocError> {
+    fn terminate(&mut self, root: u64) -> Result<Note, AllocError>
+        ensures { noted self.new ≡ noted self.old }
+    {
         if let Some(found) = self.live_roots.get_mut(&root) {
             found.instance.terminate();
         }
@@ -301,32 +383,39 @@ impl Core {
         Ok(Note::Moded(Mode::Terminated))
     }
 
-    fn suspend(&mut self, root: u64) -> Note {
+    fn suspend(&mut self, root: u64) -> Note
+        ensures { noted self.new ≡ noted self.old }
+    {
         if let Some(found) = self.live_roots.get_mut(&root) {
             found.instance.suspend();
         }
         Note::Moded(Mode::Suspended)
     }
 
-    fn resume_root(&mut self, root: u64) -> Note {
+    fn resume_root(&mut self, root: u64) -> Note
+        ensures { noted self.new ≡ noted self.old }
+    {
         if let Some(found) = self.live_roots.get_mut(&root) {
             found.instance.resume();
         }
         Note::Moded(Mode::Active)
     }
 
-    /// Removes a root with its transactions.
-    fn delete(&mut self, root: u64) -> Note {
+    /// Removes a root.
+    fn delete(&mut self, root: u64) -> Note
+        ensures { noted self.new ≡ noted self.old }
+    {
         if let Some(found) = self.live_roots.remove(&root) {
             if let Some(key) = &found.key {
                 let _ = self.keys.swap_remove(key.as_slice());
             }
         }
-        self.live.retain(|numbered| transaction_root(&numbered.transaction) != Some(root));
         Note::Deleted
     }
 
-    fn change_by(&mut self, t: &Transaction) -> Result<Note, AllocError> {
+    fn change_by(&mut self, t: &Transaction) -> Result<Note, AllocError>
+        ensures { noted self.new ≡ noted self.old }
+    {
         match t {
             Transaction::Import(text) => self.import(text),
             Transaction::Start(root, process, version, starter, key, settings) => self.start(
@@ -352,7 +441,9 @@ impl Core {
         }
     }
 
-    fn complete_by(&mut self, t: &Transaction) -> Result<Note, AllocError> {
+    fn complete_by(&mut self, t: &Transaction) -> Result<Note, AllocError>
+        ensures { noted self.new ≡ noted self.old }
+    {
         match t {
             Transaction::Done(item, Who::Person(name), settings) => {
                 let name = name.copy(self.alloc)?;
@@ -374,22 +465,54 @@ impl Core {
         }
     }
 
-    /// Applies a transaction under a number, and keeps it where it is live.
-    pub(crate) fn apply_as(&mut self, number: u64, t: Transaction) -> Result<Applied, AllocError> {
-        let note = self.change_by(&t)?;
-        let is_delete = matches!(t, Transaction::Delete(_));
-        if !is_delete {
-            self.live.push(Numbered {
+    /// Counts the root of a Start.
+    fn count_root(&mut self, t: &Transaction)
+        ensures { noted self.new ≡ (self.old.kept, with_root_of t.now (summary self.old)) }
+    {
+        if let Some(root) = started_root(t) {
+            self.roots = self.roots.max(root);
+        }
+    }
+
+    /// Takes the transactions about a root away.
+    fn forget(&mut self, root: u64)
+        ensures { noted self.new ≡ (self.old.kept, without root (summary self.old)) }
+    {
+        self.live.retain(|numbered| !is_about(root, numbered));
+    }
+
+    /// Keeps a transaction where it is live; a Delete takes those of its root away.
+    fn keep(&mut self, number: u64, t: Transaction) -> Result<(), AllocError>
+        ensures { OnOk result (noted self.new ≡ (self.old.kept, kept_by number t (summary self.old))) }
+    {
+        match deleted_root(&t) {
+            Some(root) => self.forget(root),
+            None => self.live.push(Numbered {
                 number,
                 transaction: t,
-            })?;
+            })?,
         }
+        Ok(())
+    }
+
+    /// Applies a transaction under a number, and keeps it where it is live.
+    pub(crate) fn apply_as(&mut self, number: u64, t: Transaction) -> Result<Applied, AllocError>
+        ensures numbered { IfOk result (λ applied. applied.number ≡ number) }
+        ensures applied { OnOk result (noted self.new ≡ (self.old.kept, with_transaction self.old.number number t (summary self.old))) }
+    {
+        self.count_root(&t);
+        let note = self.change_by(&t)?;
+        self.keep(number, t)?;
         Ok(Applied { number, note })
     }
 
     /// The state after a transaction that `judge` gave. After want of memory the state isn't used.
-    pub fn apply(&mut self, t: Transaction) -> Result<Applied, AllocError> {
-        self.number = self.number.saturating_add(1);
+    pub fn apply(&mut self, t: Transaction) -> Result<Applied, AllocError>
+        requires { self.old.number < self.old.limit }
+        ensures next { OnOk result (summary self.new ≡ next t (summary self.old)) }
+        ensures number { IfOk result (λ applied. applied.number ≡ self.old.number + 1) }
+    {
+        self.number += 1;
         self.apply_as(self.number, t)
     }
 }

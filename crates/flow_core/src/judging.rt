@@ -1,4 +1,7 @@
 //! Whether a command is allowed now: the first refusal in the order of its tests, or its transaction.
+ghost use Rattle.std.specs.Prelude.{◌<◌, IfOk, OnOk};
+ghost use Rattle.flow_core.specs.Verdicts.{HasRoom};
+
 use crate::items::Known;
 use crate::paths::{copy_message, unquoted};
 use crate::refusals::{Refusal, Stop};
@@ -25,7 +28,9 @@ pub enum Verdict {
 }
 
 impl Core {
-    pub(crate) fn needs_room(&self) -> Result<(), Stop> {
+    pub(crate) fn needs_room(&self) -> Result<(), Stop>
+        ensures { OnOk result (self.now.number < self.now.limit) }
+    {
         if self.is_full() {
             Err(Stop::Refused(Refusal::Full(self.limit)))
         } else {
@@ -81,7 +86,9 @@ impl Core {
         self.needs_settings(leaves, outcome.rc.as_ref(), outcome.settings.as_slice())
     }
 
-    fn judge_import(&self, text: &Bytes) -> Result<Transaction, Stop> {
+    fn judge_import(&self, text: &Bytes) -> Result<Transaction, Stop>
+        ensures { OnOk result (self.now.number < self.now.limit) }
+    {
         match self.store.check(self.alloc, text.as_slice()) {
             Ok(_) => {}
             Err(ImportFault::NoMemory) => return Err(Stop::NoMemory),
@@ -106,7 +113,9 @@ impl Core {
         starter: &Name,
         key: Option<&Name>,
         written: &[RawSetting],
-    ) -> Result<Transaction, Stop> {
+    ) -> Result<Transaction, Stop>
+        ensures { OnOk result (self.now.number < self.now.limit) }
+    {
         self.needs_person(starter)?;
         let Some(place) = self.store.newest(process) else {
             return Err(Stop::Refused(Refusal::Process(process.copy(self.alloc)?)));
@@ -126,7 +135,9 @@ impl Core {
         ))
     }
 
-    fn judge_turn(&self, number: u64) -> Result<Transaction, Stop> {
+    fn judge_turn(&self, number: u64) -> Result<Transaction, Stop>
+        ensures { OnOk result (self.now.number < self.now.limit) }
+    {
         let count = self.queues.count();
         let queue = u8::try_from(number).unwrap_or(0);
         if queue < 1 || queue > count {
@@ -139,7 +150,9 @@ impl Core {
         Ok(Transaction::Turn(queue, copy_message(self.alloc, message)?))
     }
 
-    fn judge_claim(&self, token: &Bytes, name: &Name) -> Result<Transaction, Stop> {
+    fn judge_claim(&self, token: &Bytes, name: &Name) -> Result<Transaction, Stop>
+        ensures { OnOk result (self.now.number < self.now.limit) }
+    {
         let person = self.needs_person(name)?;
         let path = self.needs_path(token)?;
         let known = self.needs_item(token, &path)?;
@@ -148,7 +161,9 @@ impl Core {
         Ok(Transaction::Claim(path, name.copy(self.alloc)?))
     }
 
-    fn judge_release(&self, token: &Bytes, name: &Name) -> Result<Transaction, Stop> {
+    fn judge_release(&self, token: &Bytes, name: &Name) -> Result<Transaction, Stop>
+        ensures { OnOk result (self.now.number < self.now.limit) }
+    {
         self.needs_person(name)?;
         let path = self.needs_path(token)?;
         let known = self.needs_item(token, &path)?;
@@ -157,7 +172,9 @@ impl Core {
         Ok(Transaction::Release(path, name.copy(self.alloc)?))
     }
 
-    fn judge_transfer(&self, token: &Bytes, from: &Name, to: &Name) -> Result<Transaction, Stop> {
+    fn judge_transfer(&self, token: &Bytes, from: &Name, to: &Name) -> Result<Transaction, Stop>
+        ensures { OnOk result (self.now.number < self.now.limit) }
+    {
         self.needs_person(from)?;
         let person = self.needs_person(to)?;
         let path = self.needs_path(token)?;
@@ -168,7 +185,9 @@ impl Core {
         Ok(Transaction::Transfer(path, from, to))
     }
 
-    fn judge_take(&self, token: &Bytes) -> Result<Transaction, Stop> {
+    fn judge_take(&self, token: &Bytes) -> Result<Transaction, Stop>
+        ensures { OnOk result (self.now.number < self.now.limit) }
+    {
         let path = self.needs_path(token)?;
         let known = self.needs_item(token, &path)?;
         self.may_take(&known)?;
@@ -177,7 +196,9 @@ impl Core {
         Ok(Transaction::Take(path, number))
     }
 
-    fn judge_done(&self, token: &Bytes, who: &Who, outcome: &Outcome) -> Result<Transaction, Stop> {
+    fn judge_done(&self, token: &Bytes, who: &Who, outcome: &Outcome) -> Result<Transaction, Stop>
+        ensures { OnOk result (self.now.number < self.now.limit) }
+    {
         if let Who::Person(name) = who {
             self.needs_person(name)?;
         }
@@ -193,7 +214,9 @@ impl Core {
         Ok(Transaction::Done(path, who, settings))
     }
 
-    fn judge_force(&self, token: &Bytes, outcome: &Outcome) -> Result<Transaction, Stop> {
+    fn judge_force(&self, token: &Bytes, outcome: &Outcome) -> Result<Transaction, Stop>
+        ensures { OnOk result (self.now.number < self.now.limit) }
+    {
         let path = self.needs_path(token)?;
         let known = self.needs_item(token, &path)?;
         self.may_force(&known)?;
@@ -202,7 +225,9 @@ impl Core {
         Ok(Transaction::Force(path, settings))
     }
 
-    fn judge_restart(&self, token: &Bytes) -> Result<Transaction, Stop> {
+    fn judge_restart(&self, token: &Bytes) -> Result<Transaction, Stop>
+        ensures { OnOk result (self.now.number < self.now.limit) }
+    {
         let path = self.needs_path(token)?;
         let known = self.needs_item(token, &path)?;
         self.may_restart(&known)?;
@@ -259,7 +284,9 @@ impl Core {
         Ok(())
     }
 
-    fn clock_to(&self, number: &NumberAt) -> Result<Transaction, Stop> {
+    fn clock_to(&self, number: &NumberAt) -> Result<Transaction, Stop>
+        ensures { OnOk result (self.now.number < self.now.limit) }
+    {
         if number.size > MOST_MINUTES {
             let place = number.place.saturating_add(1);
             return Err(Stop::Refused(Refusal::Value(place)));
@@ -269,7 +296,9 @@ impl Core {
         Ok(Transaction::Clock(number.size))
     }
 
-    fn on_root(&self, command: &Command) -> Result<Transaction, Stop> {
+    fn on_root(&self, command: &Command) -> Result<Transaction, Stop>
+        ensures { OnOk result (self.now.number < self.now.limit) }
+    {
         let transaction = match command {
             Command::Suspend(root) => {
                 self.may_suspend(*root)?;
@@ -294,7 +323,9 @@ impl Core {
     }
 
     /// The transaction of a command other than START, or why it is refused.
-    fn transaction(&self, command: &Command) -> Result<Transaction, Stop> {
+    fn transaction(&self, command: &Command) -> Result<Transaction, Stop>
+        ensures { OnOk result (self.now.number < self.now.limit) }
+    {
         match command {
             Command::Import(text) => self.judge_import(text),
             Command::Start(process, starter, key, settings) => {
@@ -322,7 +353,9 @@ impl Core {
     }
 
     /// What becomes of a command that may make a transaction; nothing is changed.
-    pub fn judge(&self, command: &Command) -> Result<Verdict, AllocError> {
+    pub fn judge(&self, command: &Command) -> Result<Verdict, AllocError>
+        ensures { IfOk result (HasRoom self.now) }
+    {
         if let Some(root) = self.same_root(command) {
             return Ok(Verdict::Same(root));
         }

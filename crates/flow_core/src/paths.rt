@@ -1,4 +1,7 @@
 //! Paths: the queue of a message, the rank of an item, and equal messages.
+ghost use Rattle.std.specs.Prelude.{◌≡◌};
+ghost use Rattle.recover_queue.specs.Queues.{root_of as root_in};
+
 use blocks_subprocs::graph_of;
 use flow_model::{Graph, Library, Message, Part, Path, Work};
 use navigator::place_of;
@@ -28,7 +31,9 @@ fn process_count(library: &Library, graph: &Graph, parts: &[Part]) -> u64 {
 }
 
 /// The root and the parts of the scope that receives a message.
-fn receiver(message: &Message) -> (u64, &[Part]) {
+fn receiver(message: &Message) -> (u64, &[Part])
+    ensures { result.0 ≡ root_in message.now }
+{
     match message {
         Message::Begin(path) => (path.root, path.parts.as_slice()),
         Message::Signal(path, _, _, _) => (path.root, path.parts.as_slice()),
@@ -49,7 +54,9 @@ pub fn queue_of(library: &Library, graph: &Graph, queues: u8, message: &Message)
 }
 
 /// The root of a message.
-pub fn root_of(message: &Message) -> u64 {
+pub fn root_of(message: &Message) -> u64
+    ensures { result ≡ root_in message.now }
+{
     receiver(message).0
 }
 

@@ -1,4 +1,7 @@
 //! The state: what the transactions so far come to.
+ghost use Rattle.std.specs.Prelude.{◌≡◌, ◌+◌, ◌<◌, ◌↔◌, ◌≤◌, length, [], IfOk, IsTrue};
+ghost use Rattle.flow_core.specs.Summaries.{summary};
+
 use flow_model::{Graph, Library, Mode, Name, Numbered};
 use indexmap::IndexMap;
 use navigator::Instance;
@@ -47,7 +50,10 @@ impl Core {
         limit: u64,
         transactions: u64,
         roots: u64,
-    ) -> Result<Core, AllocError> {
+    ) -> Result<Core, AllocError>
+        ensures begins { IfOk result (λ core. summary core ≡ record { queues = queues; limit = limit; transactions = transactions; roots = roots; live = [] }) }
+        ensures kept { IfOk result (λ core. core.kept ≡ transactions) }
+    {
         Ok(Core {
             alloc,
             limit,
@@ -67,32 +73,52 @@ impl Core {
     }
 
     /// The state before any transaction.
-    pub fn new(alloc: Global, queues: u8, limit: u64) -> Result<Core, AllocError> {
+    pub fn new(alloc: Global, queues: u8, limit: u64) -> Result<Core, AllocError>
+        ensures { IfOk result (λ core. summary core ≡ record { queues = queues; limit = limit; transactions = 0; roots = 0; live = [] }) }
+    {
         Core::resume(alloc, queues, limit, 0, 0)
     }
 
     /// The number of transactions so far.
-    pub fn number(&self) -> u64 {
+    pub fn number(&self) -> u64
+        ensures { result ≡ self.now.number }
+    {
         self.number
     }
 
+    /// The number of the next transaction, where there is room for one.
+    pub fn next_number(&self) -> u64
+        requires { self.now.number < self.now.limit }
+        ensures { result ≡ self.now.number + 1 }
+    {
+        self.number + 1
+    }
+
     /// The number of roots so far.
-    pub fn roots(&self) -> u64 {
+    pub fn roots(&self) -> u64
+        ensures { result ≡ self.now.roots }
+    {
         self.roots
     }
 
     /// The greatest number of transactions.
-    pub fn limit(&self) -> u64 {
+    pub fn limit(&self) -> u64
+        ensures { result ≡ self.now.limit }
+    {
         self.limit
     }
 
     /// The number of queues.
-    pub fn queue_count(&self) -> u8 {
+    pub fn queue_count(&self) -> u8
+        ensures { result ≡ length self.now.queues }
+    {
         self.queues.count()
     }
 
     /// The live transactions.
-    pub fn live(&self) -> &[Numbered] {
+    pub fn live(&self) -> &[Numbered]
+        ensures { result.now ≡ self.now.live.items }
+    {
         &self.live
     }
 
@@ -102,7 +128,9 @@ impl Core {
     }
 
     /// Whether the number of transactions is the limit.
-    pub fn is_full(&self) -> bool {
+    pub fn is_full(&self) -> bool
+        ensures { IsTrue result ↔ (self.now.limit ≤ self.now.number) }
+    {
         self.number >= self.limit
     }
 

@@ -1,0 +1,6 @@
+-- Read Summaries first, then Histories, Keeping, Calls and Runs.
+pub mod Summaries
+pub mod Histories
+pub mod Keeping
+pub mod Calls
+pub mod Runs

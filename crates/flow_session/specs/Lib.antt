@@ -1,0 +1,4 @@
+pub mod Histories
+pub mod Keeping
+pub mod Runs
+pub mod Serving

@@ -1,23 +1,85 @@
 //! Where transactions are kept.
+ghost use Rattle.std.specs.Prelude.{◌≡◌, ℕ, ◌+◌, IfOk, OnOk};
+ghost use Rattle.flow_disk.specs.Images.{Image};
+ghost use Rattle.flow_disk.specs.Moments.{LeavesOnly};
+ghost use Rattle.flow_model.specs.declared.transactions.Transaction.{Transaction as TransactionOf};
+ghost use Rattle.flow_txn.specs.Records.{record_bytes};
+ghost use Rattle.flow_core.specs.Summaries.{Summary, summary, next};
+ghost use Rattle.flow_session.specs.Histories.{StandsFor};
+ghost use Rattle.flow_session.specs.Serving.{WithOrWithout};
+
 use crate::serving::Stop;
 use flow_core::Core;
 use flow_model::Transaction;
+use std::alloc::Global;
 
 /// What keeps the transactions of a session.
+///
+/// A journal may tell what a crash leaves of it. Of one that doesn't nothing is known.
 pub trait Journal {
-    /// Keeps a transaction under a number, before it is answered.
-    fn keep(&mut self, number: u64, t: &Transaction) -> Result<(), Stop>;
+    /// Whether it tells what a crash leaves of it.
+    ghost tells: { Type 0 };
+
+    /// It is open, and all that a crash may leave now stands for this summary of a history.
+    ghost holds: { Self → Summary → Type 0 };
+
+    /// The moment, as a number that doesn't fall.
+    ghost moment: { Self → ℕ };
+
+    /// What a crash at some moment from that one on might have left.
+    ghost left_since: { Self → ℕ → Image → Type 0 };
+
+    /// The payload of a transaction under a number; a journal that keeps nothing needs none.
+    fn payload(&self, number: u64, t: &Transaction) -> Result<Vec<u8>, Stop>
+        ensures { IfOk result (λ bytes. tells → bytes.items ≡ record_bytes number t.now) };
+
+    /// Keeps a payload: that of the next transaction.
+    fn keep(&mut self, payload: &[u8]) -> Result<(), Stop>
+        requires open { tells → (s : Summary) × holds self.old s }
+        ensures kept { (s : Summary) (t : TransactionOf) → tells → holds self.old s → payload.now ≡ record_bytes (s.transactions + 1) t
+            → OnOk result (holds self.new (next t s)) }
+        ensures any_moment { (s : Summary) (t : TransactionOf) → tells → holds self.old s → payload.now ≡ record_bytes (s.transactions + 1) t
+            → LeavesOnly moment left_since self.old self.new (WithOrWithout t s) };
 
     /// Keeps the live transactions alone from now on.
-    fn checkpoint(&mut self, core: &Core) -> Result<(), Stop>;
+    fn checkpoint(&mut self, core: &Core) -> Result<(), Stop>
+        requires open { tells → holds self.old (summary core.now) }
+        ensures kept { tells → OnOk result (holds self.new (summary core.now)) }
+        ensures any_moment { tells → LeavesOnly moment left_since self.old self.new (StandsFor (summary core.now)) };
+
+    /// At one moment a crash leaves what it may leave then.
+    ghost at_rest: { (journal : Self) (s : Summary) (c : Image) → tells → holds journal s → left_since journal (moment journal) c → StandsFor s c };
 }
 
 /// Keeps nothing: a history in memory.
 #[derive(Clone, Copy, Debug, PartialEq, Eq)]
-pub struct NoJournal;
+pub struct NoJournal {
+    alloc: Global,
+}
+
+impl NoJournal {
+    /// A journal that keeps nothing.
+    pub fn new(alloc: Global) -> NoJournal {
+        NoJournal { alloc }
+    }
+}
 
 impl Journal for NoJournal {
-    fn keep(&mut self, _number: u64, _t: &Transaction) -> Result<(), Stop> {
+    ghost tells = { ⊥ };
+
+    ghost holds = { λ _ _. ⊥ };
+
+    ghost moment = { λ _. 0 };
+
+    ghost left_since = { λ _ _ _. ⊥ };
+
+    ghost at_rest = { λ _ _ _ none. absurd none };
+
+    fn payload(&self, _number: u64, _t: &Transaction) -> Result<Vec<u8>, Stop> {
+        Ok(Vec::new(self.alloc))
+    }
+
+    fn keep(&mut self, _payload: &[u8]) -> Result<(), Stop> {
         Ok(())
     }
 

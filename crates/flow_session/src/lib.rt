@@ -5,9 +5,11 @@
 #![tactic(auto)]
 
 mod journal;
+mod opening;
 mod serving;
 mod store;
 
 pub use journal::{Journal, NoJournal};
+pub use opening::{open, reopen};
 pub use serving::{Input, Session, Stop};
-pub use store::{Stored, adopt, append, reopen};
+pub use store::{Stored, append};

@@ -1,11 +1,14 @@
 //! A session: the state, and the text of an IMPORT that isn't ended yet.
-ghost use Rattle.std.specs.Prelude.{◌≡◌};
+ghost use Rattle.std.specs.Prelude.{◌≡◌, ◌<◌, [], IfOk, OnOk};
+ghost use Rattle.flow_disk.specs.Moments.{LeavesOnly};
+ghost use Rattle.flow_core.specs.Summaries.{summary, next};
+ghost use Rattle.flow_session.specs.Serving.{Makes, WithOrWithout};
 ghost use Rattle.flow_session.specs.declared.serving.Stop.TheVariants.{NoMemory};
 
 use crate::journal::Journal;
 use command_lang::{CommandFault, read_command};
-use flow_core::{Core, Verdict, write_applied, write_refusal};
-use flow_model::{Bytes, Command, Transaction};
+use flow_core::{Core, Refusal, Verdict, write_applied, write_refusal};
+use flow_model::{Bytes, Command, Query, Transaction};
 use flow_text::decimal;
 use std::alloc::{AllocError, AllocFailed, Global};
 use thiserror::Error;
@@ -78,6 +81,13 @@ fn numbered(alloc: Global, text: &[u8], number: u64) -> Result<Vec<u8>, Stop> {
     Ok(out)
 }
 
+/// The reply of a refusal.
+fn refused(alloc: Global, refusal: &Refusal) -> Result<Vec<u8>, Stop> {
+    let mut out = Vec::new(alloc);
+    write_refusal(&mut out, refusal)?;
+    Ok(out)
+}
+
 /// Whether a line ends an IMPORT: `.`, or `.` and a carriage return.
 fn ends_import(line: &[u8]) -> bool {
     line == b".".as_slice() || line == b".\r".as_slice()
@@ -96,7 +106,9 @@ impl Gathered {
 
 impl Session {
     /// A session over the empty history.
-    pub fn fresh(alloc: Global, queues: u8, limit: u64) -> Result<Session, AllocError> {
+    pub fn fresh(alloc: Global, queues: u8, limit: u64) -> Result<Session, AllocError>
+        ensures { IfOk result (λ session. summary session.core ≡ record { queues = queues; limit = limit; transactions = 0; roots = 0; live = [] }) }
+    {
         Ok(Session {
             alloc,
             core: Core::new(alloc, queues, limit)?,
@@ -105,7 +117,9 @@ impl Session {
     }
 
     /// A session over a state.
-    pub fn over(alloc: Global, core: Core) -> Session {
+    pub fn over(alloc: Global, core: Core) -> Session
+        ensures { result.core ≡ core }
+    {
         Session {
             alloc,
             core,
@@ -114,47 +128,67 @@ impl Session {
     }
 
     /// The state.
-    pub fn core(&self) -> &Core {
+    pub fn core(&self) -> &Core
+        ensures { result.now ≡ self.now.core }
+    {
         &self.core
     }
 
-    /// Makes a transaction: it is kept, and then applied in memory. Where there is no memory for that, the
-    /// session ends without an answer, and a reopening applies it.
+    /// Makes a transaction: all that may want memory is done first, and then it is kept, before anything is
+    /// answered.
     fn make<J: Journal>(
         &mut self,
         journal: &mut J,
         t: Transaction,
         out: &mut Vec<u8>,
-    ) -> Result<(), Stop> {
-        journal.keep(self.core.number().saturating_add(1), &t)?;
+    ) -> Result<(), Stop>
+        requires room { self.old.core.number < self.old.core.limit }
+        requires open { J.tells → J.holds journal.old (summary self.old.core) }
+        ensures made { OnOk result (summary self.new.core ≡ next t (summary self.old.core)) }
+        ensures kept { J.tells → OnOk result (J.holds journal.new (summary self.new.core)) }
+        ensures any_moment { J.tells → LeavesOnly J.moment J.left_since journal.old journal.new (WithOrWithout t (summary self.old.core)) }
+    {
+        let payload = journal.payload(self.core.next_number(), &t)?;
         let applied = self.core.apply(t)?;
         write_applied(out, &applied)?;
-        Ok(())
+        journal.keep(&payload)
     }
 
     /// Judges a command, and makes its transaction where it is allowed.
-    fn obey<J: Journal>(&mut self, journal: &mut J, command: &Command) -> Result<Vec<u8>, Stop> {
-        let mut out = Vec::new(self.alloc);
-        match self.core.judge(command)? {
-            Verdict::Do(t) => self.make(journal, t, &mut out)?,
-            Verdict::Same(root) => return numbered(self.alloc, b"ok SAME ", root),
-            Verdict::Refused(refusal) => write_refusal(&mut out, &refusal)?,
+    fn obey<J: Journal>(&mut self, journal: &mut J, command: &Command) -> Result<Vec<u8>, Stop>
+        requires { J.tells → J.holds journal.old (summary self.old.core) }
+        ensures kept { J.tells → OnOk result (J.holds journal.new (summary self.new.core)) }
+        ensures makes { Makes J.tells J.moment J.left_since journal.old journal.new (summary self.old.core) (λ s. OnOk result (summary self.new.core ≡ s)) }
+    {
+        match self.core.judge(command) {
+            Ok(Verdict::Do(t)) => {
+                let mut out = Vec::new(self.alloc);
+                self.make(journal, t, &mut out)?;
+                Ok(out)
+            }
+            Ok(Verdict::Same(root)) => numbered(self.alloc, b"ok SAME ", root),
+            Ok(Verdict::Refused(refusal)) => refused(self.alloc, &refusal),
+            Err(_) => Err(Stop::NoMemory),
         }
-        Ok(out)
     }
 
     /// Takes the front message of a queue; whether there was one.
-    fn turn<J: Journal>(&mut self, journal: &mut J, queue: u8) -> Result<bool, Stop> {
+    fn turn<J: Journal>(&mut self, journal: &mut J, queue: u8) -> Result<bool, Stop>
+        requires { J.tells → J.holds journal.old (summary self.old.core) }
+        ensures kept { J.tells → OnOk result (J.holds journal.new (summary self.new.core)) }
+        ensures makes { Makes J.tells J.moment J.left_since journal.old journal.new (summary self.old.core) (λ s. OnOk result (summary self.new.core ≡ s)) }
+    {
         if !self.core.has_message(queue) {
             return Ok(false);
         }
-        match self.core.judge(&Command::Turn(u64::from(queue)))? {
-            Verdict::Do(t) => {
+        match self.core.judge(&Command::Turn(u64::from(queue))) {
+            Ok(Verdict::Do(t)) => {
                 let mut out = Vec::new(self.alloc);
                 self.make(journal, t, &mut out)?;
                 Ok(true)
             }
-            _ => Ok(false),
+            Ok(_) => Ok(false),
+            Err(_) => Err(Stop::NoMemory),
         }
     }
 
@@ -172,7 +206,11 @@ impl Session {
     }
 
     /// Turns on the queues one after the other, until all are empty or the limit is met.
-    fn drain<J: Journal>(&mut self, journal: &mut J) -> Result<Vec<u8>, Stop> {
+    fn drain<J: Journal>(&mut self, journal: &mut J) -> Result<Vec<u8>, Stop>
+        requires { J.tells → J.holds journal.old (summary self.old.core) }
+        ensures kept { J.tells → OnOk result (J.holds journal.new (summary self.new.core)) }
+        ensures makes { Makes J.tells J.moment J.left_since journal.old journal.new (summary self.old.core) (λ s. OnOk result (summary self.new.core ≡ s)) }
+    {
         let mut turns = 0u64;
         let mut queue = 1u8;
         for _ in 0..u64::MAX {
@@ -191,13 +229,26 @@ impl Session {
         self.drained(turns)
     }
 
-    fn checkpoint<J: Journal>(&mut self, journal: &mut J) -> Result<Vec<u8>, Stop> {
+    fn checkpoint<J: Journal>(&mut self, journal: &mut J) -> Result<Vec<u8>, Stop>
+        requires { J.tells → J.holds journal.old (summary self.old.core) }
+        ensures kept { J.tells → OnOk result (J.holds journal.new (summary self.new.core)) }
+        ensures makes { Makes J.tells J.moment J.left_since journal.old journal.new (summary self.old.core) (λ s. OnOk result (summary self.new.core ≡ s)) }
+    {
         journal.checkpoint(&self.core)?;
         numbered(self.alloc, b"ok CHECKPOINT ", self.core.live().len() as u64)
     }
 
+    /// The reply to a query.
+    fn answer(&self, query: &Query) -> Result<Vec<u8>, Stop> {
+        Ok(self.core.answer(query)?)
+    }
+
     /// The reply to a command.
-    fn command<J: Journal>(&mut self, journal: &mut J, command: &Command) -> Result<Vec<u8>, Stop> {
+    fn command<J: Journal>(&mut self, journal: &mut J, command: &Command) -> Result<Vec<u8>, Stop>
+        requires { J.tells → J.holds journal.old (summary self.old.core) }
+        ensures kept { J.tells → OnOk result (J.holds journal.new (summary self.new.core)) }
+        ensures makes { Makes J.tells J.moment J.left_since journal.old journal.new (summary self.old.core) (λ s. OnOk result (summary self.new.core ≡ s)) }
+    {
         match command {
             Command::Import(_) => {
                 self.gathered = Some(Gathered {
@@ -208,13 +259,17 @@ impl Session {
             }
             Command::Drain => self.drain(journal),
             Command::Checkpoint => self.checkpoint(journal),
-            Command::Ask(query) => Ok(self.core.answer(query)?),
+            Command::Ask(query) => self.answer(query),
             _ => self.obey(journal, command),
         }
     }
 
     /// The reply to a line outside an IMPORT.
-    fn line<J: Journal>(&mut self, journal: &mut J, line: &[u8]) -> Result<Vec<u8>, Stop> {
+    fn line<J: Journal>(&mut self, journal: &mut J, line: &[u8]) -> Result<Vec<u8>, Stop>
+        requires { J.tells → J.holds journal.old (summary self.old.core) }
+        ensures kept { J.tells → OnOk result (J.holds journal.new (summary self.new.core)) }
+        ensures makes { Makes J.tells J.moment J.left_since journal.old journal.new (summary self.old.core) (λ s. OnOk result (summary self.new.core ≡ s)) }
+    {
         if line.len() > MOST_LINE {
             return words(self.alloc, b"no LINE\n");
         }
@@ -233,7 +288,11 @@ impl Session {
         &mut self,
         journal: &mut J,
         gathered: Gathered,
-    ) -> Result<Vec<u8>, Stop> {
+    ) -> Result<Vec<u8>, Stop>
+        requires { J.tells → J.holds journal.old (summary self.old.core) }
+        ensures kept { J.tells → OnOk result (J.holds journal.new (summary self.new.core)) }
+        ensures makes { Makes J.tells J.moment J.left_since journal.old journal.new (summary self.old.core) (λ s. OnOk result (summary self.new.core ≡ s)) }
+    {
         let Gathered { text, has_long } = gathered;
         if has_long {
             return words(self.alloc, b"no LINE\n");
@@ -248,7 +307,11 @@ impl Session {
         journal: &mut J,
         gathered: Gathered,
         input: Input<'_>,
-    ) -> Result<Vec<u8>, Stop> {
+    ) -> Result<Vec<u8>, Stop>
+        requires { J.tells → J.holds journal.old (summary self.old.core) }
+        ensures kept { J.tells → OnOk result (J.holds journal.new (summary self.new.core)) }
+        ensures makes { Makes J.tells J.moment J.left_since journal.old journal.new (summary self.old.core) (λ s. OnOk result (summary self.new.core ≡ s)) }
+    {
         let mut gathered = gathered;
         match input {
             Input::Text(line) if ends_import(line) => return self.imported(journal, gathered),
@@ -271,7 +334,11 @@ impl Session {
         &mut self,
         journal: &mut J,
         input: Input<'_>,
-    ) -> Result<Vec<u8>, Stop> {
+    ) -> Result<Vec<u8>, Stop>
+        requires { J.tells → J.holds journal.old (summary self.old.core) }
+        ensures kept { J.tells → OnOk result (J.holds journal.new (summary self.new.core)) }
+        ensures makes { Makes J.tells J.moment J.left_since journal.old journal.new (summary self.old.core) (λ s. OnOk result (summary self.new.core ≡ s)) }
+    {
         if let Some(gathered) = self.gathered.take() {
             return self.gather(journal, gathered, input);
         }

@@ -1,19 +1,25 @@
-//! A session over a store: its journal, and how it is opened.
-ghost use Rattle.std.specs.Prelude.{◌≡◌, ◌+◌, ◌<◌, ◌^◌, length, IfOk, IfSome, IsTrue, ◌↔◌};
+//! The journal of a store: its log and its disk.
+ghost use Rattle.std.specs.Prelude.{◌≡◌, ◌+◌, false, IfOk, IfSome, OnOk, IsTrue, ◌↔◌};
 ghost use Rattle.std.specs.List.{All};
+ghost use Rattle.flow_disk.specs.Images.{opposite};
+ghost use Rattle.flow_disk.specs.Moments.{LeavesOnly, Only};
 ghost use Rattle.txn_log.specs.Records.{IsPayload};
+ghost use Rattle.txn_log.specs.Standing.{HasRecord, MayHaveRecord, StandsOn};
 ghost use Rattle.txn_log.specs.Stored.{InRange};
+ghost use Rattle.checkpoint.specs.Compacting.{IsCompacted, MayBeCompacted};
+ghost use Rattle.flow_core.specs.Summaries.{summary};
+ghost use Rattle.flow_session.specs.Histories.{payloads as payloads_of, IsHeaderOf};
+ghost use Rattle.flow_session.specs.Keeping.{IsOpen, rests};
 
 use crate::journal::Journal;
-use crate::serving::{Session, Stop};
+use crate::serving::Stop;
 use checkpoint::compact;
-use flow_core::{AdoptFault, Core};
-use flow_disk::{FileDisk, Slot};
+use flow_core::Core;
+use flow_disk::Disk;
 use flow_model::{Bytes, List, Numbered, Transaction};
-use flow_txn::{RecordFault, decode, encode};
+use flow_txn::encode;
 use std::alloc::{AllocError, Global};
-use std::rt::Files;
-use txn_log::{Header, Log, LogStop, MAX_PAYLOAD, Opened};
+use txn_log::{Header, Log, MAX_PAYLOAD};
 
 /// A log has fewer records.
 const MOST_RECORDS: u64 = 1 << 32;
@@ -21,12 +27,12 @@ const MOST_RECORDS: u64 = 1 << 32;
 /// A store has generations up to this one; then a CHECKPOINT writes nothing.
 const LAST_GENERATION: u64 = 1 << 62;
 
-/// The journal of a store in two files.
+/// The journal of a store.
 #[derive(Drop)]
-pub struct Stored<'r, R: Files> {
+pub struct Stored<D: Disk + Drop> {
     alloc: Global,
     log: Log,
-    disk: FileDisk<'r, R>,
+    disk: D,
 }
 
 /// Whether a payload may be appended; every record of the engine may.
@@ -36,29 +42,25 @@ fn is_payload(payload: &[u8]) -> bool
     !payload.is_empty() && payload.len() <= MAX_PAYLOAD
 }
 
-/// The payload of a live transaction.
-fn payload_of(alloc: Global, numbered: &Numbered) -> Result<Vec<u8>, AllocError> {
-    encode(alloc, numbered.number, &numbered.transaction)
-}
-
 /// The payloads of the live transactions.
 fn payloads(alloc: Global, live: &[Numbered]) -> Result<Option<List<Bytes>>, AllocError>
-    ensures { IfOk result (λ kept. IfSome kept (All IsPayload)) }
+    ensures range { IfOk result (λ kept. IfSome kept (All IsPayload)) }
+    ensures bytes { IfOk result (λ kept. IfSome kept (λ kept. kept ≡ payloads_of live.now)) }
 {
     let mut kept = List::new(alloc);
     for numbered in live {
-        let payload = Bytes::from_vec(payload_of(alloc, numbered)?);
-        if !is_payload(payload.as_slice()) {
+        let payload = encode(alloc, numbered.number, &numbered.transaction)?;
+        if !is_payload(&payload) {
             return Ok(None);
         }
-        kept.push(payload)?;
+        kept.push(Bytes::from_vec(payload))?;
     }
     Ok(Some(kept))
 }
 
 /// The header of the next generation; None where it has none.
 fn next_header(log: &Log, core: &Core) -> Option<Header>
-    ensures { IfSome result (λ header. InRange header × (header.generation ≡ log.now.generation + 1)) }
+    ensures { IfSome result (λ header. InRange header × (header.generation ≡ log.now.generation + 1) × IsHeaderOf header (summary core.now)) }
 {
     let generation = log.generation();
     let (queues, limit) = (core.queue_count(), core.limit());
@@ -78,19 +80,40 @@ fn next_header(log: &Log, core: &Core) -> Option<Header>
     })
 }
 
-impl<'r, R: Files> Stored<'r, R> {
+impl<D: Disk + Drop> Stored<D> {
     /// The journal of an opened log, which keeps its disk from now on.
-    pub fn new(alloc: Global, log: Log, disk: FileDisk<'r, R>) -> Stored<'r, R> {
+    pub fn new(alloc: Global, log: Log, disk: D) -> Stored<D>
+        ensures { (result.log ≡ log) × (result.disk ≡ disk) }
+    {
         Stored { alloc, log, disk }
+    }
+
+    /// The disk, which is the caller's again.
+    pub fn into_disk(self) -> D
+        ensures { result ≡ self.disk }
+    {
+        let Stored {
+            alloc: _,
+            log: _,
+            disk,
+        } = self;
+        disk
     }
 }
 
-/// Appends a payload to a log of two files.
-pub fn append<R: Files>(
-    log: &mut Log,
-    disk: &mut FileDisk<'_, R>,
-    payload: &[u8],
-) -> Result<(), Stop> {
+/// Appends a payload to a log.
+///
+/// `StoreFault` comes where the disk failed, or has failed before, and where the payload is longer than a
+/// record or the log is full, which no store of the program is.
+pub fn append<D: Disk>(log: &mut Log, disk: &mut D, payload: &[u8]) -> Result<(), Stop>
+    requires stands { D.tells → StandsOn log.old (D.seen disk.old) }
+    ensures stands { OnOk result (D.tells → StandsOn log.new (D.seen disk.new)) }
+    ensures added { OnOk result (D.tells → HasRecord payload.now (D.seen disk.old) (D.seen disk.new)) }
+    ensures durable { OnOk result (Only (D.seen disk.new) (D.images disk.new)) }
+    ensures alive { OnOk result (log.new.failed ≡ false) }
+    ensures any_moment { D.tells → Only (D.seen disk.old) (D.images disk.old)
+        → LeavesOnly D.moment D.left_since disk.old disk.new (MayHaveRecord payload.now (D.seen disk.old)) }
+{
     if !is_payload(payload) || log.has_failed() || log.records() >= MOST_RECORDS {
         return Err(Stop::StoreFault);
     }
@@ -100,16 +123,23 @@ pub fn append<R: Files>(
     }
 }
 
-/// Moves a log of two files to its other slot.
-fn move_log<R: Files>(
+/// Moves a log to its other slot.
+fn move_log<D: Disk>(
     log: &mut Log,
-    disk: &mut FileDisk<'_, R>,
+    disk: &mut D,
     header: &Header,
     kept: &List<Bytes>,
 ) -> Result<(), Stop>
     requires kept { All IsPayload kept.now }
     requires range { InRange header.now }
     requires next { header.now.generation ≡ log.old.generation + 1 }
+    requires stands { D.tells → StandsOn log.old (D.seen disk.old) }
+    ensures stands { OnOk result (D.tells → StandsOn log.new (D.seen disk.new)) }
+    ensures compacted { OnOk result (D.tells → IsCompacted (opposite log.old.slot) header.now kept.now (D.seen disk.new)) }
+    ensures durable { OnOk result (Only (D.seen disk.new) (D.images disk.new)) }
+    ensures alive { OnOk result (log.new.failed ≡ false) }
+    ensures any_moment { D.tells → Only (D.seen disk.old) (D.images disk.old)
+        → LeavesOnly D.moment D.left_since disk.old disk.new (MayBeCompacted (opposite log.old.slot) header.now kept.now (D.seen disk.old)) }
 {
     if log.has_failed() || kept.len() as u64 >= MOST_RECORDS {
         return Err(Stop::StoreFault);
@@ -120,10 +150,24 @@ fn move_log<R: Files>(
     }
 }
 
-impl<'r, R: Files> Journal for Stored<'r, R> {
-    fn keep(&mut self, number: u64, t: &Transaction) -> Result<(), Stop> {
-        let payload = encode(self.alloc, number, t)?;
-        append(&mut self.log, &mut self.disk, &payload)
+impl<D: Disk + Drop> Journal for Stored<D> {
+    ghost tells = { D.tells };
+
+    ghost holds = { λ journal s. IsOpen D.seen D.images journal.log journal.disk s };
+
+    ghost moment = { λ journal. D.moment journal.disk };
+
+    ghost left_since = { λ journal. D.left_since journal.disk };
+
+    ghost at_rest = { λ journal s c told is left. rests D.seen D.images journal.log journal.disk s c is (D.only_now journal.disk c left) };
+
+    fn payload(&self, number: u64, t: &Transaction) -> Result<Vec<u8>, Stop> {
+        Ok(encode(self.alloc, number, t)?)
+    }
+
+    fn keep(&mut self, payload: &[u8]) -> Result<(), Stop> {
+        append(&mut self.log, &mut self.disk, payload)?;
+        Ok(())
     }
 
     fn checkpoint(&mut self, core: &Core) -> Result<(), Stop> {
@@ -133,59 +177,7 @@ impl<'r, R: Files> Journal for Stored<'r, R> {
         let Some(kept) = payloads(self.alloc, core.live())? else {
             return Ok(());
         };
-        move_log(&mut self.log, &mut self.disk, &header, &kept)
+        move_log(&mut self.log, &mut self.disk, &header, &kept)?;
+        Ok(())
     }
-}
-
-/// Adopts a record; else the store is damaged at its gate.
-pub fn adopt(
-    alloc: Global,
-    core: &mut Core,
-    slot: Slot,
-    place: u64,
-    payload: &[u8],
-) -> Result<(), LogStop> {
-    let Numbered {
-        number,
-        transaction,
-    } = match decode(alloc, payload) {
-        Ok(numbered) => numbered,
-        Err(RecordFault::BadRecord) => return Err(LogStop::Damaged(slot, place)),
-        Err(RecordFault::NoMemory) => return Err(LogStop::NoMemory),
-    };
-    match core.adopt(number, transaction) {
-        Ok(()) => Ok(()),
-        Err(AdoptFault::NotAllowed) => Err(LogStop::Damaged(slot, place)),
-        Err(AdoptFault::NoMemory) => Err(LogStop::NoMemory),
-    }
-}
-
-/// Opens a store in two files: a session over the state that its records give, and its log.
-///
-/// `Unmade`, `Foreign` and `Damaged` come by the slots, and `Damaged` at the first record that isn't in
-/// the grammar of records or isn't allowed there.
-pub fn reopen<R: Files>(
-    alloc: Global,
-    disk: &mut FileDisk<'_, R>,
-) -> Result<(Session, Log), LogStop> {
-    let Opened {
-        log,
-        header,
-        records,
-    } = Log::reopen(alloc, disk)?;
-    let mut core = match Core::resume(
-        alloc,
-        header.queues,
-        header.limit,
-        header.transactions,
-        header.roots,
-    ) {
-        Ok(core) => core,
-        Err(_) => return Err(LogStop::NoMemory),
-    };
-    for record in records.as_slice() {
-        let payload = record.payload.as_slice();
-        adopt(alloc, &mut core, log.slot(), record.place, payload)?;
-    }
-    Ok((Session::over(alloc, core), log))
 }

@@ -6,11 +6,10 @@ use crate::stored::refuse;
 use deadlines::overdue_text;
 use explain::{activity_in, explain_word, verify_lines};
 use flow_core::Core;
-use flow_disk::FileDisk;
+use flow_disk::Disk;
 use flow_io::{Sink, Source};
 use flow_session::reopen;
 use std::alloc::Global;
-use std::rt::Files;
 
 /// Prints an answer, and says whether it is a refusal.
 pub fn print_answer<K: Sink>(out: &mut K, text: &[u8], is_refused: bool) -> Result<Status, Status> {
@@ -29,11 +28,11 @@ fn print_usage<K: Sink>(out: &mut K) -> Result<Status, Status> {
 }
 
 /// Prints why an activity is dead or finished. The word is judged before the store is opened.
-pub fn explain_in<K: Sink, R: Files>(
+pub fn explain_in<K: Sink, D: Disk>(
     alloc: Global,
     activity: &[u8],
     out: &mut K,
-    disk: &mut FileDisk<'_, R>,
+    disk: &mut D,
 ) -> Result<Status, Status> {
     if activity_in(alloc, activity)?.is_none() {
         return print_usage(out);
@@ -64,11 +63,11 @@ fn verify_over<S: Source, K: Sink>(
 }
 
 /// Prints whether the certificate that is read holds over a store.
-pub fn verify_in<S: Source, K: Sink, R: Files>(
+pub fn verify_in<S: Source, K: Sink, D: Disk>(
     alloc: Global,
     src: &mut S,
     out: &mut K,
-    disk: &mut FileDisk<'_, R>,
+    disk: &mut D,
 ) -> Result<Status, Status> {
     match reopen(alloc, disk) {
         Err(stop) => refuse(alloc, out, &stop),
@@ -77,10 +76,10 @@ pub fn verify_in<S: Source, K: Sink, R: Files>(
 }
 
 /// Prints the items of a store that have been open for too long.
-pub fn overdue_in<K: Sink, R: Files>(
+pub fn overdue_in<K: Sink, D: Disk>(
     alloc: Global,
     out: &mut K,
-    disk: &mut FileDisk<'_, R>,
+    disk: &mut D,
 ) -> Result<Status, Status> {
     match reopen(alloc, disk) {
         Err(stop) => refuse(alloc, out, &stop),

@@ -1,5 +1,6 @@
 //! A script served line by line, each reply printed before the next line is read.
-ghost use Rattle.std.specs.Prelude.{◌≡◌, ℕ, MatchResult, IfErr};
+ghost use Rattle.std.specs.Prelude.{◌≡◌, ℕ, MatchResult, IfErr, OnOk};
+ghost use Rattle.flow_core.specs.Summaries.{summary};
 ghost use Rattle.flow_words.specs.Endings.{PrintCause, RunCause, status_of};
 
 use crate::input::MOST_BYTES;
@@ -47,7 +48,9 @@ fn serve_one<J: Journal, K: Sink>(
     out: &mut K,
     input: Input<'_>,
 ) -> Result<(), Status>
-    ensures { MatchResult result (λ _. K.faults out.new ≡ K.faults out.old) (PrintCause (K.faults out.old) (K.faults out.new)) }
+    requires open { J.tells → J.holds journal.old (summary session.old.core) }
+    ensures kept { J.tells → OnOk result (J.holds journal.new (summary session.new.core)) }
+    ensures cause { MatchResult result (λ _. K.faults out.new ≡ K.faults out.old) (PrintCause (K.faults out.old) (K.faults out.new)) }
 {
     match session.serve(journal, input) {
         Err(stop) => Err(stop_status(stop)),
@@ -69,7 +72,9 @@ pub fn serve_all<S: Source, K: Sink, J: Journal>(
     src: &mut S,
     out: &mut K,
 ) -> Result<(), Status>
-    ensures { IfErr result (RunCause (S.faults src.old) (S.faults src.new) (K.faults out.old) (K.faults out.new)) }
+    requires open { J.tells → J.holds journal.old (summary session.old.core) }
+    ensures kept { J.tells → OnOk result (J.holds journal.new (summary session.new.core)) }
+    ensures cause { IfErr result (RunCause (S.faults src.old) (S.faults src.new) (K.faults out.old) (K.faults out.new)) }
 {
     let mut lines = match Lines::new(alloc, MOST_BYTES) {
         Ok(lines) => lines,
@@ -106,7 +111,7 @@ pub fn try_script<S: Source, K: Sink>(
         Err(_) => Err(Status::NoMemory),
         Ok(session) => {
             let mut session = session;
-            serve_all(alloc, &mut session, &mut NoJournal, src, out)
+            serve_all(alloc, &mut session, &mut NoJournal::new(alloc), src, out)
         }
     }
 }

@@ -1,16 +1,18 @@
 //! The words over a store in two files, and the two that make and serve one: `new` and `run`.
+ghost use Rattle.flow_core.specs.Summaries.{summary};
+ghost use Rattle.flow_session.specs.Keeping.{IsOpen};
+
 use crate::following::{follow_into, ship_from};
 use crate::looking::{explain_in, overdue_in, verify_in};
 use crate::numbers::{Settings, number_in, settings_of};
 use crate::pure::run_pure;
 use crate::script::{print, serve_all};
 use crate::status::Status;
-use flow_disk::{FileDisk, Slot};
+use flow_disk::{Disk, Slot};
 use flow_io::{Sink, Source};
-use flow_session::{Stored, reopen};
+use flow_session::{Session, Stored, reopen};
 use flow_text::decimal;
 use std::alloc::{AllocError, Global};
-use std::rt::Files;
 use txn_log::{Log, LogStop};
 
 /// The greatest number that a stream is shipped from: the greatest limit of a store.
@@ -115,11 +117,11 @@ pub fn refuse<K: Sink>(alloc: Global, out: &mut K, stop: &LogStop) -> Result<Sta
 }
 
 /// Makes a store.
-fn make<K: Sink, R: Files>(
+fn make<K: Sink, D: Disk>(
     alloc: Global,
     settings: Settings,
     out: &mut K,
-    disk: &mut FileDisk<'_, R>,
+    disk: &mut D,
 ) -> Result<Status, Status> {
     let (queues, limit) = (settings.queues, settings.limit);
     if queues < 1 || queues > 16 || limit < 1 || limit > 10_000_000 {
@@ -134,32 +136,44 @@ fn make<K: Sink, R: Files>(
     }
 }
 
+/// Serves a script over an opened store.
+fn serve_store<S: Source, K: Sink, D: Disk + Drop>(
+    alloc: Global,
+    session: Session,
+    log: Log,
+    src: &mut S,
+    out: &mut K,
+    disk: D,
+) -> Result<Status, Status>
+    requires open { D.tells → IsOpen D.seen D.images log disk (summary session.core) }
+{
+    let mut session = session;
+    let mut journal = Stored::new(alloc, log, disk);
+    serve_all(alloc, &mut session, &mut journal, src, out)?;
+    Ok(Status::Done)
+}
+
 /// Opens a store and serves a script over it.
-fn run_script<'r, S: Source, K: Sink, R: Files>(
+fn run_script<S: Source, K: Sink, D: Disk + Drop>(
     alloc: Global,
     src: &mut S,
     out: &mut K,
-    disk: FileDisk<'r, R>,
+    disk: D,
 ) -> Result<Status, Status> {
     let mut disk = disk;
     match reopen(alloc, &mut disk) {
         Err(stop) => refuse(alloc, out, &stop),
-        Ok((session, log)) => {
-            let mut session = session;
-            let mut journal = Stored::new(alloc, log, disk);
-            serve_all(alloc, &mut session, &mut journal, src, out)?;
-            Ok(Status::Done)
-        }
+        Ok((session, log)) => serve_store(alloc, session, log, src, out, disk),
     }
 }
 
 /// Does what the words say: all that the program does.
-pub fn run<'r, S: Source, K: Sink, R: Files>(
+pub fn run<S: Source, K: Sink, D: Disk + Drop>(
     alloc: Global,
     words: &[String],
     src: &mut S,
     out: &mut K,
-    disk: FileDisk<'r, R>,
+    disk: D,
 ) -> Status {
     let mut disk = disk;
     let done = match word_of(words) {
@@ -170,7 +184,7 @@ pub fn run<'r, S: Source, K: Sink, R: Files>(
         Some(Word::Verify) => verify_in(alloc, src, out, &mut disk),
         Some(Word::Overdue) => overdue_in(alloc, out, &mut disk),
         Some(Word::Ship(from)) => ship_from(alloc, from, out, &mut disk),
-        Some(Word::Follow) => follow_into(alloc, src, out, &mut disk),
+        Some(Word::Follow) => follow_into(alloc, src, out, disk),
     };
     match done {
         Ok(status) => status,

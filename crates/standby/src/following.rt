@@ -1,19 +1,25 @@
 //! A stream taken into a store.
-ghost use Rattle.std.specs.Prelude.{◌≡◌, ℕ, IfErr, MatchResult};
+ghost use Rattle.std.specs.Prelude.{◌≡◌, ℕ, IfErr, IsOk, MatchResult, OnOk};
+ghost use Rattle.flow_disk.specs.Images.{Image};
+ghost use Rattle.flow_disk.specs.Moments.{Only};
+ghost use Rattle.flow_txn.specs.Records.{record_bytes};
+ghost use Rattle.flow_core.specs.Summaries.{summary};
+ghost use Rattle.flow_session.specs.Histories.{StandsFor};
+ghost use Rattle.flow_session.specs.Keeping.{IsOpen};
+ghost use Rattle.flow_session.specs.Runs.{KeepsOrServes};
+ghost use Rattle.flow_session.specs.Serving.{Makes};
 ghost use Rattle.standby.specs.Endings.{FollowEnd};
 
 use crate::blocks::Blocks;
 use crate::frames::{END, FRAME, FRONT, Front, agrees, front_of, length_of};
-use crate::opening::open;
 use crate::stops::FollowStop;
 use flow_core::{AdoptFault, Core};
-use flow_disk::FileDisk;
+use flow_disk::Disk;
 use flow_io::Source;
 use flow_model::Numbered;
-use flow_session::append;
+use flow_session::{Journal, Stored, open};
 use flow_txn::{RecordFault, decode};
 use std::alloc::Global;
-use std::rt::Files;
 use txn_log::{Log, LogStop, MAX_PAYLOAD};
 
 /// What following came to: the number of the store's transactions, and how many of them were taken.
@@ -25,18 +31,48 @@ pub struct Followed {
 
 /// The store that follows.
 #[derive(Drop)]
-struct Standby<'d, 'r, R: Files> {
+struct Standby<D: Disk + Drop> {
     alloc: Global,
     core: Core,
-    log: Log,
-    disk: &'d mut FileDisk<'r, R>,
+    journal: Stored<D>,
     taken: u64,
 }
 
-impl<'d, 'r, R: Files> Standby<'d, 'r, R> {
+/// Takes a stream into an opened store, and gives the disk back.
+fn follow_from<S: Source, D: Disk + Drop>(
+    alloc: Global,
+    core: Core,
+    log: Log,
+    src: &mut S,
+    disk: D,
+) -> (Result<Followed, FollowStop>, D)
+    requires open { D.tells → IsOpen D.seen D.images log disk (summary core) }
+    ensures { Makes D.tells D.moment D.left_since disk result.1 (summary core) (λ s. IsOk result.0 → D.tells → (c : Image) → D.images result.1 c → StandsFor s c) }
+{
+    let mut standby = Standby {
+        alloc,
+        core,
+        journal: Stored::new(alloc, log, disk),
+        taken: 0,
+    };
+    let followed = standby.take_stream(src);
+    let Standby {
+        alloc: _,
+        core: _,
+        journal,
+        taken: _,
+    } = standby;
+    (followed, journal.into_disk())
+}
+
+impl<D: Disk + Drop> Standby<D> {
     /// Takes a transaction: it is passed over where the store has it, else adopted and then appended.
     fn take(&mut self, numbered: Numbered, payload: &[u8]) -> Result<(), FollowStop>
-        ensures { IfErr result (λ stop. (count : ℕ) → FollowEnd count count stop) }
+        requires open { D.tells → IsOpen D.seen D.images self.old.journal.log self.old.journal.disk (summary self.old.core) }
+        requires spelled { record_bytes numbered.number numbered.transaction ≡ payload.now }
+        ensures kept { OnOk result (D.tells → IsOpen D.seen D.images self.new.journal.log self.new.journal.disk (summary self.new.core)) }
+        ensures makes { Makes D.tells D.moment D.left_since self.old.journal.disk self.new.journal.disk (summary self.old.core) (λ s. OnOk result (summary self.new.core ≡ s)) }
+        ensures cause { IfErr result (λ stop. (count : ℕ) → FollowEnd count count stop) }
     {
         let Numbered {
             number,
@@ -50,7 +86,7 @@ impl<'d, 'r, R: Files> Standby<'d, 'r, R> {
             Err(AdoptFault::NotAllowed) => return Err(FollowStop::NotAllowed(number)),
             Err(AdoptFault::NoMemory) => return Err(FollowStop::NoMemory),
         }
-        match append(&mut self.log, &mut *self.disk, payload) {
+        match self.journal.keep(payload) {
             Ok(()) => {}
             Err(_) => return Err(FollowStop::Store(LogStop::StoreFault)),
         }
@@ -60,7 +96,10 @@ impl<'d, 'r, R: Files> Standby<'d, 'r, R> {
 
     /// Takes the payload of the frame at a place, which has to be the record of this number.
     fn take_payload(&mut self, place: u64, number: u64, payload: &[u8]) -> Result<(), FollowStop>
-        ensures { IfErr result (λ stop. (count : ℕ) → FollowEnd count count stop) }
+        requires open { D.tells → IsOpen D.seen D.images self.old.journal.log self.old.journal.disk (summary self.old.core) }
+        ensures kept { OnOk result (D.tells → IsOpen D.seen D.images self.new.journal.log self.new.journal.disk (summary self.new.core)) }
+        ensures makes { Makes D.tells D.moment D.left_since self.old.journal.disk self.new.journal.disk (summary self.old.core) (λ s. OnOk result (summary self.new.core ≡ s)) }
+        ensures cause { IfErr result (λ stop. (count : ℕ) → FollowEnd count count stop) }
     {
         match decode(self.alloc, payload) {
             Ok(numbered) if numbered.number == number => self.take(numbered, payload),
@@ -95,7 +134,11 @@ impl<'d, 'r, R: Files> Standby<'d, 'r, R> {
         src: &mut S,
         blocks: &mut Blocks,
         from: u64,
-    ) -> Result<(), FollowStop> {
+    ) -> Result<(), FollowStop>
+        requires open { D.tells → IsOpen D.seen D.images self.old.journal.log self.old.journal.disk (summary self.old.core) }
+        ensures kept { OnOk result (D.tells → IsOpen D.seen D.images self.new.journal.log self.new.journal.disk (summary self.new.core)) }
+        ensures makes { Makes D.tells D.moment D.left_since self.old.journal.disk self.new.journal.disk (summary self.old.core) (λ s. OnOk result (summary self.new.core ≡ s)) }
+    {
         let mut payload = Vec::new(self.alloc);
         'frames: for number in from.saturating_add(1)..u64::MAX {
             let place = blocks.place();
@@ -109,7 +152,11 @@ impl<'d, 'r, R: Files> Standby<'d, 'r, R> {
     }
 
     /// Takes a stream.
-    fn take_stream<S: Source>(&mut self, src: &mut S) -> Result<Followed, FollowStop> {
+    fn take_stream<S: Source>(&mut self, src: &mut S) -> Result<Followed, FollowStop>
+        requires open { D.tells → IsOpen D.seen D.images self.old.journal.log self.old.journal.disk (summary self.old.core) }
+        ensures kept { OnOk result (D.tells → IsOpen D.seen D.images self.new.journal.log self.new.journal.disk (summary self.new.core)) }
+        ensures makes { Makes D.tells D.moment D.left_since self.old.journal.disk self.new.journal.disk (summary self.old.core) (λ s. OnOk result (summary self.new.core ≡ s)) }
+    {
         let mut blocks = Blocks::new(self.alloc)?;
         let mut bytes = Vec::new(self.alloc);
         let _ = blocks.read(src, FRONT, &mut bytes)?;
@@ -163,24 +210,22 @@ fn at_end<S: Source>(src: &mut S, blocks: &mut Blocks) -> Result<(), FollowStop>
     Ok(())
 }
 
-/// Takes a stream into a store.
+/// Takes a stream into a store, and gives the disk back.
 ///
 /// The store is opened first. A refusal comes at the first place of the stream where one holds, and what was
 /// taken before it stays. In the front of the stream they are judged in the order `Frame`, `Cut`, `Other`,
 /// `Gap`; of a frame its first byte and its length are judged before `Cut`, and its payload where it is whole.
 /// `Store` with `StoreFault` comes where the disk failed, `ReadFault` where the source did.
-pub fn follow<S: Source, R: Files>(
+pub fn follow<S: Source, D: Disk + Drop>(
     alloc: Global,
     src: &mut S,
-    disk: &mut FileDisk<'_, R>,
-) -> Result<Followed, FollowStop> {
-    let (core, opened) = open(alloc, disk)?;
-    let mut standby = Standby {
-        alloc,
-        core,
-        log: opened.log,
-        disk,
-        taken: 0,
-    };
-    standby.take_stream(src)
+    disk: D,
+) -> (Result<Followed, FollowStop>, D)
+    ensures { D.tells → Only (D.seen disk) (D.images disk) → KeepsOrServes D.tells D.moment D.left_since D.seen D.images disk result.1 (IsOk result.0) }
+{
+    let mut disk = disk;
+    match open(alloc, &mut disk) {
+        Err(stop) => (Err(FollowStop::from(stop)), disk),
+        Ok((core, opened)) => follow_from(alloc, core, opened.log, src, disk),
+    }
 }

@@ -8,7 +8,6 @@
 mod blocks;
 mod following;
 mod frames;
-mod opening;
 mod shipping;
 mod stops;
 mod text;

@@ -1,14 +1,15 @@
 //! The transactions of a store as a stream.
 ghost use Rattle.std.specs.Prelude.{◌≡◌, ℕ, MatchResult};
+ghost use Rattle.flow_disk.specs.Moments.{Only};
+ghost use Rattle.flow_session.specs.Runs.{KeepsStore};
 ghost use Rattle.standby.specs.Endings.{ShipEnd};
 
 use crate::frames::{Front, write_end, write_frame, write_front};
-use crate::opening::open;
 use crate::stops::ShipStop;
-use flow_disk::FileDisk;
+use flow_disk::Disk;
 use flow_io::{Sink, put_all};
+use flow_session::open;
 use std::alloc::Global;
-use std::rt::Files;
 use txn_log::Record;
 
 /// So many bytes are put at once, and at most one frame more.
@@ -55,12 +56,14 @@ fn last_of(records: &[Record], count: u64) -> &[Record] {
 /// `Store` comes where the store isn't opened, `Gone` where the number is below that of the transactions
 /// before the first record that the store keeps whole, and `Ahead` where it is above that of the
 /// transactions; then nothing is put. `WriteFault` and `NoMemory` leave a front part of the stream put.
-pub fn ship<K: Sink, R: Files>(
+pub fn ship<K: Sink, D: Disk>(
     alloc: Global,
-    disk: &mut FileDisk<'_, R>,
+    disk: &mut D,
     from: u64,
     out: &mut K,
-) -> Result<u64, ShipStop> {
+) -> Result<u64, ShipStop>
+    ensures { D.tells → Only (D.seen disk.old) (D.images disk.old) → KeepsStore D.moment D.left_since D.seen disk.old disk.new }
+{
     let (core, opened) = open(alloc, disk)?;
     if from < opened.header.transactions {
         return Err(ShipStop::Gone(opened.header.transactions));

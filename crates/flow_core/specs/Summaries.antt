@@ -1,0 +1,125 @@
+-- What a history comes to, as far as a store keeps it: its counts, and its live transactions under their numbers.
+use Rattle.std.specs.Prelude.{◌≡◌, ◌⊎◌, ℕ, ◌+◌, ◌<◌, ◌≤◌, ◌==◌, max, nat_le, Bool, true, false, not, if◌then◌else◌, Option, Some, None, List, [], ◌∷◌, ◌++◌, length}
+use Rattle.std.specs.List.{filter}
+use Rattle.flow_model.specs.declared.transactions.Transaction.{Transaction}
+use Rattle.flow_model.specs.declared.transactions.Transaction.TheVariants.{Import, Start, Turn, Claim, Release, Transfer, Take, Done, Force, Restart, Suspend, Resume, Terminate, Delete, Clock}
+use Rattle.flow_model.specs.declared.transactions.Numbered.{Numbered}
+use Rattle.recover_queue.specs.Queues.{root_of as root_of_message}
+use Rattle.flow_core.specs.declared.state.Core.{Core}
+
+-- how many queues there are, how many transactions there may be, how many there and how many roots there were so far, and the transactions that are live
+pub record Summary : Type 0 where
+  pub queues : ℕ
+  pub limit : ℕ
+  pub transactions : ℕ
+  pub roots : ℕ
+  pub live : List Numbered
+
+-- the summary that a state keeps
+abbrev pub summary : Core → Summary
+summary c = record { queues = length c.queues; limit = c.limit; transactions = c.number; roots = c.roots; live = c.live.items }
+
+-- the same, with the number up to which records are kept ones
+abbrev pub noted : Core → ℕ × Summary
+noted c = (c.kept, summary c)
+
+-- the root that a transaction is about
+abbrev pub root_about : Transaction → Option ℕ
+root_about (Import text) = None
+root_about (Start root process version starter key settings) = Some root
+root_about (Turn queue message) = Some (root_of_message message)
+root_about (Claim item who) = Some item.root
+root_about (Release item who) = Some item.root
+root_about (Transfer item who to) = Some item.root
+root_about (Take item take) = Some item.root
+root_about (Done item who settings) = Some item.root
+root_about (Force item settings) = Some item.root
+root_about (Restart item) = Some item.root
+root_about (Suspend root) = Some root
+root_about (Resume root) = Some root
+root_about (Terminate root) = Some root
+root_about (Delete root) = Some root
+root_about (Clock minutes) = None
+
+abbrev pub is_root : ℕ → Option ℕ → Bool
+is_root root None = false
+is_root root (Some other) = other == root
+
+-- the root that a transaction deletes
+abbrev pub deleted : Transaction → Option ℕ
+deleted (Delete root) = Some root
+deleted t = None
+
+-- the root that a transaction starts
+abbrev pub started : Transaction → Option ℕ
+started (Start root process version starter key settings) = Some root
+started t = None
+
+-- the live transactions without those about a root
+abbrev pub without_root : ℕ → List Numbered → List Numbered
+without_root root live = filter (λ n. not (is_root root (root_about n.transaction))) live
+
+-- the live transactions after one more: a Delete takes those about its root away and isn't live itself, every other one stays
+abbrev pub live_by : Option ℕ → ℕ → Transaction → List Numbered → List Numbered
+live_by None number t live = live ++ record { number = number; transaction = t } ∷ []
+live_by (Some root) number t live = without_root root live
+
+abbrev pub live_after : ℕ → Transaction → List Numbered → List Numbered
+live_after number t live = live_by (deleted t) number t live
+
+-- the number of roots after one more transaction: a Start counts one that is greater
+abbrev pub roots_by : Option ℕ → ℕ → ℕ
+roots_by None roots = roots
+roots_by (Some root) roots = max root roots
+
+abbrev pub roots_after : Transaction → ℕ → ℕ
+roots_after t roots = roots_by (started t) roots
+
+-- a summary that counts the root of a transaction
+abbrev pub with_root_of : Transaction → Summary → Summary
+with_root_of t s = record { queues = s.queues; limit = s.limit; transactions = s.transactions; roots = roots_after t s.roots; live = s.live }
+
+-- a summary with these live transactions
+abbrev pub with_live : List Numbered → Summary → Summary
+with_live live s = record { queues = s.queues; limit = s.limit; transactions = s.transactions; roots = s.roots; live = live }
+
+-- a summary without the transactions about a root
+abbrev pub without : ℕ → Summary → Summary
+without root s = with_live (without_root root s.live) s
+
+-- a summary that keeps a transaction under this number
+abbrev pub kept_by : ℕ → Transaction → Summary → Summary
+kept_by number t s = with_live (live_after number t s.live) s
+
+-- a summary with one transaction more under this number, where so many are there then
+abbrev pub with_transaction : ℕ → ℕ → Transaction → Summary → Summary
+with_transaction transactions number t s = record {
+  queues = s.queues;
+  limit = s.limit;
+  transactions = transactions;
+  roots = roots_after t s.roots;
+  live = live_after number t s.live;
+}
+
+-- the summary after the next transaction
+abbrev pub next : Transaction → Summary → Summary
+next t s = with_transaction (s.transactions + 1) (s.transactions + 1) t s
+
+-- a summary that counts the number of a record, where it isn't one that was kept
+abbrev pub counted : ℕ → ℕ → Summary → Summary
+counted kept number s = record { queues = s.queues; limit = s.limit; transactions = if nat_le number kept then s.transactions else number; roots = s.roots; live = s.live }
+
+-- the summary after a record is taken up: one that was kept from the transactions up to a number, or the next one
+abbrev pub taken_up : ℕ → Numbered → Summary → Summary
+taken_up kept n s = with_transaction (counted kept n.number s).transactions n.number n.transaction s
+
+-- a record may stand there: one that was kept is no Delete and counts no root, each other one is the next transaction
+abbrev pub Follows : ℕ → Summary → Numbered → Type 0
+Follows kept s n =
+    ((n.number ≤ kept) × (kept ≡ s.transactions) × (deleted n.transaction ≡ None) × (roots_after n.transaction s.roots ≡ s.roots))
+    ⊎ ((kept < n.number) × (n.number ≡ s.transactions + 1))
+
+-- the summary after these records, in order
+abbrev pub all_taken_up : ℕ → List Numbered → Summary → Summary
+all_taken_up kept [] s = s
+all_taken_up kept (n ∷ ns) s = all_taken_up kept ns (taken_up kept n s)

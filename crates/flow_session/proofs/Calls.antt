@@ -1,0 +1,73 @@
+-- Calls of a session, one after the other.
+use Rattle.std.proofs.Common.{◌≡◌, ◌⊎◌, inl, inr, ⊎_elim, ℕ, zero, suc, ◌+◌, List, [], ◌∷◌, ◌++◌, length, take, refl, sym, ap, subst, ◌∙◌, arith}
+use Rattle.flow_disk.specs.Images.{Image}
+use Rattle.flow_disk.specs.Moments.{LeavesOnly}
+use Rattle.flow_disk.proofs.Runs.{weaker, joined}
+use Rattle.flow_model.specs.declared.transactions.Transaction.{Transaction}
+use Rattle.flow_core.specs.Summaries.{Summary, next}
+use Rattle.flow_session.specs.Histories.{StandsFor, StandsAfterSome, after}
+use Rattle.flow_session.specs.Serving.{Makes, WithOrWithout}
+use Rattle.flow_session.proofs.Keeping.{nothing_done}
+
+after_append : (s : Summary) (ts us : List Transaction) → after s (ts ++ us) ≡ after (after s ts) us
+after_append s [] us = refl
+after_append s (t ∷ ts) us = after_append (next t s) ts us
+
+-- the first so many of a list are the first so many of a longer one
+take_front : (n : ℕ) (ts us : List Transaction) → (m : ℕ) × (take m (ts ++ us) ≡ take n ts)
+take_front zero ts us = (0, refl)
+take_front (suc n) [] us = (0, refl)
+take_front (suc n) (t ∷ ts) us = let rest = take_front n ts us in (suc rest.0, ap (λ xs. t ∷ xs) rest.1)
+
+take_past : (n : ℕ) (ts us : List Transaction) → (m : ℕ) × (take m (ts ++ us) ≡ ts ++ take n us)
+take_past n [] us = (n, refl)
+take_past n (t ∷ ts) us = let rest = take_past n ts us in (suc rest.0, ap (λ xs. t ∷ xs) rest.1)
+
+some_in_front : (s : Summary) (ts us : List Transaction) (c : Image) → StandsAfterSome s ts c → StandsAfterSome s (ts ++ us) c
+some_in_front s ts us c some = let m = take_front some.0 ts us in (m.0, subst (λ xs. StandsFor (after s xs) c) (sym m.1) some.1)
+
+some_behind : (s : Summary) (ts us : List Transaction) (c : Image) → StandsAfterSome (after s ts) us c → StandsAfterSome s (ts ++ us) c
+some_behind s ts us c some =
+    let m = take_past some.0 ts us in
+    (m.0, subst (λ x. StandsFor x c) (sym (ap (after s) m.1 ∙ after_append s ts (take some.0 us))) some.1)
+
+module _ {J : Type 0} (tells : Type 0) (moment : J → ℕ) (left_since : J → ℕ → Image → Type 0) where
+  -- a call that makes no transaction
+  pub makes_none : (old new : J) (s : Summary) (IsEnd : Summary → Type 0) → (tells → LeavesOnly moment left_since old new (StandsFor s)) → IsEnd s → Makes tells moment left_since old new s IsEnd
+  makes_none old new s IsEnd leaves ended = record {
+    transactions = [];
+    any_moment = λ told. weaker moment left_since (λ journal c. left_since journal 0 c) old new (StandsFor s) (StandsAfterSome s []) (leaves told) (λ c stands. (0, stands));
+    ended = ended;
+  }
+
+  -- a call that makes one
+  pub makes_one : (old new : J) (s : Summary) (t : Transaction) (IsEnd : Summary → Type 0) → (tells → LeavesOnly moment left_since old new (WithOrWithout t s)) → IsEnd (next t s) → Makes tells moment left_since old new s IsEnd
+  makes_one old new s t IsEnd leaves ended = record {
+    transactions = t ∷ [];
+    any_moment = λ told. weaker moment left_since (λ journal c. left_since journal 0 c) old new (WithOrWithout t s) (StandsAfterSome s (t ∷ [])) (leaves told)
+      (λ c may. ⊎_elim (λ stands. (0, stands)) (λ stands. (1, stands)) may);
+    ended = ended;
+  }
+
+  -- one call after another
+  pub makes_more : (old mid new : J) (s now : Summary) (IsEnd : Summary → Type 0) → Makes tells moment left_since old mid s (λ x. now ≡ x) → Makes tells moment left_since mid new now IsEnd → Makes tells moment left_since old new s IsEnd
+  makes_more old mid new s now IsEnd first second = record {
+    transactions = first.transactions ++ second.transactions;
+    any_moment = λ told.
+      joined moment left_since (λ journal c. left_since journal 0 c) old mid new (StandsAfterSome s (first.transactions ++ second.transactions))
+        (weaker moment left_since (λ journal c. left_since journal 0 c) old mid _ (StandsAfterSome s (first.transactions ++ second.transactions)) (first.any_moment told) (λ c some. some_in_front s first.transactions second.transactions c some))
+        (weaker moment left_since (λ journal c. left_since journal 0 c) mid new _ (StandsAfterSome s (first.transactions ++ second.transactions)) (second.any_moment told)
+          (λ c some. some_behind s first.transactions second.transactions c (subst (λ x. StandsAfterSome x second.transactions c) first.ended some)));
+    ended = subst IsEnd (ap (λ x. after x second.transactions) first.ended ∙ sym (after_append s first.transactions second.transactions)) second.ended;
+  }
+
+  -- a call that leaves an open journal alone
+  pub makes_nothing : (holds : J → Summary → Type 0) → ((journal : J) (s : Summary) (c : Image) → tells → holds journal s → left_since journal (moment journal) c → StandsFor s c) → (journal : J) (s : Summary) (IsEnd : Summary → Type 0) → (tells → holds journal s) → IsEnd s → Makes tells moment left_since journal journal s IsEnd
+  makes_nothing holds at_rest journal s IsEnd is ended =
+      makes_none journal journal s IsEnd (λ told. nothing_done moment left_since journal (StandsFor s) (λ c left. at_rest journal s c told (is told) left)) ended
+
+  -- one call after another, where the last one ends otherwise
+  pub makes_last : (old mid new : J) (s now : Summary) (IsMid IsEnd : Summary → Type 0) → Makes tells moment left_since old mid s (λ x. now ≡ x) → Makes tells moment left_since mid new now IsMid → ((x : Summary) → IsMid x → IsEnd x) → Makes tells moment left_since old new s IsEnd
+  makes_last old mid new s now IsMid IsEnd first second leads =
+      let all = makes_more old mid new s now IsMid first second in
+      record { transactions = all.transactions; any_moment = all.any_moment; ended = leads _ all.ended }

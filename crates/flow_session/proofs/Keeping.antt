@@ -1,0 +1,59 @@
+-- An open journal at rest, and a store whose records are taken up one after the other.
+use Rattle.std.proofs.Common.{◌≡◌, ◌⊎◌, inl, inr, ℕ, ◌+◌, ◌≤◌, ◌<◌, false, List, [], ◌∷◌, ◌++◌, subst, sym, ap, refl, ◌∙◌, arith}
+use Rattle.std.specs.List.{All}
+use Rattle.std.proofs.lemmas.List.{map-append}
+use Rattle.std.proofs.lemmas.List.Elements.{All-nil}
+use Rattle.std.proofs.lemmas.Bool.{lt-leb, le-leb}
+use Rattle.flow_model.specs.declared.transactions.Numbered.{Numbered}
+use Rattle.txn_log.specs.declared.header.Header.{Header}
+use Rattle.txn_log.specs.Stores.{Counts, store_of}
+use Rattle.flow_disk.specs.declared.disk.Slot.{Slot}
+use Rattle.flow_txn.specs.Records.{record_bytes}
+use Rattle.flow_disk.specs.Images.{Image}
+use Rattle.flow_disk.specs.Moments.{LeavesOnly, Only}
+use Rattle.txn_log.specs.declared.log.Log.{Log}
+use Rattle.flow_core.specs.Summaries.{Summary, Follows, taken_up}
+use Rattle.flow_session.specs.Histories.{StandsFor, IsLive, payloads, under}
+use Rattle.flow_session.specs.Keeping.{Brings}
+use Rattle.flow_session.proofs.Summaries.{live_with, all_append}
+
+-- nothing was done
+pub nothing_done : {J : Type 0} (moment : J → ℕ) (left_since : J → ℕ → Image → Type 0) (journal : J) (P : Image → Type 0) → ((c : Image) → left_since journal (moment journal) c → P c) → LeavesOnly moment left_since journal journal P
+nothing_done moment left_since journal P here = record { later = omega arith; each = here; before = λ t c le left. inl left }
+
+-- no record yet
+pub brings_none : (h : Header) → Brings h [] (under h)
+brings_none h = record { records = []; spelled = refl; comes_to = refl; later = omega arith; live = All-nil (IsLive (under h)) }
+
+taken_facts : (kept : ℕ) (s : Summary) (n : Numbered) → kept ≤ s.transactions → All (IsLive s) s.live → Follows kept s n → (kept ≤ (taken_up kept n s).transactions) × All (IsLive (taken_up kept n s)) (taken_up kept n s).live
+taken_facts kept s n le all (inl f) = rw (le-leb n.number kept f.0) (le, live_with s s.transactions n.number n.transaction (omega arith) (omega (arith, f.0, f.1)) all)
+taken_facts kept s n le all (inr f) = rw (lt-leb n.number kept f.0) (omega (arith, f.0), live_with s n.number n.number n.transaction (omega (arith, f.1)) (omega arith) all)
+
+-- one record more
+pub brings_more : (h : Header) (bytes : List (List ℕ)) (payload : List ℕ) (s s' : Summary) (n : Numbered) → Brings h bytes s → record_bytes n.number n.transaction ≡ payload → Follows h.transactions s n → s' ≡ taken_up h.transactions n s → Brings h (bytes ++ payload ∷ []) s'
+brings_more h bytes payload s s' n b spelled follows is =
+    let facts = taken_facts h.transactions s n b.later b.live follows in
+    subst (Brings h (bytes ++ payload ∷ [])) (sym is) (record {
+      records = b.records ++ n ∷ [];
+      spelled = map-append (λ m. record_bytes m.number m.transaction) b.records (n ∷ []) ∙ ap (λ xs. xs ++ record_bytes n.number n.transaction ∷ []) b.spelled ∙ ap (λ x. bytes ++ x ∷ []) spelled;
+      comes_to = all_append h.transactions b.records n (under h) ∙ ap (taken_up h.transactions n) b.comes_to;
+      later = facts.0;
+      live = facts.1;
+    })
+
+-- an opened store stands for what its records bring
+pub stands_for : (slot : Slot) (h : Header) (bytes : List (List ℕ)) (end : ℕ) (image : Image) (s : Summary) → store_of image ≡ Counts slot h bytes end → Brings h bytes s → StandsFor s image
+stands_for slot h bytes end image s counts b = record {
+  slot = slot;
+  header = h;
+  records = b.records;
+  end = end;
+  counts = counts ∙ ap (λ ps. Counts slot h ps end) (sym b.spelled);
+  comes_to = b.comes_to;
+  later = b.later;
+  live = b.live;
+}
+
+-- what a disk leaves, its journal leaves
+pub in_journal : {J D : Type 0} (disk_of : J → D) (moment : D → ℕ) (left_since : D → ℕ → Image → Type 0) (old new : J) (P : Image → Type 0) → LeavesOnly moment left_since (disk_of old) (disk_of new) P → LeavesOnly (λ j. moment (disk_of j)) (λ j. left_since (disk_of j)) old new P
+in_journal disk_of moment left_since old new P run = record { later = run.later; each = run.each; before = run.before }

@@ -1,0 +1,38 @@
+-- A run over a store: it is opened, and then served.
+use Rattle.std.proofs.Common.{◌≡◌, ℕ, subst, sym, refl}
+use Rattle.flow_disk.specs.Images.{Image}
+use Rattle.flow_disk.specs.Moments.{LeavesOnly, Only}
+use Rattle.flow_disk.proofs.Runs.{weaker}
+use Rattle.flow_core.specs.Summaries.{Summary}
+use Rattle.flow_session.specs.Histories.{StandsFor}
+use Rattle.flow_session.specs.Runs.{KeepsStore, ServesStore}
+use Rattle.flow_session.specs.Serving.{Makes}
+use Rattle.flow_session.proofs.Calls.{makes_none, makes_more}
+
+-- what a journal leaves, its disk leaves
+pub on_disk : {J D : Type 0} (disk_of : J → D) (moment : D → ℕ) (left_since : D → ℕ → Image → Type 0) (old new : J) (P : Image → Type 0) → LeavesOnly (λ j. moment (disk_of j)) (λ j. left_since (disk_of j)) old new P → LeavesOnly moment left_since (disk_of old) (disk_of new) P
+on_disk disk_of moment left_since old new P run = record { later = run.later; each = run.each; before = run.before }
+
+pub makes_on_disk : {J D : Type 0} (disk_of : J → D) (tells : Type 0) (moment : D → ℕ) (left_since : D → ℕ → Image → Type 0) (old new : J) (s : Summary) (IsEnd IsLast : Summary → Type 0) → Makes tells (λ j. moment (disk_of j)) (λ j. left_since (disk_of j)) old new s IsEnd → ((x : Summary) → IsEnd x → IsLast x) → Makes tells moment left_since (disk_of old) (disk_of new) s IsLast
+makes_on_disk disk_of tells moment left_since old new s IsEnd IsLast makes leads = record {
+  transactions = makes.transactions;
+  any_moment = λ told. on_disk disk_of moment left_since old new _ (makes.any_moment told);
+  ended = leads _ makes.ended;
+}
+
+module _ {D : Type 0} (tells : Type 0) (moment : D → ℕ) (left_since : D → ℕ → Image → Type 0) (seen : D → Image) (images : D → Image → Type 0) where
+  -- a store that is opened alone
+  pub opened : (old new : D) → Only (seen old) (images old) → LeavesOnly moment left_since old new (images old) → KeepsStore moment left_since seen old new
+  opened old new only leaves = weaker moment left_since images old new (images old) (λ image. image ≡ seen old) leaves (λ c left. only c left)
+
+  -- a store that is opened, and served from then on
+  pub served : (old mid new : D) (s : Summary) (IsDone : Type 0) → KeepsStore moment left_since seen old mid → seen mid ≡ seen old → StandsFor s (seen mid) → Makes tells moment left_since mid new s (λ now. IsDone → (image : Image) → images new image → StandsFor now image) → ServesStore tells moment left_since seen images old new IsDone
+  served old mid new s IsDone keeps same stands makes =
+      let stood : StandsFor s (seen old) = subst (StandsFor s) same stands in
+      record {
+        before = s;
+        stood = stood;
+        makes = makes_more tells moment left_since old mid new s s (λ now. IsDone → (image : Image) → images new image → StandsFor now image)
+          (makes_none tells moment left_since old mid s (λ x. s ≡ x) (λ told. weaker moment left_since images old mid (λ image. image ≡ seen old) (StandsFor s) keeps (λ c is. subst (StandsFor s) (sym is) stood)) refl)
+          makes;
+      }

@@ -1,0 +1,10 @@
+use Rattle.std.proofs.Common.{◌≡◌, refl, rules}
+use Rattle.flow_core.specs.Summaries.{summary}
+use Rattle.flow_session.proofs.Calls.{makes_none}
+use Rattle.flow_session.proofs.serving.Session.checkpoint.Goals as goal
+
+pub returns-in_err-checkpoint-clause-makes : goal.returns-in_err-checkpoint-clause-makes
+returns-in_err-checkpoint-clause-makes g c = makes_none g.J.Journal.tells g.J.Journal.moment g.J.Journal.left_since c.args.journal.now c.checkpoint.new.self (summary c.args.self.now.core) _ c.checkpoint.ensures.any_moment (search rules)
+
+pub returns-clause-makes : goal.returns-clause-makes
+returns-clause-makes g c = makes_none g.J.Journal.tells g.J.Journal.moment g.J.Journal.left_since c.args.journal.now c.checkpoint.new.self (summary c.args.self.now.core) _ c.checkpoint.ensures.any_moment (search rules)

@@ -1,0 +1,19 @@
+use Rattle.std.proofs.Common.{◌≡◌, refl, rules}
+use Rattle.flow_core.specs.Summaries.{summary}
+use Rattle.flow_session.proofs.Calls.{makes_nothing, makes_one}
+use Rattle.flow_session.proofs.serving.Session.obey.Goals as goal
+
+pub returns-in_err-make-in-Ok-Do-clause-makes : goal.returns-in_err-make-in-Ok-Do-clause-makes
+returns-in_err-make-in-Ok-Do-clause-makes g c = makes_one g.J.Journal.tells g.J.Journal.moment g.J.Journal.left_since c.args.journal.now c.make.new.journal (summary c.args.self.now.core) c.in-Ok-Do.t _ c.make.ensures.any_moment (search rules)
+
+pub returns-in_ok-make-in-Ok-Do-clause-makes : goal.returns-in_ok-make-in-Ok-Do-clause-makes
+returns-in_ok-make-in-Ok-Do-clause-makes g c = makes_one g.J.Journal.tells g.J.Journal.moment g.J.Journal.left_since c.args.journal.now c.make.new.journal (summary c.args.self.now.core) c.in-Ok-Do.t _ c.make.ensures.any_moment c.in_ok-make-in-Ok-Do.ensures.made
+
+pub returns-in-Ok-Same-clause-makes : goal.returns-in-Ok-Same-clause-makes
+returns-in-Ok-Same-clause-makes g c = makes_nothing g.J.Journal.tells g.J.Journal.moment g.J.Journal.left_since g.J.Journal.holds g.met.J.Journal.at_rest c.args.journal.now (summary c.args.self.now.core) _ c.requires (search rules)
+
+pub returns-in-Ok-Refused-clause-makes : goal.returns-in-Ok-Refused-clause-makes
+returns-in-Ok-Refused-clause-makes g c = makes_nothing g.J.Journal.tells g.J.Journal.moment g.J.Journal.left_since g.J.Journal.holds g.met.J.Journal.at_rest c.args.journal.now (summary c.args.self.now.core) _ c.requires (search rules)
+
+pub returns-in-Err-clause-makes : goal.returns-in-Err-clause-makes
+returns-in-Err-clause-makes g c = makes_nothing g.J.Journal.tells g.J.Journal.moment g.J.Journal.left_since g.J.Journal.holds g.met.J.Journal.at_rest c.args.journal.now (summary c.args.self.now.core) _ c.requires (search rules)

@@ -1,0 +1,10 @@
+use Rattle.std.proofs.Common.{◌≡◌, refl, rules}
+use Rattle.flow_core.specs.Summaries.{summary}
+use Rattle.flow_session.proofs.Calls.{makes_nothing}
+use Rattle.flow_session.proofs.serving.Session.serve.Goals as goal
+
+pub returns-in-TooLong-clause-makes : goal.returns-in-TooLong-clause-makes
+returns-in-TooLong-clause-makes g c = makes_nothing g.J.Journal.tells g.J.Journal.moment g.J.Journal.left_since g.J.Journal.holds g.met.J.Journal.at_rest c.args.journal.now (summary c.args.self.now.core) _ c.requires (search rules)
+
+pub returns-in-Ended-clause-makes : goal.returns-in-Ended-clause-makes
+returns-in-Ended-clause-makes g c = makes_nothing g.J.Journal.tells g.J.Journal.moment g.J.Journal.left_since g.J.Journal.holds g.met.J.Journal.at_rest c.args.journal.now (summary c.args.self.now.core) _ c.requires (search rules)

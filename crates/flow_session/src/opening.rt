@@ -1,0 +1,93 @@
+//! How a store is opened: the state that its records give.
+ghost use Rattle.std.specs.Prelude.{◌≡◌, false, IfOk, OnOk};
+ghost use Rattle.flow_disk.specs.Moments.{LeavesOnly, Only};
+ghost use Rattle.flow_model.specs.declared.transactions.Numbered.{Numbered as NumberedOf};
+ghost use Rattle.txn_log.specs.Opening.{IsOpened, HasRecords};
+ghost use Rattle.txn_log.specs.Standing.{StandsOn};
+ghost use Rattle.flow_txn.specs.Records.{record_bytes};
+ghost use Rattle.flow_core.specs.Summaries.{summary, taken_up, Follows};
+ghost use Rattle.flow_session.specs.Histories.{StandsFor};
+ghost use Rattle.flow_session.specs.Keeping.{IsOpen, ComesTo};
+
+use crate::serving::Session;
+use flow_core::{AdoptFault, Core};
+use flow_disk::{Disk, Slot};
+use flow_model::Numbered;
+use flow_txn::{RecordFault, decode};
+use std::alloc::Global;
+use txn_log::{Log, LogStop, Opened};
+
+/// Adopts a record; else the store is damaged at its gate.
+fn adopt(
+    alloc: Global,
+    core: &mut Core,
+    slot: Slot,
+    place: u64,
+    payload: &[u8],
+) -> Result<(), LogStop>
+    ensures taken { OnOk result ((n : NumberedOf) × (record_bytes n.number n.transaction ≡ payload.now)
+        × Follows core.old.kept (summary core.old) n × (summary core.new ≡ taken_up core.old.kept n (summary core.old))) }
+    ensures kept { OnOk result (core.new.kept ≡ core.old.kept) }
+{
+    let Numbered {
+        number,
+        transaction,
+    } = match decode(alloc, payload) {
+        Ok(numbered) => numbered,
+        Err(RecordFault::BadRecord) => return Err(LogStop::Damaged(slot, place)),
+        Err(RecordFault::NoMemory) => return Err(LogStop::NoMemory),
+    };
+    match core.adopt(number, transaction) {
+        Ok(()) => Ok(()),
+        Err(AdoptFault::NotAllowed) => Err(LogStop::Damaged(slot, place)),
+        Err(AdoptFault::NoMemory) => Err(LogStop::NoMemory),
+    }
+}
+
+/// The state that the records of an opened store give.
+fn state_of(alloc: Global, opened: &Opened) -> Result<Core, LogStop>
+    ensures { IfOk result (λ core. ComesTo opened.now (summary core)) }
+{
+    let header = &opened.header;
+    let mut core = Core::resume(
+        alloc,
+        header.queues,
+        header.limit,
+        header.transactions,
+        header.roots,
+    )?;
+    for record in opened.records.as_slice() {
+        let payload = record.payload.as_slice();
+        adopt(alloc, &mut core, opened.log.slot(), record.place, payload)?;
+    }
+    Ok(core)
+}
+
+/// Opens a store: the state that its records give, and what its slot that counts holds.
+///
+/// `Unmade`, `Foreign` and `Damaged` come by the slots, and `Damaged` at the first record that isn't in
+/// the grammar of records or isn't allowed there. The disk isn't written.
+pub fn open<D: Disk>(alloc: Global, disk: &mut D) -> Result<(Core, Opened), LogStop>
+    ensures open { IfOk result (λ r. D.tells → IsOpen D.seen D.images r.1.log disk.new (summary r.0)) }
+    ensures seen { OnOk result (D.seen disk.new ≡ D.seen disk.old) }
+    ensures any_moment { LeavesOnly D.moment D.left_since disk.old disk.new (D.images disk.old) }
+{
+    let opened = Log::reopen(alloc, disk)?;
+    let core = state_of(alloc, &opened)?;
+    Ok((core, opened))
+}
+
+/// Opens a store as [`open`] does: a session over its state, and its log.
+pub fn reopen<D: Disk>(alloc: Global, disk: &mut D) -> Result<(Session, Log), LogStop>
+    ensures open { IfOk result (λ r. D.tells → IsOpen D.seen D.images r.1 disk.new (summary r.0.core)) }
+    ensures seen { OnOk result (D.seen disk.new ≡ D.seen disk.old) }
+    ensures any_moment { LeavesOnly D.moment D.left_since disk.old disk.new (D.images disk.old) }
+{
+    let (core, opened) = open(alloc, disk)?;
+    let Opened {
+        log,
+        header: _,
+        records: _,
+    } = opened;
+    Ok((Session::over(alloc, core), log))
+}

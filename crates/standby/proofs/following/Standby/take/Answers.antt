@@ -1,0 +1,41 @@
+use Rattle.std.proofs.Common.{◌≡◌, ◌∙◌, ◌<◌, sym, ap, refl, rules}
+use Rattle.flow_core.specs.Summaries.{summary}
+use Rattle.flow_txn.specs.Records.{record_bytes}
+use Rattle.flow_session.specs.Serving.{WithOrWithout}
+use Rattle.flow_session.proofs.Calls.{makes_one, makes_more, makes_last}
+use Rattle.flow_session.proofs.Runs.{on_disk}
+use Rattle.standby.proofs.Taken.{untouched, next_one}
+use Rattle.standby.proofs.following.Standby.take.Goals as goal
+
+pub returns-then-number-clause-makes : goal.returns-then-number-clause-makes
+returns-then-number-clause-makes g c = untouched g.D.Disk.tells g.D.Disk.moment g.D.Disk.left_since g.D.Disk.seen g.D.Disk.images g.met.D.Disk.only_now c.args.self.now.journal.log c.args.self.now.journal.disk (summary c.args.self.now.core) _ c.requires.open (search rules)
+
+pub returns-in-Err-NotAllowed-clause-makes : goal.returns-in-Err-NotAllowed-clause-makes
+returns-in-Err-NotAllowed-clause-makes g c = untouched g.D.Disk.tells g.D.Disk.moment g.D.Disk.left_since g.D.Disk.seen g.D.Disk.images g.met.D.Disk.only_now c.args.self.now.journal.log c.args.self.now.journal.disk (summary c.args.self.now.core) _ c.requires.open (search rules)
+
+pub returns-in-Err-NoMemory-clause-makes : goal.returns-in-Err-NoMemory-clause-makes
+returns-in-Err-NoMemory-clause-makes g c = untouched g.D.Disk.tells g.D.Disk.moment g.D.Disk.left_since g.D.Disk.seen g.D.Disk.images g.met.D.Disk.only_now c.args.self.now.journal.log c.args.self.now.journal.disk (summary c.args.self.now.core) _ c.requires.open (search rules)
+
+pub returns-in-Err-clause-makes : goal.returns-in-Err-clause-makes
+returns-in-Err-clause-makes g c =
+    let s = summary c.args.self.now.core in
+    let lt : c.args.self.now.core.number < c.args.numbered.number = rw c.number.ensures at c.if-number.false in
+    let one = next_one c.args.self.now.core.kept (summary c.args.self.now.core) (record { number = c.args.numbered.number; transaction = c.args.numbered.transaction }) lt c.in-Ok.ensures.follows in
+    let spelled = sym c.requires.spelled ∙ ap (λ k. record_bytes k c.args.numbered.transaction) one.0 in
+    makes_one g.D.Disk.tells g.D.Disk.moment g.D.Disk.left_since c.args.self.now.journal.disk c.keep.new.self.disk (summary c.args.self.now.core) c.args.numbered.transaction _ (λ told. on_disk (λ j. j.disk) g.D.Disk.moment g.D.Disk.left_since c.args.self.now.journal c.keep.new.self (WithOrWithout c.args.numbered.transaction (summary c.args.self.now.core)) (c.keep.ensures.any_moment (summary c.args.self.now.core) c.args.numbered.transaction told (c.requires.open told) spelled)) (search rules)
+
+pub returns-clause-kept : goal.returns-clause-kept
+returns-clause-kept g c told =
+    let s = summary c.args.self.now.core in
+    let lt : c.args.self.now.core.number < c.args.numbered.number = rw c.number.ensures at c.if-number.false in
+    let one = next_one c.args.self.now.core.kept (summary c.args.self.now.core) (record { number = c.args.numbered.number; transaction = c.args.numbered.transaction }) lt c.in-Ok.ensures.follows in
+    let spelled = sym c.requires.spelled ∙ ap (λ k. record_bytes k c.args.numbered.transaction) one.0 in
+    rw (c.in-Ok.ensures.taken ∙ one.1) (c.in-Ok-keep.ensures.kept (summary c.args.self.now.core) c.args.numbered.transaction told (c.requires.open told) spelled)
+
+pub returns-clause-makes : goal.returns-clause-makes
+returns-clause-makes g c =
+    let s = summary c.args.self.now.core in
+    let lt : c.args.self.now.core.number < c.args.numbered.number = rw c.number.ensures at c.if-number.false in
+    let one = next_one c.args.self.now.core.kept (summary c.args.self.now.core) (record { number = c.args.numbered.number; transaction = c.args.numbered.transaction }) lt c.in-Ok.ensures.follows in
+    let spelled = sym c.requires.spelled ∙ ap (λ k. record_bytes k c.args.numbered.transaction) one.0 in
+    makes_one g.D.Disk.tells g.D.Disk.moment g.D.Disk.left_since c.args.self.now.journal.disk c.keep.new.self.disk (summary c.args.self.now.core) c.args.numbered.transaction _ (λ told. on_disk (λ j. j.disk) g.D.Disk.moment g.D.Disk.left_since c.args.self.now.journal c.keep.new.self (WithOrWithout c.args.numbered.transaction (summary c.args.self.now.core)) (c.keep.ensures.any_moment (summary c.args.self.now.core) c.args.numbered.transaction told (c.requires.open told) spelled)) (c.in-Ok.ensures.taken ∙ one.1)

@@ -1,0 +1,17 @@
+use Rattle.std.proofs.Common.{◌≡◌, ◌∙◌, ◌<◌, sym, ap, refl, rules}
+use Rattle.flow_core.specs.Summaries.{summary}
+use Rattle.flow_txn.specs.Records.{record_bytes}
+use Rattle.flow_session.specs.Serving.{WithOrWithout}
+use Rattle.flow_session.proofs.Calls.{makes_one, makes_more, makes_last}
+use Rattle.flow_session.proofs.Runs.{on_disk}
+use Rattle.standby.proofs.Taken.{untouched, next_one}
+use Rattle.standby.proofs.following.Standby.take_payload.Goals as goal
+
+pub returns-in-Ok-2-clause-makes : goal.returns-in-Ok-2-clause-makes
+returns-in-Ok-2-clause-makes g c = untouched g.D.Disk.tells g.D.Disk.moment g.D.Disk.left_since g.D.Disk.seen g.D.Disk.images g.met.D.Disk.only_now c.args.self.now.journal.log c.args.self.now.journal.disk (summary c.args.self.now.core) _ c.requires.open (search rules)
+
+pub returns-in-Err-BadRecord-clause-makes : goal.returns-in-Err-BadRecord-clause-makes
+returns-in-Err-BadRecord-clause-makes g c = untouched g.D.Disk.tells g.D.Disk.moment g.D.Disk.left_since g.D.Disk.seen g.D.Disk.images g.met.D.Disk.only_now c.args.self.now.journal.log c.args.self.now.journal.disk (summary c.args.self.now.core) _ c.requires.open (search rules)
+
+pub returns-in-Err-NoMemory-clause-makes : goal.returns-in-Err-NoMemory-clause-makes
+returns-in-Err-NoMemory-clause-makes g c = untouched g.D.Disk.tells g.D.Disk.moment g.D.Disk.left_since g.D.Disk.seen g.D.Disk.images g.met.D.Disk.only_now c.args.self.now.journal.log c.args.self.now.journal.disk (summary c.args.self.now.core) _ c.requires.open (search rules)
