@@ -45,7 +45,7 @@ module _ {J : Type 0} (tells : Type 0) (moment : J → ℕ) (left_since : J → 
   makes_one old new s t IsEnd leaves ended = record {
     transactions = t ∷ [];
     any_moment = λ told. weaker moment left_since (λ journal c. left_since journal 0 c) old new (WithOrWithout t s) (StandsAfterSome s (t ∷ [])) (leaves told)
-      (λ c may. ⊎_elim (λ stands. (0, stands)) (λ stands. (1, stands)) may);
+        (λ c may. ⊎_elim (λ stands. (0, stands)) (λ stands. (1, stands)) may);
     ended = ended;
   }
 
@@ -54,10 +54,10 @@ module _ {J : Type 0} (tells : Type 0) (moment : J → ℕ) (left_since : J → 
   makes_more old mid new s now IsEnd first second = record {
     transactions = first.transactions ++ second.transactions;
     any_moment = λ told.
-      joined moment left_since (λ journal c. left_since journal 0 c) old mid new (StandsAfterSome s (first.transactions ++ second.transactions))
+        joined moment left_since (λ journal c. left_since journal 0 c) old mid new (StandsAfterSome s (first.transactions ++ second.transactions))
         (weaker moment left_since (λ journal c. left_since journal 0 c) old mid _ (StandsAfterSome s (first.transactions ++ second.transactions)) (first.any_moment told) (λ c some. some_in_front s first.transactions second.transactions c some))
         (weaker moment left_since (λ journal c. left_since journal 0 c) mid new _ (StandsAfterSome s (first.transactions ++ second.transactions)) (second.any_moment told)
-          (λ c some. some_behind s first.transactions second.transactions c (subst (λ x. StandsAfterSome x second.transactions c) first.ended some)));
+        (λ c some. some_behind s first.transactions second.transactions c (subst (λ x. StandsAfterSome x second.transactions c) first.ended some)));
     ended = subst IsEnd (ap (λ x. after x second.transactions) first.ended ∙ sym (after_append s first.transactions second.transactions)) second.ended;
   }
 

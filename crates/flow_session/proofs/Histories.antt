@@ -28,11 +28,11 @@ one_more s t old new stands has = record {
   records = stands.records ++ record { number = s.transactions + 1; transaction = t } ∷ [];
   end = stands.end + 5 + length (record_bytes (s.transactions + 1) t);
   counts = has ∙ ap (with_record (record_bytes (s.transactions + 1) t)) stands.counts
-    ∙ ap (λ ps. Counts stands.slot stands.header ps (stands.end + 5 + length (record_bytes (s.transactions + 1) t)))
+      ∙ ap (λ ps. Counts stands.slot stands.header ps (stands.end + 5 + length (record_bytes (s.transactions + 1) t)))
       (sym (map-append (λ n. record_bytes n.number n.transaction) stands.records (record { number = s.transactions + 1; transaction = t } ∷ [])));
   comes_to = all_append stands.header.transactions stands.records (record { number = s.transactions + 1; transaction = t }) (under stands.header)
-    ∙ ap (λ x. taken_up stands.header.transactions (record { number = s.transactions + 1; transaction = t }) x) stands.comes_to
-    ∙ taken_next stands.header.transactions s t stands.later;
+      ∙ ap (λ x. taken_up stands.header.transactions (record { number = s.transactions + 1; transaction = t }) x) stands.comes_to
+      ∙ taken_next stands.header.transactions s t stands.later;
   later = omega (arith, stands.later);
   live = live_with s (s.transactions + 1) (s.transactions + 1) t (omega arith) (omega arith) stands.live;
 }

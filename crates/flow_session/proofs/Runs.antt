@@ -33,6 +33,6 @@ module _ {D : Type 0} (tells : Type 0) (moment : D → ℕ) (left_since : D → 
         before = s;
         stood = stood;
         makes = makes_more tells moment left_since old mid new s s (λ now. IsDone → (image : Image) → images new image → StandsFor now image)
-          (makes_none tells moment left_since old mid s (λ x. s ≡ x) (λ told. weaker moment left_since images old mid (λ image. image ≡ seen old) (StandsFor s) keeps (λ c is. subst (StandsFor s) (sym is) stood)) refl)
-          makes;
+            (makes_none tells moment left_since old mid s (λ x. s ≡ x) (λ told. weaker moment left_since images old mid (λ image. image ≡ seen old) (StandsFor s) keeps (λ c is. subst (StandsFor s) (sym is) stood)) refl)
+            makes;
       }

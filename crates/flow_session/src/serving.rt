@@ -284,11 +284,7 @@ impl Session {
     }
 
     /// The reply to an IMPORT that is ended.
-    fn imported<J: Journal>(
-        &mut self,
-        journal: &mut J,
-        gathered: Gathered,
-    ) -> Result<Vec<u8>, Stop>
+    fn imported<J: Journal>(&mut self, journal: &mut J, gathered: Gathered) -> Result<Vec<u8>, Stop>
         requires { J.tells → J.holds journal.old (summary self.old.core) }
         ensures kept { J.tells → OnOk result (J.holds journal.new (summary self.new.core)) }
         ensures makes { Makes J.tells J.moment J.left_since journal.old journal.new (summary self.old.core) (λ s. OnOk result (summary self.new.core ≡ s)) }
@@ -330,11 +326,7 @@ impl Session {
     }
 
     /// The reply to an input: empty for a line of blanks and comments, inside an IMPORT, and at the end.
-    pub fn serve<J: Journal>(
-        &mut self,
-        journal: &mut J,
-        input: Input<'_>,
-    ) -> Result<Vec<u8>, Stop>
+    pub fn serve<J: Journal>(&mut self, journal: &mut J, input: Input<'_>) -> Result<Vec<u8>, Stop>
         requires { J.tells → J.holds journal.old (summary self.old.core) }
         ensures kept { J.tells → OnOk result (J.holds journal.new (summary self.new.core)) }
         ensures makes { Makes J.tells J.moment J.left_since journal.old journal.new (summary self.old.core) (λ s. OnOk result (summary self.new.core ≡ s)) }

@@ -51,7 +51,10 @@ fn amount(x: u64) -> u64 {
 
 impl Loading {
     fn line(&mut self, line: &[u8]) -> Result<(), AllocError> {
-        match self.session.serve(&mut NoJournal::new(self.alloc), Input::Text(line)) {
+        match self
+            .session
+            .serve(&mut NoJournal::new(self.alloc), Input::Text(line))
+        {
             Ok(reply) => {
                 let more = reply.len() as u64;
                 self.counts.bytes = self.counts.bytes.saturating_add(more);

@@ -13,12 +13,12 @@ loop-record-preserved c =
     let front = take c.loop-record.record-index c.args.opened.now.records in
     let taken = c.in_ok-adopt.ensures.taken in
     let one : take (c.loop-record.record-index + 1) c.args.opened.now.records ≡ take c.loop-record.record-index c.args.opened.now.records ++ c.record-item.result ∷ [] =
-      take_more c.args.opened.now.records c.loop-record.record-index c.record-item.result (rw c.as_slice-record-items.ensures at c.loop-record-test.true) ∙ ap (λ (r : Record). take c.loop-record.record-index c.args.opened.now.records ++ r ∷ []) (sym (rw c.as_slice-record-items.ensures at c.record-item.is)) in
+    take_more c.args.opened.now.records c.loop-record.record-index c.record-item.result (rw c.as_slice-record-items.ensures at c.loop-record-test.true) ∙ ap (λ (r : Record). take c.loop-record.record-index c.args.opened.now.records ++ r ∷ []) (sym (rw c.as_slice-record-items.ensures at c.record-item.is)) in
     let more : payloads_of (take (c.loop-record.record-index + 1) c.args.opened.now.records) ≡ payloads_of (take c.loop-record.record-index c.args.opened.now.records) ++ c.record-item.result.payload ∷ [] =
-      ap payloads_of one ∙ map-append (λ (r : Record). r.payload) (take c.loop-record.record-index c.args.opened.now.records) (c.record-item.result ∷ []) in
+    ap payloads_of one ∙ map-append (λ (r : Record). r.payload) (take c.loop-record.record-index c.args.opened.now.records) (c.record-item.result ∷ []) in
     record {
       brings = subst (λ bytes. Brings c.args.opened.now.header bytes (summary c.adopt.new.core)) (sym more)
-        (brings_more c.args.opened.now.header (payloads_of (take c.loop-record.record-index c.args.opened.now.records)) c.record-item.result.payload (summary c.loop-record.core) (summary c.adopt.new.core) taken.0
+          (brings_more c.args.opened.now.header (payloads_of (take c.loop-record.record-index c.args.opened.now.records)) c.record-item.result.payload (summary c.loop-record.core) (summary c.adopt.new.core) taken.0
           i.brings (taken.1 ∙ c.as_slice-payload.ensures) (rw i.kept at taken.2) (rw i.kept at taken.3));
       kept = c.in_ok-adopt.ensures.kept ∙ i.kept;
     }

@@ -15,9 +15,9 @@ returns-in_err-move_log-clause-any_moment g c told =
     let bytes = rw c.in-Some-2.is at c.in_ok-kept.ensures.bytes in
     let live = bytes ∙ ap payloads c.live.ensures in
     in_journal (λ j. j.disk) d.moment d.left_since _ _ (StandsFor (summary c.args.core.now))
-      (weaker d.moment d.left_since d.images c.args.self.now.disk c.move_log.new.disk (MayBeCompacted (opposite c.args.self.now.log.slot) c.in-Some.header c.in-Some-2.kept (d.seen c.args.self.now.disk)) (StandsFor (summary c.args.core.now)) (c.move_log.ensures.any_moment told is.only)
-        (λ image may. may_be_compacted (summary c.args.core.now) (opposite c.args.self.now.log.slot) c.in-Some.header (d.seen c.args.self.now.disk) image is.holds c.in-Some.ensures.2
-          (subst (λ ps. MayBeCompacted (opposite c.args.self.now.log.slot) c.in-Some.header ps (d.seen c.args.self.now.disk) image) live may)))
+    (weaker d.moment d.left_since d.images c.args.self.now.disk c.move_log.new.disk (MayBeCompacted (opposite c.args.self.now.log.slot) c.in-Some.header c.in-Some-2.kept (d.seen c.args.self.now.disk)) (StandsFor (summary c.args.core.now)) (c.move_log.ensures.any_moment told is.only)
+    (λ image may. may_be_compacted (summary c.args.core.now) (opposite c.args.self.now.log.slot) c.in-Some.header (d.seen c.args.self.now.disk) image is.holds c.in-Some.ensures.2
+    (subst (λ ps. MayBeCompacted (opposite c.args.self.now.log.slot) c.in-Some.header ps (d.seen c.args.self.now.disk) image) live may)))
 
 pub returns-clause-kept : goal.returns-clause-kept
 returns-clause-kept g c told =
@@ -30,7 +30,7 @@ returns-clause-kept g c told =
       stands = c.in_ok-move_log.ensures.stands told;
       only = c.in_ok-move_log.ensures.durable;
       holds = compacted (summary c.args.core.now) (opposite c.args.self.now.log.slot) c.in-Some.header (d.seen c.args.self.now.disk) (d.seen c.move_log.new.disk) is.holds c.in-Some.ensures.2
-        (subst (λ ps. IsCompacted (opposite c.args.self.now.log.slot) c.in-Some.header ps (d.seen c.move_log.new.disk)) live (c.in_ok-move_log.ensures.compacted told));
+          (subst (λ ps. IsCompacted (opposite c.args.self.now.log.slot) c.in-Some.header ps (d.seen c.move_log.new.disk)) live (c.in_ok-move_log.ensures.compacted told));
     }
 
 pub returns-clause-any_moment : goal.returns-clause-any_moment
@@ -40,6 +40,6 @@ returns-clause-any_moment g c told =
     let bytes = rw c.in-Some-2.is at c.in_ok-kept.ensures.bytes in
     let live = bytes ∙ ap payloads c.live.ensures in
     in_journal (λ j. j.disk) d.moment d.left_since _ _ (StandsFor (summary c.args.core.now))
-      (weaker d.moment d.left_since d.images c.args.self.now.disk c.move_log.new.disk (MayBeCompacted (opposite c.args.self.now.log.slot) c.in-Some.header c.in-Some-2.kept (d.seen c.args.self.now.disk)) (StandsFor (summary c.args.core.now)) (c.move_log.ensures.any_moment told is.only)
-        (λ image may. may_be_compacted (summary c.args.core.now) (opposite c.args.self.now.log.slot) c.in-Some.header (d.seen c.args.self.now.disk) image is.holds c.in-Some.ensures.2
-          (subst (λ ps. MayBeCompacted (opposite c.args.self.now.log.slot) c.in-Some.header ps (d.seen c.args.self.now.disk) image) live may)))
+    (weaker d.moment d.left_since d.images c.args.self.now.disk c.move_log.new.disk (MayBeCompacted (opposite c.args.self.now.log.slot) c.in-Some.header c.in-Some-2.kept (d.seen c.args.self.now.disk)) (StandsFor (summary c.args.core.now)) (c.move_log.ensures.any_moment told is.only)
+    (λ image may. may_be_compacted (summary c.args.core.now) (opposite c.args.self.now.log.slot) c.in-Some.header (d.seen c.args.self.now.disk) image is.holds c.in-Some.ensures.2
+    (subst (λ ps. MayBeCompacted (opposite c.args.self.now.log.slot) c.in-Some.header ps (d.seen c.args.self.now.disk) image) live may)))

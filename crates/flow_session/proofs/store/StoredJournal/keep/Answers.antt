@@ -11,8 +11,8 @@ pub returns-in_err-append-clause-any_moment : goal.returns-in_err-append-clause-
 returns-in_err-append-clause-any_moment g c s t told is spelled =
     let d = g.D.Disk in
     in_journal (λ j. j.disk) d.moment d.left_since _ _ (WithOrWithout t s)
-      (weaker d.moment d.left_since d.images c.args.self.now.disk c.append.new.disk (MayHaveRecord c.args.payload.now (d.seen c.args.self.now.disk)) (WithOrWithout t s) (c.append.ensures.any_moment told is.only)
-        (λ image may. with_or_without s t (d.seen c.args.self.now.disk) image is.holds (subst (λ p. MayHaveRecord p (d.seen c.args.self.now.disk) image) spelled may)))
+    (weaker d.moment d.left_since d.images c.args.self.now.disk c.append.new.disk (MayHaveRecord c.args.payload.now (d.seen c.args.self.now.disk)) (WithOrWithout t s) (c.append.ensures.any_moment told is.only)
+    (λ image may. with_or_without s t (d.seen c.args.self.now.disk) image is.holds (subst (λ p. MayHaveRecord p (d.seen c.args.self.now.disk) image) spelled may)))
 
 pub returns-clause-kept : goal.returns-clause-kept
 returns-clause-kept g c s t told is spelled =
@@ -28,5 +28,5 @@ pub returns-clause-any_moment : goal.returns-clause-any_moment
 returns-clause-any_moment g c s t told is spelled =
     let d = g.D.Disk in
     in_journal (λ j. j.disk) d.moment d.left_since _ _ (WithOrWithout t s)
-      (weaker d.moment d.left_since d.images c.args.self.now.disk c.append.new.disk (MayHaveRecord c.args.payload.now (d.seen c.args.self.now.disk)) (WithOrWithout t s) (c.append.ensures.any_moment told is.only)
-        (λ image may. with_or_without s t (d.seen c.args.self.now.disk) image is.holds (subst (λ p. MayHaveRecord p (d.seen c.args.self.now.disk) image) spelled may)))
+    (weaker d.moment d.left_since d.images c.args.self.now.disk c.append.new.disk (MayHaveRecord c.args.payload.now (d.seen c.args.self.now.disk)) (WithOrWithout t s) (c.append.ensures.any_moment told is.only)
+    (λ image may. with_or_without s t (d.seen c.args.self.now.disk) image is.holds (subst (λ p. MayHaveRecord p (d.seen c.args.self.now.disk) image) spelled may)))
