@@ -11,7 +11,7 @@ use Rattle.flow_model.specs.declared.graphs.DataLine.{DataLine}
 use Rattle.flow_model.specs.declared.graphs.LoopLine.{LoopLine}
 use Rattle.flow_model.specs.declared.graphs.MapEnd.{MapEnd}
 use Rattle.dead_paths.proofs.Places.{at_places_are}
-use Rattle.dead_paths.specs.Wiring.{places, at_places}
+use Rattle.flow_model.specs.Wiring.{places, at_places}
 
 step_on : {X Y : Type 0} (f : Y → X → Y) (y : Y) (o : Option X) (xs : List X)
     → fold f y (cons_option o xs) ≡ fold f (option_map_or (f y) o y) xs

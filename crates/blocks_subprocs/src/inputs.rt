@@ -7,7 +7,7 @@ ghost use Rattle.flow_model.specs.ScopeContainers.{brought as what_brings, mappe
 ghost use Rattle.flow_model.specs.declared.graphs.Graph.{out-Graph};
 ghost use Rattle.flow_model.specs.declared.graphs.MapEnd.TheVariants.{Border};
 ghost use Rattle.blocks_subprocs.specs.Ends.{ends_of};
-ghost use Rattle.blocks_subprocs.specs.Wiring.{IsFeeding, IsSinking, IsLooping};
+ghost use Rattle.flow_model.specs.Wiring.{IsFeeding, IsSinking, IsLooping};
 
 use containers::{apply_maps, fresh};
 use dead_paths::row;

@@ -6,7 +6,7 @@ use Rattle.std.specs.Prelude.{option_and_then}
 use Rattle.std.specs.Option.{option_map_or}
 use Rattle.std.proofs.Math.Seq.{get_or-append_seam}
 use Rattle.std.proofs.lemmas.Option.{slice_get-get_or}
-use Rattle.dead_paths.specs.Wiring.{places, at_places}
+use Rattle.flow_model.specs.Wiring.{places, at_places}
 
 -- what stands at a seam
 pub here : {X : Type 0} (ys : List X) (z : X) (zs : List X) (n : ℕ) → length ys ≡ n → slice_get (ys ++ z ∷ zs) n ≡ Some z

@@ -1,3 +1,2 @@
-pub mod Wiring
 pub mod Signals
 pub mod Tallies

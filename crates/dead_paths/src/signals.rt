@@ -4,7 +4,7 @@ ghost use Rattle.std.specs.List.{list_any};
 ghost use Rattle.std.specs.Option.{option_map_or, option_to_list};
 ghost use Rattle.flow_model.specs.Fates.{connector_value as value_of, truth_of, when_true};
 ghost use Rattle.flow_model.specs.declared.graphs.Graph.{out-Graph};
-ghost use Rattle.dead_paths.specs.Wiring.{IsOutgoing};
+ghost use Rattle.flow_model.specs.Wiring.{IsOutgoing};
 ghost use Rattle.dead_paths.specs.Signals.{signal as signal_between, signal_of, signals as signals_after};
 
 use crate::wiring::row;

@@ -1,6 +1,6 @@
 //! The rows of a graph's wiring.
 ghost use Rattle.std.specs.Prelude.{◌≡◌};
-ghost use Rattle.dead_paths.specs.Wiring.{row_at};
+ghost use Rattle.flow_model.specs.Wiring.{row_at};
 
 use flow_model::List;
 

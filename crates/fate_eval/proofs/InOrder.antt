@@ -26,7 +26,8 @@ use Rattle.flow_model.specs.declared.instances.SourceEnd.{SourceEnd}
 use Rattle.flow_model.specs.declared.instances.SourceEnd.TheVariants.{Unsettled}
 use Rattle.blocks_subprocs.specs.Ends.{ends_of}
 use Rattle.fate_eval.specs.Entries.{known_in}
-use Rattle.fate_eval.specs.Passing.{IsLaid, IsFound, fate_by_ends, end_by_ends, starts_by_ends, rows_by_ends, rows_inside}
+use Rattle.fate_laws.specs.Layout.{IsLaid}
+use Rattle.fate_eval.specs.Passing.{IsFound, fate_by_ends, end_by_ends, starts_by_ends, rows_by_ends, rows_inside}
 use Rattle.fate_eval.specs.declared.accepted.Entry.{Entry}
 
 -- what stands at a place after another was written

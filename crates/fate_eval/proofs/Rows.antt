@@ -3,7 +3,7 @@ use Rattle.std.proofs.Common.{◌≡◌, ℕ, Bool, true, false, ◌&&◌, List,
 use Rattle.std.specs.Prelude.{slice_get}
 use Rattle.std.specs.List.{filter, filter_map, cons_option, list_all}
 use Rattle.std.specs.Option.{option_map, option_map_or}
-use Rattle.dead_paths.specs.Wiring.{at_places}
+use Rattle.flow_model.specs.Wiring.{at_places}
 use Rattle.flow_model.specs.Fates.{Ends}
 use Rattle.flow_model.specs.ScopeContainers.{same_end}
 use Rattle.flow_model.specs.Scopes.{is_fed, is_ready_source}

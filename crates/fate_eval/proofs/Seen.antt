@@ -22,7 +22,8 @@ use Rattle.flow_model.specs.declared.instances.Path.{Path}
 use Rattle.flow_model.specs.declared.instances.SourceEnd.{SourceEnd}
 use Rattle.flow_model.specs.declared.names.Name.{Name}
 use Rattle.fate_eval.specs.Entries.{output_in, known_in}
-use Rattle.fate_eval.specs.Passing.{IsLaid, OfInside, Laid, LaidBelow, AreAttempts, IsOpen, rows_inside}
+use Rattle.fate_laws.specs.Layout.{IsLaid, OfInside, Laid, LaidBelow}
+use Rattle.fate_eval.specs.Passing.{AreAttempts, IsOpen, rows_inside}
 use Rattle.fate_eval.specs.declared.accepted.Entry.{Entry}
 
 -- a weaker fact of what a call gave

@@ -1,9 +1,6 @@
 -- The graphs that a pass goes through, and what it finds of an activity and of an attempt.
 use Rattle.std.specs.Prelude.{◌≡◌, ℕ, zero, suc, ◌&&◌, true, if◌then◌else◌, Option, Some, None, List, [], ◌∷◌, ◌++◌, length, slice_get}
 use Rattle.std.specs.List.{last_or}
-use Rattle.blocks_subprocs.specs.Wiring.{IsFeeding, IsSinking, IsLooping}
-use Rattle.dead_paths.specs.Wiring.{IsIncoming, IsOutgoing}
-use Rattle.fate_laws.specs.Orders.{IsFlow}
 use Rattle.fate_eval.specs.declared.passes.Turn.{Turn}
 use Rattle.fate_eval.specs.declared.passes.Turn.TheVariants.{Stops, GoesOn}
 use Rattle.flow_model.specs.Conditions.{holds}
@@ -22,35 +19,6 @@ use Rattle.flow_model.specs.declared.instances.FateRow.{FateRow}
 use Rattle.flow_model.specs.declared.instances.Path.{Path}
 use Rattle.flow_model.specs.declared.instances.SourceEnd.{SourceEnd}
 use Rattle.flow_model.specs.declared.instances.SourceEnd.TheVariants as end
-
--- ---- graphs
-
--- the wiring of a graph follows from its lists, and its order leads along all lines
-pub record IsLaid (g : Graph) : Type 0 where
-  pub incoming : IsIncoming g
-  pub outgoing : IsOutgoing g
-  pub feeding : IsFeeding g
-  pub sinking : IsSinking g
-  pub looping : IsLooping g
-  pub flow : IsFlow g (out-Graph g).wiring.order
-
--- what holds of the graph that an activity runs
-abbrev pub OfInside : List Template → (Graph → Type 0) → Option Activity → Type 0
-OfInside ts P None = Unit {0}
-OfInside ts P (Some activity) = (h : Graph) → graph_in ts activity.work ≡ Some h → P h
-
-pub record IsLaidWith (ts : List Template) (g : Graph) (P : Graph → Type 0) : Type 0 where
-  pub here : IsLaid g
-  pub inside : (a : ℕ) → OfInside ts P (slice_get (out-Graph g).activities a)
-
--- a graph is laid, and so are those inside, to this depth
-abbrev pub Laid : List Template → ℕ → Graph → Type 0
-Laid ts zero g = IsLaidWith ts g (λ h. Unit {0})
-Laid ts (suc depth) g = IsLaidWith ts g (Laid ts depth)
-
--- one level further in
-abbrev pub LaidBelow : List Template → ℕ → Graph → Type 0
-LaidBelow ts depth h = (d : ℕ) → depth ≡ suc d → Laid ts d h
 
 -- ---- one activity, by how the others have ended
 

@@ -11,10 +11,11 @@ ghost use Rattle.flow_model.specs.Scopes.{part, at, output as output_of_scope};
 ghost use Rattle.flow_model.specs.declared.graphs.Template.{Template};
 ghost use Rattle.flow_model.specs.declared.instances.SourceEnd.TheVariants.{Unsettled};
 ghost use Rattle.blocks_subprocs.specs.Ends.{ends_of};
-ghost use Rattle.blocks_subprocs.specs.Wiring.{IsLooping, IsSinking};
+ghost use Rattle.flow_model.specs.Wiring.{IsLooping, IsSinking};
 ghost use Rattle.fate_eval.specs.Entries.{output_in, known_in};
 ghost use Rattle.fate_eval.specs.Refusals.{IsWithin};
-ghost use Rattle.fate_eval.specs.Passing.{IsLaid, OfInside, Laid, LaidBelow, IsAttempt, IsScopeAttempt, IsLast, AreAttempts, IsOpen, IsFound, IsPassed, AreFates, turn_of};
+ghost use Rattle.fate_laws.specs.Layout.{IsLaid, OfInside, Laid, LaidBelow};
+ghost use Rattle.fate_eval.specs.Passing.{IsAttempt, IsScopeAttempt, IsLast, AreAttempts, IsOpen, IsFound, IsPassed, AreFates, turn_of};
 
 use crate::accepted::{Entry, completion, entries_below, entries_of, entries_of_activity};
 use crate::results::{FateFault, Fates};

@@ -3,8 +3,7 @@ ghost use Rattle.std.specs.Prelude.{◌≡◌, ◌==◌, true, map, slice_get, �
 ghost use Rattle.std.specs.List.{filter, list_all};
 ghost use Rattle.std.specs.Option.{option_map, option_map_or, option_to_list};
 ghost use Rattle.blocks_subprocs.specs.Ends.{ends_of};
-ghost use Rattle.blocks_subprocs.specs.Wiring.{IsFeeding};
-ghost use Rattle.dead_paths.specs.Wiring.{IsIncoming, IsOutgoing};
+ghost use Rattle.flow_model.specs.Wiring.{IsFeeding, IsIncoming, IsOutgoing};
 ghost use Rattle.flow_model.specs.Fates.{connector_value as value_by, is_settled as is_settled_end};
 ghost use Rattle.flow_model.specs.Scopes.{is_fed as are_settled, is_ready_source as is_settled_source};
 ghost use Rattle.flow_model.specs.declared.graphs.Graph.{out-Graph};

@@ -1,5 +1,6 @@
 pub mod Walks
 pub mod Orders
+pub mod Layout
 pub mod WellFormed
 pub mod More
 pub mod StartedScopes

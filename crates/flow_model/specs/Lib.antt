@@ -5,5 +5,6 @@ pub mod Containers
 pub mod Conditions
 pub mod Fates
 pub mod ScopeContainers
+pub mod Wiring
 pub mod Scopes
 pub mod Rows

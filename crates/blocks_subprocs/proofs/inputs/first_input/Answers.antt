@@ -1,7 +1,7 @@
 use Rattle.std.proofs.Common.{◌∙◌, ap}
 use Rattle.flow_model.specs.declared.graphs.Graph.{out-Graph}
 use Rattle.flow_model.specs.declared.graphs.MapEnd.TheVariants.{Activity as At}
-use Rattle.dead_paths.specs.Wiring.{row_at}
+use Rattle.flow_model.specs.Wiring.{row_at}
 use Rattle.blocks_subprocs.specs.Ends.{ends_of}
 use Rattle.blocks_subprocs.proofs.Lines.{fed_through}
 use Rattle.blocks_subprocs.proofs.inputs.first_input.Goals as goal

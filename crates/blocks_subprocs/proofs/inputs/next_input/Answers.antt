@@ -4,7 +4,7 @@ use Rattle.std.specs.Option.{option_map_or}
 use Rattle.std.specs.Prelude.{slice_get}
 use Rattle.std.proofs.lemmas.Grind.{common_steps}
 use Rattle.flow_model.specs.declared.graphs.Graph.{out-Graph}
-use Rattle.dead_paths.specs.Wiring.{row_at}
+use Rattle.flow_model.specs.Wiring.{row_at}
 use Rattle.blocks_subprocs.proofs.Lines.{looped_through, with_loop}
 use Rattle.blocks_subprocs.proofs.inputs.next_input.Goals as goal
 

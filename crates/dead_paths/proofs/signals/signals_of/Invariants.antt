@@ -3,7 +3,7 @@ use Rattle.std.specs.Prelude.{slice_get, option_and_then}
 use Rattle.std.specs.List.{filter_map}
 use Rattle.flow_model.specs.declared.graphs.Graph.{out-Graph}
 use Rattle.dead_paths.specs.Signals.{signal_of}
-use Rattle.dead_paths.specs.Wiring.{IsOutgoing}
+use Rattle.flow_model.specs.Wiring.{IsOutgoing}
 use Rattle.dead_paths.proofs.signals.signals_of.Given as goal
 
 abbrev pub invariant-loop-place : goal.invariant-loop-place

@@ -1,9 +1,9 @@
 use Rattle.std.proofs.Common.{◌+◌, ◌*◌, Some}
-use Rattle.blocks_subprocs.specs.Wiring.{IsLooping}
+use Rattle.flow_model.specs.Wiring.{IsLooping}
 use Rattle.fate_eval.proofs.InOrder.{Passes}
 use Rattle.fate_eval.proofs.Turns.{Goes}
 use Rattle.fate_eval.specs.Entries.{known_in}
-use Rattle.fate_eval.specs.Passing.{OfInside, Laid, LaidBelow}
+use Rattle.fate_laws.specs.Layout.{OfInside, Laid, LaidBelow}
 use Rattle.fate_eval.proofs.passes.+scopes.Given as goal
 
 abbrev pub decreases-scope_attempt : goal.decreases-scope_attempt

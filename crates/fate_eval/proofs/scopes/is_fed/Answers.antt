@@ -6,7 +6,7 @@ use Rattle.flow_model.specs.Scopes.{is_ready_source}
 use Rattle.flow_model.specs.declared.graphs.DataLine.{DataLine}
 use Rattle.flow_model.specs.declared.graphs.Graph.{out-Graph}
 use Rattle.flow_model.specs.declared.graphs.MapEnd.TheVariants.{Activity as At}
-use Rattle.dead_paths.specs.Wiring.{row_at, at_places}
+use Rattle.flow_model.specs.Wiring.{row_at, at_places}
 use Rattle.dead_paths.proofs.Places.{at_places_are}
 use Rattle.fate_eval.proofs.Rows.{all_at, fed_by_lines}
 use Rattle.fate_eval.proofs.scopes.is_fed.Goals as goal

@@ -8,7 +8,7 @@ use Rattle.blocks_subprocs.specs.Ends.{ends_of}
 use Rattle.flow_model.specs.Fates.{connector_value}
 use Rattle.flow_model.specs.declared.graphs.Control.{Control}
 use Rattle.flow_model.specs.declared.graphs.Graph.{out-Graph}
-use Rattle.dead_paths.specs.Wiring.{row_at}
+use Rattle.flow_model.specs.Wiring.{row_at}
 use Rattle.dead_paths.proofs.Places.{at_places_are}
 use Rattle.fate_eval.proofs.Rows.{mapped_at}
 use Rattle.fate_eval.proofs.scopes.values.Goals as goal

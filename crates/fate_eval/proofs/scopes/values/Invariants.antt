@@ -5,7 +5,7 @@ use Rattle.std.specs.Option.{option_map}
 use Rattle.flow_model.specs.Fates.{connector_value}
 use Rattle.flow_model.specs.declared.graphs.Graph.{out-Graph}
 use Rattle.blocks_subprocs.specs.Ends.{ends_of}
-use Rattle.dead_paths.specs.Wiring.{IsOutgoing}
+use Rattle.flow_model.specs.Wiring.{IsOutgoing}
 use Rattle.fate_eval.proofs.scopes.values.Given as goal
 
 abbrev pub invariant-loop-place : goal.invariant-loop-place

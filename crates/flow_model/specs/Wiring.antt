@@ -1,7 +1,10 @@
--- The rows of a graph's wiring, and what stands at the places that they name.
+-- What the rows of a graph's wiring say: which connectors leave each activity and lead to it, which data lines feed each activity and the
+-- scope's output, and which LOOP lines each activity has.
 use Rattle.std.specs.Prelude.{◌≡◌, ℕ, ◌+◌, ◌==◌, Bool, if◌then◌else◌, unwrap_or, List, [], ◌∷◌, slice_get}
 use Rattle.std.specs.List.{filter_map}
+use Rattle.flow_model.specs.ScopeContainers.{same_end}
 use Rattle.flow_model.specs.declared.graphs.Graph.{Graph, out-Graph}
+use Rattle.flow_model.specs.declared.graphs.MapEnd.TheVariants.{Border, Activity as At}
 
 -- the places of the elements that pass a test, counted from n
 abbrev pub places : {X : Type 0} → (X → Bool) → ℕ → List X → List ℕ
@@ -23,3 +26,15 @@ IsOutgoing g = (a : ℕ) → row_at (out-Graph g).wiring.outgoing a ≡ places (
 -- the rows name the connectors that lead to each activity, in text order
 abbrev pub IsIncoming : Graph → Type 0
 IsIncoming g = (a : ℕ) → row_at (out-Graph g).wiring.incoming a ≡ places (λ c. c.to == a) 0 (out-Graph g).controls
+
+-- the rows name the lines that lead to each activity, in text order
+abbrev pub IsFeeding : Graph → Type 0
+IsFeeding g = (a : ℕ) → row_at (out-Graph g).wiring.feeding a ≡ places (λ line. same_end line.to (At a)) 0 (out-Graph g).lines
+
+-- the row names the lines that lead to the scope's output, in text order
+abbrev pub IsSinking : Graph → Type 0
+IsSinking g = (out-Graph g).wiring.sinking ≡ places (λ line. same_end line.to Border) 0 (out-Graph g).lines
+
+-- the rows name the LOOP lines of each activity, in text order
+abbrev pub IsLooping : Graph → Type 0
+IsLooping g = (a : ℕ) → row_at (out-Graph g).wiring.looping a ≡ places (λ line. line.activity == a) 0 (out-Graph g).loops
