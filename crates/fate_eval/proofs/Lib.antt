@@ -3,4 +3,10 @@ pub mod Rows
 pub mod Complete
 pub mod Turns
 pub mod Seen
+pub mod Sources
+pub mod InTurn
+pub mod InTime
 pub mod InOrder
+pub mod InPass
+pub mod Below
+pub mod Marks

@@ -7,3 +7,15 @@ returns-in-Some-clause-exact c = λ t there laid.
     let found = rw c.as_slice.ensures at (slice_get_read c.as_slice.result.now _ c.args.template c.in-Some.template.now refl c.in-Some.ensures.lookup.3.0 c.in-Some.ensures.lookup.1) in
     let same : t ≡ c.in-Some.template.now = (let both : Some t ≡ Some c.in-Some.template.now = sym there ∙ found in cc) in
     rw same (c.root_fates.ensures.exact (rw same at laid))
+
+pub returns-in-Some-clause-ready : goal.returns-in-Some-clause-ready
+returns-in-Some-clause-ready c = λ t there laid of.
+    let found = rw c.as_slice.ensures at (slice_get_read c.as_slice.result.now _ c.args.template c.in-Some.template.now refl c.in-Some.ensures.lookup.3.0 c.in-Some.ensures.lookup.1) in
+    let same : t ≡ c.in-Some.template.now = (let both : Some t ≡ Some c.in-Some.template.now = sym there ∙ found in cc) in
+    rw same (c.root_fates.ensures.ready (rw same at laid) of)
+
+pub returns-in-Some-clause-refused : goal.returns-in-Some-clause-refused
+returns-in-Some-clause-refused c = λ t there laid of.
+    let found = rw c.as_slice.ensures at (slice_get_read c.as_slice.result.now _ c.args.template c.in-Some.template.now refl c.in-Some.ensures.lookup.3.0 c.in-Some.ensures.lookup.1) in
+    let same : t ≡ c.in-Some.template.now = (let both : Some t ≡ Some c.in-Some.template.now = sym there ∙ found in cc) in
+    rw same (c.root_fates.ensures.refused (rw same at laid) of)
