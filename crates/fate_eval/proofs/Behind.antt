@@ -2,7 +2,7 @@
 use Rattle.std.proofs.Common.{◌≡◌, ℕ, suc, get_or, ◌+◌, ◌<◌, Bool, true, false, ◌&&◌, List, [], ◌∷◌, ◌++◌, length, take, Option, Some, None, cond, refl, ap, sym, ◌∙◌, ◌≤◌, ◌⊎◌, inl, inr, zero, arith}
 use Rattle.std.specs.Prelude.{◌==◌, bytes_eq, nat_le, slice_get}
 use Rattle.std.proofs.lemmas.Slice.Eq.{bytes_eq-Decides}
-use Rattle.fate_laws.proofs.Items.{parts_one}
+use Rattle.fate_laws.proofs.Items.{parts_one, parts_itself}
 use Rattle.std.specs.Option.{option_map, option_map_or, option_or}
 use Rattle.std.proofs.lemmas.List.{take_more, length-take-le}
 use Rattle.std.proofs.lemmas.Bool.Decides.{nat_tests, leb_tells}
@@ -198,3 +198,24 @@ fact_at (f ∷ fs) p m i out is = go (same_parts f.item.parts p) refl (fact_at f
         let number : m + 1 ≡ i + 1 = ap (λ o. option_map_or (λ (d : Dated). d.after) o 0) here in
         (0, omega arith, f, refl, same)
     go false other rest = let r = rest (rw other at is) in (suc r.0, omega (arith, r.1), r.2, r.3, r.4)
+
+-- the first completion of its item is known by its number
+pub first_dated : (fs : List Fact) (n : ℕ) (f : Fact) (m : ℕ) → slice_get fs n ≡ Some f → output_of (take n fs) f.item.parts ≡ None
+    → dated_from m fs f.item.parts ≡ Some (record { after = m + n + 1; output = f.output })
+first_dated [] n f m is none = absurd (no_some is)
+  where
+    no_some : None ≡ Some f → ⊥
+    no_some h = cc
+first_dated (e ∷ fs) zero f m is none =
+    let same : e ≡ f = cc in
+    let number : m + 0 + 1 ≡ m + 1 = omega arith in
+    rw (number, same) (rw (parts_itself f.item.parts) refl)
+first_dated (e ∷ fs) (suc n) f m is none = go (same_parts e.item.parts f.item.parts) refl (first_dated fs n f (m + 1) is)
+  where
+    go : (b : Bool) → same_parts e.item.parts f.item.parts ≡ b
+        → (output_of (take n fs) f.item.parts ≡ None → dated_from (m + 1) fs f.item.parts ≡ Some (record { after = m + 1 + n + 1; output = f.output }))
+        → dated_from m (e ∷ fs) f.item.parts ≡ Some (record { after = m + suc n + 1; output = f.output })
+    go true same rest = let wrong : Some e.output ≡ None = rw same at none in let x : ⊥ = cc in absurd x
+    go false other rest =
+        let number : m + suc n + 1 ≡ m + 1 + n + 1 = omega arith in
+        rw (number, other) (rest (rw other at none))

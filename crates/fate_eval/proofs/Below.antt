@@ -1,7 +1,7 @@
 -- An attempt, by the first so many completions, from what is found of its item or of the scope that it runs.
-use Rattle.std.proofs.Common.{◌≡◌, ℕ, suc, ◌+◌, ◌≤◌, ◌<◌, Bool, true, false, List, [], ◌∷◌, ◌++◌, length, Option, Some, None, refl, ap, sym, subst, ◌∙◌, ◌⊎◌, inl, inr, arith, append_assoc}
+use Rattle.std.proofs.Common.{◌≡◌, ℕ, suc, ◌+◌, ◌≤◌, ◌<◌, true, false, List, [], ◌∷◌, Option, Some, None, refl, ap, sym, subst, ◌∙◌, ◌⊎◌, inl, inr, arith, append_assoc}
 use Rattle.std.specs.Prelude.{nat_le}
-use Rattle.std.specs.List.{All, Contains}
+use Rattle.std.specs.List.{Contains}
 use Rattle.std.specs.Option.{option_map}
 use Rattle.std.proofs.lemmas.Bool.Decides.{leb_tells}
 use Rattle.std.proofs.lemmas.List.Elements.{All-nil, Contains-append_left}
@@ -9,21 +9,20 @@ use Rattle.flow_model.specs.Containers.{with_return_code}
 use Rattle.flow_model.specs.Fates.{goes_on}
 use Rattle.flow_model.specs.Rows.{rows, rows_below, below}
 use Rattle.flow_model.specs.ScopeContainers.{graph_in}
-use Rattle.flow_model.specs.Scopes.{Known, Runs, at, part, gives, output}
+use Rattle.flow_model.specs.Scopes.{Runs, at, part, gives, output}
 use Rattle.flow_model.specs.declared.graphs.Activity.{Activity}
 use Rattle.flow_model.specs.declared.graphs.Container.{Container}
 use Rattle.flow_model.specs.declared.graphs.Graph.{Graph}
 use Rattle.flow_model.specs.declared.graphs.Program.{Program as TheProgram}
 use Rattle.flow_model.specs.declared.graphs.Template.{Template}
 use Rattle.flow_model.specs.declared.graphs.Work.{Work, Program, Block', Process}
-use Rattle.flow_model.specs.declared.instances.Fate.TheVariants.{Ready}
 use Rattle.flow_model.specs.declared.instances.FateRow.{FateRow}
 use Rattle.flow_model.specs.declared.instances.Part.{Part}
 use Rattle.flow_model.specs.declared.instances.Path.{Path}
 use Rattle.flow_model.specs.declared.names.Name.{Name}
-use Rattle.fate_eval.specs.Entries.{Dated, dated_in, by_then, known_by, known_after}
+use Rattle.fate_eval.specs.Entries.{dated_in, by_then, known_by, known_after}
 use Rattle.fate_eval.specs.Passing.{rows_inside}
-use Rattle.fate_eval.specs.Readiness.{IsShownReady, IsOwnItem, IsReadyAttempt, IsTimelyProgram, IsTimelyAttempt, IsTimelyScope, IsTimelyPass}
+use Rattle.fate_eval.specs.Readiness.{IsShownReady, IsReadyAttempt, IsTimelyProgram, IsTimelyAttempt, IsTimelyScope, IsTimelyPass}
 use Rattle.fate_eval.specs.declared.accepted.Entry.{Entry}
 use Rattle.fate_eval.proofs.InTurn.{shown_more}
 use Rattle.fate_eval.proofs.Seen.{after_below}
@@ -49,7 +48,7 @@ before_it i o = go (leb_tells (i + 1) i)
     go (inl u) = absurd (omega (arith, u.1))
     go (inr u) = rw u.0 refl
 
-gives_own : (ts : List Template) (most : ℕ) (given : List Part → Option Container) (runs : Runs) (name : Name) (work : Work) (p : TheProgram) (j : ℕ) (input : Container)
+pub gives_own : (ts : List Template) (most : ℕ) (given : List Part → Option Container) (runs : Runs) (name : Name) (work : Work) (p : TheProgram) (j : ℕ) (input : Container)
     → work ≡ Program p → gives ts (known_by most given) runs name work j input ≡ given (part name j ∷ [])
 gives_own ts most given runs name work p j input is = rw is refl
 
@@ -107,7 +106,7 @@ scope_timely ts depth most es inner s q g input since out out' after ready same 
     go n less None gave is = let m : ⊥ = cc in absurd m
     go n less (Some x) gave is = ap (option_map with_return_code) (gave n x refl less) ∙ is
 
-gives_scope : (ts : List Template) (most : ℕ) (given : List Part → Option Container) (runs : Runs) (name : Name) (work : Work) (h : Graph) (j : ℕ) (input : Container)
+pub gives_scope : (ts : List Template) (most : ℕ) (given : List Part → Option Container) (runs : Runs) (name : Name) (work : Work) (h : Graph) (j : ℕ) (input : Container)
     → graph_in ts work ≡ Some h → gives ts (known_by most given) runs name work j input ≡ option_map with_return_code (runs (at (part name j) (known_by most given)) h input)
 gives_scope ts most given runs name (Program p) h j input is = let n : ⊥ = cc in absurd n
 gives_scope ts most given runs name (Block' b g) h j input is = let same : g ≡ h = cc in ap (λ x. option_map with_return_code (runs (at (part name j) (known_by most given)) x input)) same

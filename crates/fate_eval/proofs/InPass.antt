@@ -1,5 +1,5 @@
 -- A pass over a scope in the order of its graph, by the first so many completions.
-use Rattle.std.proofs.Common.{◌≡◌, ◌⊎◌, ℕ, zero, suc, ◌+◌, ◌≤◌, ◌<◌, Bool, true, false, List, [], ◌∷◌, ◌++◌, length, set, get_or, replicate, Option, Some, None, refl, ap, sym, subst, ◌∙◌, arith, inl, inr, length-set}
+use Rattle.std.proofs.Common.{◌≡◌, ◌⊎◌, ℕ, zero, suc, ◌+◌, ◌≤◌, ◌<◌, Bool, true, false, List, [], ◌∷◌, ◌++◌, length, set, get_or, replicate, Option, Some, None, refl, ap, sym, ◌∙◌, arith, inl, inr, length-set}
 use Rattle.std.proofs.Math.Path.{fun_ext}
 use Rattle.std.proofs.lemmas.Bool.{cases_lt}
 use Rattle.std.proofs.lemmas.Bool.Decides.{eqb_tells}
@@ -10,7 +10,7 @@ use Rattle.std.specs.List.{All, Contains, flat_map}
 use Rattle.fate_laws.proofs.Complete.{settled_at}
 use Rattle.fate_laws.proofs.Solutions.{step_keeps_ends}
 use Rattle.fate_laws.proofs.Stays.{unsettled_past}
-use Rattle.flow_model.specs.Fates.{Ends, is_settled}
+use Rattle.flow_model.specs.Fates.{Ends}
 use Rattle.flow_model.specs.Rows.{rows}
 use Rattle.flow_model.specs.ScopeContainers.{up_to, output_by, is_complete}
 use Rattle.flow_model.specs.Scopes.{Known, tree_ends, output}

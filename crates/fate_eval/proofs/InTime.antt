@@ -1,10 +1,10 @@
 -- An activity, by how the others have ended after so many completions.
-use Rattle.std.proofs.Common.{◌≡◌, ℕ, zero, suc, ◌+◌, ◌≤◌, ◌<◌, ◌==◌, ◌&&◌, Bool, true, false, List, [], ◌∷◌, ◌++◌, length, map, get_or, Option, Some, None, cond, refl, ap, sym, subst, ◌∙◌, inl, inr, arith}
-use Rattle.std.specs.Prelude.{if◌then◌else◌, is_none, slice_get}
+use Rattle.std.proofs.Common.{◌≡◌, ℕ, suc, ◌+◌, ◌≤◌, ◌==◌, ◌&&◌, Bool, true, false, List, [], ◌∷◌, length, map, get_or, Option, Some, None, cond, refl, ap, sym, subst, ◌∙◌, inl, inr, arith}
+use Rattle.std.specs.Prelude.{if◌then◌else◌, is_none}
 use Rattle.std.specs.List.{All, Contains, filter, list_any, last_or}
 use Rattle.std.specs.Option.{option_map}
 use Rattle.std.proofs.lemmas.Bool.Decides.{eqb_tells}
-use Rattle.std.proofs.lemmas.List.Elements.{All-nil, All-cons}
+use Rattle.std.proofs.lemmas.List.Elements.{All-cons}
 use Rattle.blocks_subprocs.specs.Ends.{ends_of}
 use Rattle.flow_model.specs.Conditions.{holds}
 use Rattle.flow_model.specs.Fates.{Ends, connector_value, joined, fate_by, goes_on, tried, ended, is_open, is_settled}
@@ -30,12 +30,11 @@ use Rattle.fate_laws.proofs.Extends.{or_false}
 use Rattle.fate_laws.proofs.Forward.{SameControls, SameLines, values_same, is_fed_same}
 use Rattle.fate_laws.proofs.Lines.{fed_same}
 use Rattle.fate_laws.proofs.Steps.{fed_true}
-use Rattle.fate_eval.specs.Entries.{Dated, dated_in, by_then, leads_to, output_in, known_by, known_in, known_after}
-use Rattle.fate_eval.specs.Passing.{AreAttempts, rows_inside, rows_by_ends, end_by_ends, starts_by_ends}
-use Rattle.fate_eval.specs.Readiness.{IsShownReady, AreTimely, IsTimelyOpen, IsTimelyFound, Knows, after_of, AfterControls, AfterLines, tried_rows}
+use Rattle.fate_eval.specs.Entries.{dated_in, by_then, leads_to, output_in, known_in, known_after}
+use Rattle.fate_eval.specs.Passing.{AreAttempts, rows_inside, rows_by_ends}
+use Rattle.fate_eval.specs.Readiness.{IsShownReady, AreTimely, IsTimelyOpen, IsTimelyFound, Knows, AfterControls, AfterLines, tried_rows}
 use Rattle.fate_eval.specs.declared.accepted.Entry.{Entry}
 use Rattle.fate_eval.proofs.Behind.{named_same, named_kept}
-use Rattle.fate_eval.proofs.InTurn.{shown_more}
 use Rattle.fate_eval.proofs.Seen.{named_attempts, outs_same, rows_same}
 
 -- ---- the completions of the activity, and those of its scope
@@ -45,14 +44,14 @@ module _ (ts : List Template) (depth most : ℕ) (es named : List Entry) (g : Gr
   same_at : (n j : ℕ) (p : List Part) → by_then n (dated_in named (part activity.name j ∷ p)) ≡ by_then n (dated_in es (part activity.name j ∷ p))
   same_at n j p = ap (by_then n) (named_same es named activity.name all (part activity.name j) p refl)
 
-  abbrev of_entries : List Entry → ℕ → List FateRow
+  abbrev pub of_entries : List Entry → ℕ → List FateRow
   of_entries xs n = tried_rows ts depth most xs s activity n (tries_on ts (known_after most xs n) (output ts depth) g a activity base)
       (starts (suc most) (gives ts (known_after most xs n) (output ts depth) activity.name activity.work) (trial g a activity base) 1 base)
 
-  outs_at : (n : ℕ) → tries_on ts (known_after most named n) (output ts depth) g a activity base ≡ tries_on ts (known_after most es n) (output ts depth) g a activity base
+  pub outs_at : (n : ℕ) → tries_on ts (known_after most named n) (output ts depth) g a activity base ≡ tries_on ts (known_after most es n) (output ts depth) g a activity base
   outs_at n = outs_same ts depth most (λ p. by_then n (dated_in es p)) (λ p. by_then n (dated_in named p)) g s a activity base (same_at n)
 
-  rows_at : (n : ℕ) → of_entries named n ≡ of_entries es n
+  pub rows_at : (n : ℕ) → of_entries named n ≡ of_entries es n
   rows_at n =
       rw (outs_at n)
       (ap (λ (rows : List FateRow). record { scope = s; name = activity.name; fate = tried activity (length (tries_on ts (known_after most es n) (output ts depth) g a activity base)) (last_or None (tries_on ts (known_after most es n) (output ts depth) g a activity base)) } ∷ rows)
@@ -88,7 +87,7 @@ no_end : false ≡ true → ⊥
 no_end h = cc
 
 module _ (ts : List Template) (depth most : ℕ) (es : List Entry) (g : Graph) (input : Container) (s : Path) (ends : List SourceEnd) (afters : List ℕ) (a : ℕ) (activity : Activity) where
-  abbrev known : ℕ → Known
+  abbrev pub known : ℕ → Known
   known n = known_after most es n
 
   -- nothing comes of an activity that is unsettled, and has no attempts
@@ -198,10 +197,10 @@ module _ (ts : List Template) (depth most : ℕ) (es : List Entry) (g : Graph) (
       go true = refl
       go false = goes_open activity.work (n + 1)
 
-  abbrev outs : ℕ → Ends → List Container
+  abbrev pub outs : ℕ → Ends → List Container
   outs n e = attempts_at ts (known n) (output ts depth) g input e a (Some activity)
 
-  abbrev starts_at : ℕ → Ends → Bool → List Start
+  abbrev pub starts_at : ℕ → Ends → Bool → List Start
   starts_at n e active =
       if active
       then starts (suc most) (gives ts (known n) (output ts depth) activity.name activity.work) (trial g a activity (base_of g activity a input e)) 1 (base_of g activity a input e)
@@ -212,10 +211,10 @@ module _ (ts : List Template) (depth most : ℕ) (es : List Entry) (g : Graph) (
       record { scope = s; name = activity.name; fate = f }
       ∷ rows_below (rows_inside ts depth) (known n) activity (graph_in ts activity.work) (starts_at n e (is_open f && is_fed (out-Graph g).lines a e)) s
 
-  abbrev fate : ℕ → Ends → Fate
+  abbrev pub fate : ℕ → Ends → Fate
   fate n e = tried activity (length (outs n e)) (last_or None (outs n e))
 
-  rows_open : (n : ℕ) (e : Ends) → joined activity.join (values_at (known n) (out-Graph g).controls e a) ≡ Some true
+  pub rows_open : (n : ℕ) (e : Ends) → joined activity.join (values_at (known n) (out-Graph g).controls e a) ≡ Some true
       → rows_by_ends ts depth (known n) g input s e a (Some activity) ≡ tried_rows ts depth most es s activity n (outs n e) (starts_at n e (is_fed (out-Graph g).lines a e))
   unfolding row_by
   rows_open n e is =

@@ -1,29 +1,28 @@
 -- The attempts of an activity, one after the other, by the first so many completions.
-use Rattle.std.proofs.Common.{◌≡◌, ℕ, zero, suc, ◌+◌, ◌≤◌, Bool, true, false, List, [], ◌∷◌, ◌++◌, length, Option, Some, None, cond, refl, ap, sym, subst, ◌∙◌, ◌⊎◌, inl, inr, arith}
+use Rattle.std.proofs.Common.{◌≡◌, ℕ, zero, suc, ◌+◌, ◌≤◌, true, false, List, [], ◌∷◌, ◌++◌, length, Option, Some, None, refl, ap, sym, subst, ◌∙◌, ◌⊎◌, inl, inr, arith}
 use Rattle.std.specs.List.{All, Contains, last_or}
 use Rattle.std.proofs.lemmas.List.{get_or_default}
 use Rattle.std.proofs.lemmas.List.Elements.{All-append, All-nil, All-contains, Contains-append_left, Contains-append_right}
-use Rattle.flow_model.specs.Conditions.{holds}
 use Rattle.flow_model.specs.Fates.{goes_on, tried, ended, is_settled}
 use Rattle.flow_model.specs.Rows.{rows_below, below}
-use Rattle.flow_model.specs.ScopeContainers.{graph_in, looped}
+use Rattle.flow_model.specs.ScopeContainers.{graph_in}
 use Rattle.flow_model.specs.Scopes.{Known, Gives, Trial, Start, then_start, starts, gives, trial, tries_on, output, part}
 use Rattle.flow_model.specs.declared.graphs.Activity.{Activity}
 use Rattle.flow_model.specs.declared.graphs.Container.{Container}
-use Rattle.flow_model.specs.declared.graphs.Graph.{Graph, out-Graph}
+use Rattle.flow_model.specs.declared.graphs.Graph.{Graph}
 use Rattle.flow_model.specs.declared.graphs.Template.{Template}
 use Rattle.flow_model.specs.declared.instances.Fate.{Fate}
-use Rattle.flow_model.specs.declared.instances.Fate.TheVariants.{Finished, Ready}
+use Rattle.flow_model.specs.declared.instances.Fate.TheVariants.{Ready}
 use Rattle.flow_model.specs.declared.instances.FateRow.{FateRow}
 use Rattle.flow_model.specs.declared.instances.Path.{Path}
 use Rattle.flow_model.specs.declared.instances.SourceEnd.{SourceEnd}
 use Rattle.flow_model.specs.declared.instances.SourceEnd.TheVariants as end
 use Rattle.fate_eval.specs.Entries.{known_after}
-use Rattle.fate_eval.specs.Passing.{IsAttempt, AreAttempts, rows_inside, turn_of}
-use Rattle.fate_eval.specs.Readiness.{IsShownReady, IsOwnItem, IsReadyAttempt, IsTimelyAttempt, IsTimelyLast, AreTimely, tried_rows}
+use Rattle.fate_eval.specs.Passing.{IsAttempt, rows_inside, turn_of}
+use Rattle.fate_eval.specs.Readiness.{IsShownReady, IsReadyAttempt, IsTimelyAttempt, IsTimelyLast, AreTimely, tried_rows}
 use Rattle.fate_eval.specs.declared.accepted.Entry.{Entry}
 use Rattle.fate_eval.specs.declared.passes.Turn.TheVariants.{Stops, GoesOn}
-use Rattle.fate_eval.proofs.Turns.{Goes, goes_first, goes_more, goes_stop, rows_cons, tried_from, fate_from, fate_then}
+use Rattle.fate_eval.proofs.Turns.{Goes, goes_first, goes_more, goes_stop, rows_cons, tried_from, fate_from}
 
 -- what is shown among some rows is shown among more
 pub shown_more : (es : List Entry) (s : Path) (rows rows' : List FateRow) (i : ℕ) → ((r : FateRow) → Contains rows r → Contains rows' r) → IsShownReady es s rows i → IsShownReady es s rows' i

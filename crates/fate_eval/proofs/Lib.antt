@@ -10,3 +10,8 @@ pub mod InOrder
 pub mod InPass
 pub mod Below
 pub mod Marks
+pub mod WholeTurn
+pub mod RowScopes
+pub mod WholeTime
+pub mod WholePass
+pub mod WholeBelow

@@ -6,7 +6,7 @@ use Rattle.std.specs.List.{last_or, flat_map}
 use Rattle.std.specs.Option.{option_map}
 use Rattle.flow_model.specs.Containers.{with_return_code}
 use Rattle.flow_model.specs.Fates.{Ends, tried, ended}
-use Rattle.flow_model.specs.Rows.{by_facts, output_of, rows_below, below}
+use Rattle.flow_model.specs.Rows.{by_facts, rows_below, below}
 use Rattle.flow_model.specs.ScopeContainers.{graph_in, graph_of, base_of}
 use Rattle.flow_model.specs.Scopes.{Known, Runs, Start, at, part, gives, scope_gives, trial, tries, tries_on, starts, is_fed, output}
 use Rattle.flow_model.specs.declared.graphs.Activity.{Activity}
@@ -24,6 +24,9 @@ use Rattle.flow_model.specs.declared.names.Name.{Name}
 use Rattle.fate_eval.specs.Entries.{dated_in, dated_from, output_in, by_then, known_by, known_in, known_after}
 use Rattle.fate_eval.proofs.Behind.{known_from, outputs_from}
 use Rattle.fate_laws.specs.Layout.{IsLaid, OfInside, Laid, LaidBelow}
+use Rattle.fate_laws.specs.Walks.{IsWired}
+use Rattle.fate_laws.specs.WellFormed.{Well}
+use Rattle.fate_eval.specs.Readiness.{WellBelow}
 use Rattle.fate_eval.specs.Passing.{AreAttempts, IsOpen, rows_inside}
 use Rattle.fate_eval.specs.declared.accepted.Entry.{Entry}
 
@@ -127,3 +130,23 @@ one_inside ts depth (Some activity) laid = λ h is d e. (let P : ℕ → Type 0 
 pub laid_inside : (ts : List Template) (depth : ℕ) (g : Graph) → Laid ts depth g → (a : ℕ) → OfInside ts (LaidBelow ts depth) (slice_get (out-Graph g).activities a)
 laid_inside ts zero g laid a = none_inside ts (slice_get (out-Graph g).activities a)
 laid_inside ts (suc depth) g laid a = one_inside ts depth (slice_get (out-Graph g).activities a) (laid.inside a)
+
+-- ---- graphs that are well
+
+pub well_wired : (ts : List Template) (depth : ℕ) (g : Graph) → Well ts depth g → IsWired g
+well_wired ts zero g well = well.wired
+well_wired ts (suc depth) g well = well.wired
+
+none_well : (ts : List Template) (o : Option Activity) → OfInside ts (WellBelow ts zero) o
+none_well ts None = tt
+none_well ts (Some activity) = λ h is d e. absurd (omega (arith, e))
+
+one_well : (ts : List Template) (depth : ℕ) (g : Graph) (a : ℕ) (o : Option Activity) → slice_get (out-Graph g).activities a ≡ o
+    → ((b : ℕ) (activity : Activity) → slice_get (out-Graph g).activities b ≡ Some activity → (h : Graph) → graph_in ts activity.work ≡ Some h → Well ts depth h) → OfInside ts (WellBelow ts (suc depth)) o
+one_well ts depth g a None is inside = tt
+one_well ts depth g a (Some activity) is inside = λ h of d e.
+    (let P : ℕ → Type 0 = λ n. Well ts n h in let same : depth ≡ d = omega (arith, e) in subst P same (inside a activity is h of))
+
+pub well_inside : (ts : List Template) (depth : ℕ) (g : Graph) → Well ts depth g → (a : ℕ) → OfInside ts (WellBelow ts depth) (slice_get (out-Graph g).activities a)
+well_inside ts zero g well a = none_well ts (slice_get (out-Graph g).activities a)
+well_inside ts (suc depth) g well a = one_well ts depth g a (slice_get (out-Graph g).activities a) refl well.inside

@@ -1,13 +1,14 @@
 -- The rows of a graph's wiring lead to all sources of an activity, so the greatest number of theirs is known.
-use Rattle.std.proofs.Common.{◌≡◌, ℕ, zero, suc, ◌+◌, ◌≤◌, ◌<◌, ◌==◌, Bool, true, false, List, [], ◌∷◌, ◌++◌, length, take, get_or, Option, Some, None, cond, refl, ap, sym, ◌∙◌, arith}
-use Rattle.std.specs.Prelude.{slice_get, slice_index_or}
+use Rattle.std.proofs.Common.{◌≡◌, ℕ, zero, suc, ◌+◌, ◌≤◌, ◌<◌, ◌==◌, Bool, true, false, List, [], ◌∷◌, ◌++◌, length, take, get_or, Some, None, cond, refl, ap, sym, subst, ◌∙◌, arith, append_assoc, length-append}
+use Rattle.std.specs.Prelude.{slice_get}
 use Rattle.std.specs.List.{All, Contains}
 use Rattle.std.proofs.lemmas.List.{take_more, take_all}
 use Rattle.std.proofs.lemmas.Bool.{eq-eqb}
 use Rattle.std.proofs.lemmas.List.Elements.{All-append, All-cons, All-nil, All-contains, Contains-append_right}
 use Rattle.std.proofs.lemmas.Option.{slice_get-get_or}
-use Rattle.std.proofs.lemmas.Bool.Decides.{eqb_tells}
-use Rattle.fate_laws.proofs.Items.{eqb_itself}
+use Rattle.fate_laws.proofs.Items.{eqb_itself, eqb_one}
+use Rattle.fate_laws.proofs.Lines.{same_end_true}
+use Rattle.dead_paths.proofs.Places.{here}
 use Rattle.flow_model.specs.Wiring.{places}
 use Rattle.flow_model.specs.ScopeContainers.{same_end}
 use Rattle.flow_model.specs.declared.graphs.Control.{Control}
@@ -65,3 +66,35 @@ lines_after lines afters a known row is all = λ i d less to b from.
   where
     same_itself : (e : MapEnd) (a : ℕ) → e ≡ At a → same_end e (At a) ≡ true
     same_itself e a is = rw is (eqb_itself a)
+
+-- what holds of each element that passes the test, holds of all that stands at the places
+placed_from : {X : Type 0} (test : X → Bool) (P : X → Type 0) (before rest : List X) (n : ℕ) → length before ≡ n → All (λ x. test x ≡ true → P x) rest
+    → All (λ p. (x : X) → slice_get (before ++ rest) p ≡ Some x → P x) (places test n rest)
+placed_from {X} test P before [] n long all = All-nil (λ p. (x : X) → slice_get (before ++ []) p ≡ Some x → P x)
+placed_from {X} test P before (y ∷ ys) n long all =
+    go (test y) refl
+    (rw append_assoc at (placed_from test P (before ++ y ∷ []) ys (n + 1) (omega (arith, length-append before (y ∷ []))) (λ k d h. all (suc k) d (omega arith))))
+  where
+    go : (b : Bool) → test y ≡ b → All (λ p. (x : X) → slice_get (before ++ y ∷ ys) p ≡ Some x → P x) (places test (n + 1) ys)
+        → All (λ p. (x : X) → slice_get (before ++ y ∷ ys) p ≡ Some x → P x) (cond b (n ∷ places test (n + 1) ys) (places test (n + 1) ys))
+    go false is rest = rest
+    go true is rest =
+        All-cons (λ p. (x : X) → slice_get (before ++ y ∷ ys) p ≡ Some x → P x) n (places test (n + 1) ys)
+        (λ x there.
+        (let both : Some y ≡ Some x = sym (here before y ys n long) ∙ there in
+        let same : y ≡ x = cc in
+        subst P same (all 0 y (omega arith) is)))
+        rest
+
+pub controls_back : (controls : List Control) (afters : List ℕ) (a n : ℕ) (row : List ℕ) → row ≡ places (λ c. c.to == a) 0 controls → AfterControls controls afters a n
+    → All (λ p. (c : Control) → slice_get controls p ≡ Some c → after_of afters c.from ≤ n) row
+controls_back controls afters a n row is all =
+    rw is (placed_from (λ c. c.to == a) (λ c. after_of afters c.from ≤ n) [] controls 0 refl (λ i d less passes. all i d less (eqb_one _ a passes)))
+
+pub lines_back : (lines : List DataLine) (afters : List ℕ) (a n : ℕ) (row : List ℕ) → row ≡ places (λ l. same_end l.to (At a)) 0 lines → AfterLines lines afters a n
+    → All (λ p. (l : DataLine) (b : ℕ) → slice_get lines p ≡ Some l → l.from ≡ At b → after_of afters b ≤ n) row
+lines_back lines afters a n row is all =
+    rw is
+    (λ k e inside l b there from.
+    placed_from (λ l. same_end l.to (At a)) (λ l. (b : ℕ) → l.from ≡ At b → after_of afters b ≤ n) [] lines 0 refl
+    (λ i d less passes. all i d less (same_end_true _ (At a) passes)) k e inside l there b from)

@@ -1,5 +1,5 @@
 //! The recursion over scopes.
-ghost use Rattle.std.specs.Prelude.{◌≡◌, ◌<◌, ◌≤◌, ◌+◌, ◌^◌, ◌∷◌, [], ◌++◌, ℕ, Option, List, Some, None, true, slice_get, slice_set, length, unwrap_or, IfOk, IfErr, IfSome, OnOk, replicate};
+ghost use Rattle.std.specs.Prelude.{◌≡◌, ◌<◌, ◌≤◌, ◌+◌, ◌^◌, ◌∷◌, [], ◌++◌, ℕ, Option, List, Some, None, true, slice_get, slice_set, length, false, unwrap_or, IfOk, IfErr, IfSome, OnOk, replicate};
 ghost use Rattle.std.specs.List.{flat_map, All, Contains};
 ghost use Rattle.std.specs.Option.{option_map};
 ghost use Rattle.flow_model.specs.Fates.{goes_on as next_try};
@@ -13,9 +13,10 @@ ghost use Rattle.flow_model.specs.declared.instances.SourceEnd.TheVariants.{Unse
 ghost use Rattle.blocks_subprocs.specs.Ends.{ends_of};
 ghost use Rattle.flow_model.specs.Wiring.{IsLooping, IsSinking};
 ghost use Rattle.fate_eval.specs.Entries.{dated_in, output_in, known_in};
-ghost use Rattle.fate_eval.specs.Refusals.{IsWithin, IsBehindReady};
-ghost use Rattle.fate_eval.specs.Readiness.{IsTimelyProgram, IsTimelyAttempt, IsTimelyScope, IsTimelyPass, IsTimelyLast, AreTimely, IsTimelyOpen, IsTimelyFound, AreOf, AreReadyIn, AreMarked};
+ghost use Rattle.fate_eval.specs.Refusals.{IsWithin, IsBehindReady, IsUnready, IsFirstUnready};
+ghost use Rattle.fate_eval.specs.Readiness.{IsNested, WellBelow, IsWholeProgram, IsWholeAttempt, IsWholeScope, IsWholePass, IsWholeLast, AreWhole, IsWholeOpen, IsWholeFound, IsTimelyProgram, IsTimelyAttempt, IsTimelyScope, IsTimelyPass, IsTimelyLast, AreTimely, IsTimelyOpen, IsTimelyFound, AreOf, AreReadyIn, AreMarked};
 ghost use Rattle.fate_laws.specs.Layout.{IsLaid, OfInside, Laid, LaidBelow};
+ghost use Rattle.fate_laws.specs.WellFormed.{Well};
 ghost use Rattle.fate_eval.specs.Passing.{IsAttempt, IsScopeAttempt, IsLast, AreAttempts, IsOpen, IsFound, IsPassed, AreFates, turn_of};
 
 use crate::accepted::{Entry, completion, entries_below, entries_of, entries_of_activity};
@@ -118,7 +119,8 @@ enum Turn {
 
 /// The number of a completion, counted from 0, if its item could be completed after so many.
 fn ready_since(alloc: Global, after: u64, since: u64) -> Result<Vec<u64>, AllocError>
-    ensures { IfOk result (λ v. All (λ i. (since ≤ i) × (i + 1 ≡ after)) v.items) }
+    ensures sound { IfOk result (λ v. All (λ i. (since ≤ i) × (i + 1 ≡ after)) v.items) }
+    ensures whole { IfOk result (λ v. (i : ℕ) → since ≤ i → i + 1 ≡ after → Contains v.items i) }
 {
     let mut ready = Vec::new(alloc);
     if since < after {
@@ -186,6 +188,7 @@ fn program_attempt(
 ) -> Result<Attempt, AllocError>
     ensures exact { IfOk result (λ r. (r.output ≡ output_in entries.now (part activity.now.name attempt ∷ [])) × (r.rows.items ≡ [])) }
     ensures timely { IfOk result (λ r. IsTimelyProgram (dated_in entries.now (part activity.now.name attempt ∷ [])) since r.output r.after r.ready.items) }
+    ensures whole { IfOk result (λ r. IsWholeProgram (dated_in entries.now (part activity.now.name attempt ∷ [])) since r.output r.after r.ready.items) }
 {
     match completion(entries, activity.name.as_slice(), attempt) {
         None => Ok(nothing(alloc, since)),
@@ -223,6 +226,7 @@ fn scope_attempt<'a>(
 ) -> Result<Attempt, AllocError>
     ensures exact { Laid root.now.library.now.templates depth graph.now → IfOk result (λ r. (r.output ≡ option_map with_code (output_of_scope root.now.library.now.templates (depth + 1) (at (part activity.now.name attempt) (known_in root.now.most entries.now)) graph.now input.now)) × (r.rows.items ≡ rows_in root.now.library.now.templates depth (at (part activity.now.name attempt) (known_in root.now.most entries.now)) graph.now input.now (path_below scope.now.path (part activity.now.name attempt)))) }
     ensures timely { Laid root.now.library.now.templates depth graph.now → IfOk result (λ r. IsTimelyScope root.now.library.now.templates depth root.now.most entries.now scope.now.path (part activity.now.name attempt) graph.now input.now since r.output r.after r.ready.items) }
+    ensures whole { Laid root.now.library.now.templates depth graph.now → Well root.now.library.now.templates depth graph.now → IfOk result (λ r. IsWholeScope root.now.library.now.templates depth root.now.most entries.now scope.now.path (part activity.now.name attempt) graph.now input.now since r.output r.after r.ready.items) }
 {
     let below = Scope {
         graph,
@@ -259,6 +263,7 @@ fn nested_attempt<'a>(
 ) -> Result<Attempt, AllocError>
     ensures exact { OfInside root.now.library.now.templates (LaidBelow root.now.library.now.templates depth) (Some activity.now) → IfOk result (λ r. IsScopeAttempt root.now.library.now.templates depth (known_in root.now.most entries.now) scope.now.path activity.now attempt input.now r.output r.rows.items) }
     ensures timely { OfInside root.now.library.now.templates (LaidBelow root.now.library.now.templates depth) (Some activity.now) → IfOk result (λ r. IsTimelyAttempt root.now.library.now.templates depth root.now.most entries.now scope.now.path activity.now attempt input.now since r.output r.after r.ready.items) }
+    ensures whole { IsNested activity.now.work → OfInside root.now.library.now.templates (LaidBelow root.now.library.now.templates depth) (Some activity.now) → OfInside root.now.library.now.templates (WellBelow root.now.library.now.templates depth) (Some activity.now) → IfOk result (λ r. IsWholeAttempt root.now.library.now.templates depth root.now.most entries.now scope.now.path activity.now attempt input.now since r.output r.after r.ready.items) }
 {
     match graph_of(root.library, &activity.work) {
         None => Ok(nothing(root.alloc, since)),
@@ -295,6 +300,7 @@ fn attempt_of<'a>(
 ) -> Result<Attempt, AllocError>
     ensures exact { OfInside root.now.library.now.templates (LaidBelow root.now.library.now.templates depth) (Some activity.now) → IfOk result (λ r. IsAttempt root.now.library.now.templates depth (known_in root.now.most entries.now) scope.now.path activity.now attempt input.now r.output r.rows.items) }
     ensures timely { OfInside root.now.library.now.templates (LaidBelow root.now.library.now.templates depth) (Some activity.now) → IfOk result (λ r. IsTimelyAttempt root.now.library.now.templates depth root.now.most entries.now scope.now.path activity.now attempt input.now since r.output r.after r.ready.items) }
+    ensures whole { OfInside root.now.library.now.templates (LaidBelow root.now.library.now.templates depth) (Some activity.now) → OfInside root.now.library.now.templates (WellBelow root.now.library.now.templates depth) (Some activity.now) → IfOk result (λ r. IsWholeAttempt root.now.library.now.templates depth root.now.most entries.now scope.now.path activity.now attempt input.now since r.output r.after r.ready.items) }
 {
     match &activity.work {
         Work::Program(_) => { program_attempt(root.alloc, entries, activity, attempt, since) }
@@ -346,6 +352,7 @@ fn last_attempt<'a>(
 ) -> Result<Attempts, AllocError>
     ensures exact { OfInside root.now.library.now.templates (LaidBelow root.now.library.now.templates depth) (Some activity.now) → IfOk result (λ r. IsLast root.now.library.now.templates depth (known_in root.now.most entries.now) scope.now.path activity.now (root.now.most + 1) input.now before.rows.items r.fate r.end r.rows.items) }
     ensures timely { OfInside root.now.library.now.templates (LaidBelow root.now.library.now.templates depth) (Some activity.now) → IfOk result (λ r. IsTimelyLast root.now.library.now.templates depth root.now.most entries.now scope.now.path activity.now (root.now.most + 1) input.now since before.ready.items r.end r.ready.items) }
+    ensures whole { OfInside root.now.library.now.templates (LaidBelow root.now.library.now.templates depth) (Some activity.now) → OfInside root.now.library.now.templates (WellBelow root.now.library.now.templates depth) (Some activity.now) → IfOk result (λ r. IsWholeLast root.now.library.now.templates depth root.now.most entries.now scope.now.path activity.now (root.now.most + 1) input.now since before.ready.items r.ready.items) }
 {
     let number = root.most + 1;
     let last = attempt_of(root, depth, scope, entries, activity, number, input, since)?;
@@ -384,6 +391,7 @@ fn attempts_from<'a>(
 ) -> Result<Attempts, AllocError>
     ensures exact { IsLooping scope.now.graph.now → OfInside root.now.library.now.templates (LaidBelow root.now.library.now.templates depth) (Some activity.now) → IfOk result (λ r. AreAttempts root.now.library.now.templates depth (known_in root.now.most entries.now) scope.now.graph.now scope.now.path place activity.now base.now r.fate r.end r.rows.items) }
     ensures timely { IsLooping scope.now.graph.now → OfInside root.now.library.now.templates (LaidBelow root.now.library.now.templates depth) (Some activity.now) → IfOk result (λ r. AreTimely root.now.library.now.templates depth root.now.most entries.now scope.now.graph.now scope.now.path place activity.now base.now since r.end r.after r.ready.items) }
+    ensures whole { IsLooping scope.now.graph.now → OfInside root.now.library.now.templates (LaidBelow root.now.library.now.templates depth) (Some activity.now) → OfInside root.now.library.now.templates (WellBelow root.now.library.now.templates depth) (Some activity.now) → IfOk result (λ r. AreWhole root.now.library.now.templates depth root.now.most entries.now scope.now.graph.now scope.now.path place activity.now base.now since r.end r.after r.ready.items) }
 {
     let alloc = root.alloc;
     let mut input = base.copy(alloc)?;
@@ -445,6 +453,7 @@ fn open_activity<'a>(
 ) -> Result<Attempts, AllocError>
     ensures exact { IsLaid scope.now.graph.now → OfInside root.now.library.now.templates (LaidBelow root.now.library.now.templates depth) (Some activity.now) → IfOk result (λ r. IsOpen root.now.library.now.templates depth (known_in root.now.most scope.now.entries.items) scope.now.graph.now scope.now.input scope.now.path (ends_of ends.now) place activity.now r.fate r.end r.rows.items) }
     ensures timely { IsLaid scope.now.graph.now → OfInside root.now.library.now.templates (LaidBelow root.now.library.now.templates depth) (Some activity.now) → IfOk result (λ r. IsTimelyOpen root.now.library.now.templates depth root.now.most scope.now.entries.items scope.now.graph.now scope.now.input scope.now.path ends.now afters.now place activity.now since r.end r.after r.ready.items) }
+    ensures whole { IsLaid scope.now.graph.now → OfInside root.now.library.now.templates (LaidBelow root.now.library.now.templates depth) (Some activity.now) → OfInside root.now.library.now.templates (WellBelow root.now.library.now.templates depth) (Some activity.now) → IfOk result (λ r. IsWholeOpen root.now.library.now.templates depth root.now.most scope.now.entries.items scope.now.graph.now scope.now.input scope.now.path ends.now afters.now place activity.now since r.end r.after r.ready.items) }
 {
     let graph = scope.graph;
     if !is_fed(graph, ends, place) {
@@ -501,6 +510,7 @@ fn activity<'a>(
 ) -> Result<Found, AllocError>
     ensures exact { IsLaid scope.now.graph.now → OfInside root.now.library.now.templates (LaidBelow root.now.library.now.templates depth) (Some activity.now) → IfOk result (λ f. IsFound root.now.library.now.templates depth (known_in root.now.most scope.now.entries.items) scope.now.graph.now scope.now.input scope.now.path (ends_of ends.now) place (Some activity.now) f.end f.rows.items) }
     ensures timely { IsLaid scope.now.graph.now → OfInside root.now.library.now.templates (LaidBelow root.now.library.now.templates depth) (Some activity.now) → IfOk result (λ f. IsTimelyFound root.now.library.now.templates depth root.now.most scope.now.entries.items scope.now.graph.now scope.now.input scope.now.path scope.now.since ends.now afters.now place (Some activity.now) f.end f.after f.ready.items) }
+    ensures whole { IsLaid scope.now.graph.now → OfInside root.now.library.now.templates (LaidBelow root.now.library.now.templates depth) (Some activity.now) → OfInside root.now.library.now.templates (WellBelow root.now.library.now.templates depth) (Some activity.now) → IfOk result (λ f. IsWholeFound root.now.library.now.templates depth root.now.most scope.now.entries.items scope.now.graph.now scope.now.input scope.now.path scope.now.since ends.now afters.now place (Some activity.now) f.end f.after f.ready.items) }
 {
     let alloc = root.alloc;
     let values = values(alloc, scope.graph, ends, place)?;
@@ -533,6 +543,7 @@ fn found_at<'a>(
 ) -> Result<Found, AllocError>
     ensures exact { Laid root.now.library.now.templates depth scope.now.graph.now → IfOk result (λ f. IsFound root.now.library.now.templates depth (known_in root.now.most scope.now.entries.items) scope.now.graph.now scope.now.input scope.now.path (ends_of ends.now) place (slice_get (out-Graph scope.now.graph.now).activities place) f.end f.rows.items) }
     ensures timely { Laid root.now.library.now.templates depth scope.now.graph.now → IfOk result (λ f. IsTimelyFound root.now.library.now.templates depth root.now.most scope.now.entries.items scope.now.graph.now scope.now.input scope.now.path scope.now.since ends.now afters.now place (slice_get (out-Graph scope.now.graph.now).activities place) f.end f.after f.ready.items) }
+    ensures whole { Laid root.now.library.now.templates depth scope.now.graph.now → Well root.now.library.now.templates depth scope.now.graph.now → IfOk result (λ f. IsWholeFound root.now.library.now.templates depth root.now.most scope.now.entries.items scope.now.graph.now scope.now.input scope.now.path scope.now.since ends.now afters.now place (slice_get (out-Graph scope.now.graph.now).activities place) f.end f.after f.ready.items) }
 {
     match scope.graph.activities.as_slice().get(place as usize) {
         None => Ok(Found {
@@ -599,6 +610,7 @@ fn complete_output(
 fn pass<'a>(root: &Root<'a>, depth: u32, scope: &Scope<'a>) -> Result<Passed, AllocError>
     ensures exact { Laid root.now.library.now.templates depth scope.now.graph.now → IfOk result (λ r. IsPassed root.now.library.now.templates depth (known_in root.now.most scope.now.entries.items) scope.now.graph.now scope.now.input scope.now.path r.output r.rows.items) }
     ensures timely { Laid root.now.library.now.templates depth scope.now.graph.now → IfOk result (λ r. IsTimelyPass root.now.library.now.templates depth root.now.most scope.now.entries.items scope.now.graph.now scope.now.input scope.now.path scope.now.since r.output r.after r.ready.items) }
+    ensures whole { Laid root.now.library.now.templates depth scope.now.graph.now → Well root.now.library.now.templates depth scope.now.graph.now → IfOk result (λ r. IsWholePass root.now.library.now.templates depth root.now.most scope.now.entries.items scope.now.graph.now scope.now.input scope.now.path scope.now.since r.output r.after r.ready.items) }
 {
     let alloc = root.alloc;
     let count = scope.graph.activities.len();
@@ -639,6 +651,7 @@ fn mark(marks: &mut Vec<bool>, number: u64)
 fn marked(alloc: Global, ready: &[u64], count: usize) -> Result<Vec<bool>, AllocError>
     ensures long { IfOk result (λ v. length v.items ≡ count) }
     ensures ready { IfOk result (λ v. (i : ℕ) → slice_get v.items i ≡ Some true → Contains ready.now i) }
+    ensures whole { IfOk result (λ v. (i : ℕ) → i < count → Contains ready.now i → slice_get v.items i ≡ Some true) }
 {
     let mut marks = vec![in alloc; false; count]?;
     for number in ready {
@@ -651,6 +664,7 @@ fn marked(alloc: Global, ready: &[u64], count: usize) -> Result<Vec<bool>, Alloc
 fn first_unmarked(marks: &[bool]) -> Option<u64>
     ensures bound { IfSome result (λ n. n < length marks.now) }
     ensures before { AreMarked marks.now (unwrap_or result (length marks.now)) }
+    ensures unmarked { IfSome result (λ n. slice_get marks.now n ≡ Some false) }
 {
     for (i, marked) in marks.iter().enumerate() {
         if !*marked {
@@ -674,6 +688,7 @@ fn root_fates(
     ensures within { IfErr result (IsWithin (length facts.now)) }
     ensures ready { Laid library.now.templates depth graph.now → AreOf root facts.now → IfOk result (λ v. AreReadyIn library.now.templates depth graph.now root input.now facts.now (length facts.now)) }
     ensures refused { Laid library.now.templates depth graph.now → AreOf root facts.now → IfErr result (IsBehindReady library.now.templates depth graph.now root input.now facts.now) }
+    ensures unready { Laid library.now.templates depth graph.now → Well library.now.templates depth graph.now → AreOf root facts.now → IfErr result (IsUnready library.now.templates depth graph.now root input.now facts.now) }
 {
     let scope = Scope {
         graph,
@@ -721,6 +736,7 @@ pub fn fates(
     ensures within { IfErr result (IsWithin (length facts.now)) }
     ensures ready { (t : Template) → slice_get library.now.templates template ≡ Some t → Laid library.now.templates deepest t.graph → AreOf root facts.now → IfOk result (λ v. AreReady library.now.templates t.graph root input.now facts.now (length facts.now)) }
     ensures refused { (t : Template) → slice_get library.now.templates template ≡ Some t → Laid library.now.templates deepest t.graph → AreOf root facts.now → IfErr result (IsBehindReady library.now.templates deepest t.graph root input.now facts.now) }
+    ensures first { (t : Template) → slice_get library.now.templates template ≡ Some t → Laid library.now.templates deepest t.graph → Well library.now.templates deepest t.graph → AreOf root facts.now → IfErr result (IsFirstUnready library.now.templates t.graph root input.now facts.now) }
 {
     match library.templates.as_slice().get(template as usize) {
         None => Ok(Fates {

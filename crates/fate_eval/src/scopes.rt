@@ -78,7 +78,8 @@ fn after(afters: &[u64], place: u32) -> u64
 
 /// After how many completions it is known how the source of the connector at a place has ended.
 fn control_after(controls: &[Control], afters: &[u64], place: u32) -> u64
-    ensures { (c : ControlOf) → slice_get controls.now place ≡ Some c → after_of afters.now c.from ≤ result }
+    ensures later { (c : ControlOf) → slice_get controls.now place ≡ Some c → after_of afters.now c.from ≤ result }
+    ensures least { (n : ℕ) → ((c : ControlOf) → slice_get controls.now place ≡ Some c → after_of afters.now c.from ≤ n) → result ≤ n }
 {
     match controls.get(place as usize) {
         Some(control) => after(afters, control.from),
@@ -90,6 +91,7 @@ fn control_after(controls: &[Control], afters: &[u64], place: u32) -> u64
 pub fn joined_after(graph: &Graph, afters: &[u64], place: u32, since: u64) -> u64
     ensures later { since ≤ result }
     ensures controls { IsIncoming graph.now → AfterControls (out-Graph graph.now).controls afters.now place result }
+    ensures least { IsIncoming graph.now → (n : ℕ) → since ≤ n → AfterControls (out-Graph graph.now).controls afters.now place n → result ≤ n }
 {
     let mut known = since;
     for place in row(graph.wiring.incoming.as_slice(), place) {
@@ -151,7 +153,8 @@ pub fn is_fed(graph: &Graph, ends: &[SourceEnd], place: u32) -> bool
 
 /// After how many completions it is known how the activity at the beginning of the data line at a place has ended.
 fn line_after(lines: &[DataLine], afters: &[u64], place: u32) -> u64
-    ensures { (l : LineOf) (b : ℕ) → slice_get lines.now place ≡ Some l → l.from ≡ At b → after_of afters.now b ≤ result }
+    ensures later { (l : LineOf) (b : ℕ) → slice_get lines.now place ≡ Some l → l.from ≡ At b → after_of afters.now b ≤ result }
+    ensures least { (n : ℕ) → ((l : LineOf) (b : ℕ) → slice_get lines.now place ≡ Some l → l.from ≡ At b → after_of afters.now b ≤ n) → result ≤ n }
 {
     match lines.get(place as usize) {
         Some(line) => match line.from {
@@ -166,6 +169,7 @@ fn line_after(lines: &[DataLine], afters: &[u64], place: u32) -> u64
 pub fn fed_after(graph: &Graph, afters: &[u64], place: u32, since: u64) -> u64
     ensures later { since ≤ result }
     ensures lines { IsFeeding graph.now → AfterLines (out-Graph graph.now).lines afters.now place result }
+    ensures least { IsFeeding graph.now → (n : ℕ) → since ≤ n → AfterLines (out-Graph graph.now).lines afters.now place n → result ≤ n }
 {
     let mut known = since;
     for place in row(graph.wiring.feeding.as_slice(), place) {
@@ -185,6 +189,7 @@ pub fn is_complete(ends: &[SourceEnd]) -> bool
 pub fn complete_after(afters: &[u64], since: u64) -> u64
     ensures later { since ≤ result }
     ensures all { All (λ after. after ≤ result) afters.now }
+    ensures least { (n : ℕ) → since ≤ n → All (λ after. after ≤ n) afters.now → result ≤ n }
 {
     let mut known = since;
     for after in afters {

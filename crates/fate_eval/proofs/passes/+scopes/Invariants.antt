@@ -3,6 +3,10 @@ use Rattle.flow_model.specs.Wiring.{IsLooping}
 use Rattle.fate_eval.proofs.InOrder.{Passes}
 use Rattle.fate_eval.proofs.InPass.{InPass}
 use Rattle.fate_eval.proofs.InTurn.{InTurn}
+use Rattle.fate_eval.proofs.WholeTurn.{IsTold}
+use Rattle.fate_eval.proofs.WholePass.{IsToldTo}
+use Rattle.fate_eval.specs.Readiness.{WellBelow}
+use Rattle.fate_laws.specs.WellFormed.{Well}
 use Rattle.fate_eval.proofs.Turns.{Goes}
 use Rattle.fate_eval.specs.Entries.{known_in, output_in}
 use Rattle.fate_laws.specs.Layout.{OfInside, Laid, LaidBelow}
@@ -41,6 +45,9 @@ invariant-attempts_from-loop-number l = record {
       → Goes l.root.library.now.templates l.depth (known_in l.root.most l.entries) l.scope.graph.now l.scope.path l.place l.activity l.base l.number l.input l.rows.items;
   timely : IsLooping l.scope.graph.now → OfInside l.root.library.now.templates (LaidBelow l.root.library.now.templates l.depth) (Some l.activity)
       → InTurn l.root.library.now.templates l.depth l.root.most l.entries l.scope.graph.now l.scope.path l.place l.activity l.base l.since l.after l.number l.input l.ready.items;
+  whole : IsLooping l.scope.graph.now → OfInside l.root.library.now.templates (LaidBelow l.root.library.now.templates l.depth) (Some l.activity)
+      → OfInside l.root.library.now.templates (WellBelow l.root.library.now.templates l.depth) (Some l.activity)
+      → IsTold l.root.library.now.templates l.depth l.root.most l.entries l.scope.graph.now l.scope.path l.place l.activity l.base l.since l.after l.number l.input l.ready.items;
 }
 
 abbrev pub invariant-pass-loop-place : goal.invariant-pass-loop-place
@@ -49,4 +56,6 @@ invariant-pass-loop-place l = record {
       → Passes l.root.library.now.templates l.depth l.root.most (output_in l.scope.entries.items) l.scope.graph.now l.scope.input l.scope.path (λ r. r.items) l.place-index l.ends.items l.rows.items;
   timely : Laid l.root.library.now.templates l.depth l.scope.graph.now
       → InPass l.root.library.now.templates l.depth l.root.most l.scope.entries.items l.scope.graph.now l.scope.input l.scope.path l.scope.since l.ends.items l.afters.items l.ready.items;
+  whole : Laid l.root.library.now.templates l.depth l.scope.graph.now → Well l.root.library.now.templates l.depth l.scope.graph.now
+      → IsToldTo l.root.library.now.templates l.depth l.root.most l.scope.entries.items l.scope.graph.now l.scope.input l.scope.path l.scope.since l.place-index l.ends.items l.afters.items l.ready.items;
 }

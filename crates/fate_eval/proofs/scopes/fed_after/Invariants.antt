@@ -11,4 +11,5 @@ abbrev pub invariant-loop-place : goal.invariant-loop-place
 invariant-loop-place l = record {
   later : l.since ≤ l.known;
   all : All (λ p. (d : DataLine) (b : ℕ) → slice_get (out-Graph l.graph).lines p ≡ Some d → d.from ≡ At b → after_of l.afters b ≤ l.known) (take l.place-index l.place-items);
+  least : (n : ℕ) → l.since ≤ n → All (λ p. (d : DataLine) (b : ℕ) → slice_get (out-Graph l.graph).lines p ≡ Some d → d.from ≡ At b → after_of l.afters b ≤ n) l.place-items → l.known ≤ n;
 }
