@@ -22,7 +22,7 @@ use Rattle.flow_model.specs.declared.instances.Path.{Path}
 use Rattle.flow_model.specs.declared.names.Name.{Name}
 use Rattle.fate_eval.specs.Entries.{dated_in, by_then, known_by, known_after}
 use Rattle.fate_eval.specs.Passing.{rows_inside}
-use Rattle.fate_eval.specs.Readiness.{IsShownReady, IsReadyAttempt, IsTimelyProgram, IsTimelyAttempt, IsTimelyScope, IsTimelyPass}
+use Rattle.fate_eval.specs.Timely.{IsShownReady, IsReadyAttempt, IsTimelyProgram, IsTimelyAttempt, IsTimelyScope, IsTimelyPass}
 use Rattle.fate_eval.specs.declared.accepted.Entry.{Entry}
 use Rattle.fate_eval.proofs.InTurn.{shown_more}
 use Rattle.fate_eval.proofs.Seen.{after_below}

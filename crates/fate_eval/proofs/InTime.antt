@@ -32,7 +32,7 @@ use Rattle.fate_laws.proofs.Lines.{fed_same}
 use Rattle.fate_laws.proofs.Steps.{fed_true}
 use Rattle.fate_eval.specs.Entries.{dated_in, by_then, leads_to, output_in, known_in, known_after}
 use Rattle.fate_eval.specs.Passing.{AreAttempts, rows_inside, rows_by_ends}
-use Rattle.fate_eval.specs.Readiness.{IsShownReady, AreTimely, IsTimelyOpen, IsTimelyFound, Knows, AfterControls, AfterLines, tried_rows}
+use Rattle.fate_eval.specs.Timely.{IsShownReady, AreTimely, IsTimelyOpen, IsTimelyFound, Knows, AfterControls, AfterLines, tried_rows}
 use Rattle.fate_eval.specs.declared.accepted.Entry.{Entry}
 use Rattle.fate_eval.proofs.Behind.{named_same, named_kept}
 use Rattle.fate_eval.proofs.Seen.{named_attempts, outs_same, rows_same}

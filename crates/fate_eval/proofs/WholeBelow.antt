@@ -19,7 +19,8 @@ use Rattle.flow_model.specs.declared.instances.Path.{Path}
 use Rattle.flow_model.specs.declared.names.Name.{Name}
 use Rattle.fate_eval.specs.Entries.{dated_in, by_then, known_by, known_after}
 use Rattle.fate_eval.specs.Passing.{rows_inside}
-use Rattle.fate_eval.specs.Readiness.{IsShownReady, IsNested, IsWholeProgram, IsWholeAttempt, IsWholeScope, IsWholePass, IsWholeLast}
+use Rattle.fate_eval.specs.Timely.{IsShownReady}
+use Rattle.fate_eval.specs.Whole.{IsNested, IsWholeProgram, IsWholeAttempt, IsWholeScope, IsWholePass, IsWholeLast}
 use Rattle.fate_eval.specs.declared.accepted.Entry.{Entry}
 use Rattle.fate_eval.proofs.Below.{gives_own, gives_scope}
 use Rattle.fate_eval.proofs.RowScopes.{rows_under, rest_begins}
