@@ -1,7 +1,6 @@
 -- The tokens of a line say one command at most, and one completion.
-use Rattle.std.proofs.Common.{◌≡◌, ℕ, ◌<◌, ◌+◌, ◌==◌, Bool, true, false, List, [], ◌∷◌, ◌++◌, length, Option, Some, None, refl, ap, sym, ◌∙◌, subst, arith}
+use Rattle.std.proofs.Common.{◌≡◌, ℕ, ◌<◌, ◌+◌, ◌==◌, false, List, [], ◌∷◌, ◌++◌, length, Option, Some, None, refl, ap, sym, ◌∙◌, subst, arith}
 use Rattle.std.specs.Prelude.{if◌then◌else◌}
-use Rattle.flow_table.specs.declared.keyword.TheConstants as word
 use Rattle.fdl_lexer.specs.declared.kinds.What.TheVariants as what
 use Rattle.flow_model.specs.declared.commands.Command.{Command}
 use Rattle.flow_model.specs.declared.commands.Command.TheVariants as command
@@ -20,9 +19,9 @@ use Rattle.flow_model.specs.declared.trees.LeafAt.{LeafAt}
 use Rattle.flow_model.specs.declared.trees.NameAt.{NameAt}
 use Rattle.flow_model.specs.declared.trees.NumberAt.{NumberAt}
 use Rattle.fdl_parser.specs.declared.cursor.mark.TheConstants as mark
-use Rattle.fdl_parser.specs.Tokens.{Spelled, Tokens, IsToken, IsWord, IsName, IsQuote, IsItemToken, IsNumber, IsSigned}
+use Rattle.fdl_parser.specs.Tokens.{Spelled, Tokens, IsWord, IsItemToken}
 use Rattle.fdl_parser.specs.Lexed.{AreQuoted}
-use Rattle.fdl_parser.proofs.Same.{At, Same, Chain, Done, Behind, tier, lead, tokens_same, word_same, name_same, quote_same, number_same, signed_same, leaf_same, lead_token, lead_name, lead_quote, signed_lead, calm_token, apart, snoc, chain_same, chain_calm, behind_same, behind_begins, cons_eq}
+use Rattle.fdl_parser.proofs.Same.{At, Same, Chain, Done, Behind, tier, lead, tokens_same, word_same, name_same, quote_same, number_same, signed_same, leaf_same, lead_token, lead_name, lead_quote, signed_lead, calm_token, apart, snoc, chain_same, behind_same, behind_begins, cons_eq}
 use Rattle.fdl_parser.specs.Tokens.{spell}
 use Rattle.fdl_parser.proofs.Quoted.{tokens_quoted}
 use Rattle.fdl_lexer.specs.Tokens.{AreTokens}
