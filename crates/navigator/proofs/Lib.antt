@@ -1,0 +1,4 @@
+pub mod Places
+pub mod Making
+pub mod Untouched
+pub mod ReadScopes

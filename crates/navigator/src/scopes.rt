@@ -1,4 +1,17 @@
 //! A scope of an instance.
+ghost use Rattle.std.specs.Prelude.{◌≡◌, ◌==◌, ◌&&◌, ◌<◌, ◌^◌, ℕ, List as Seq, [], length, IfOk, option_copied};
+ghost use Rattle.flow_model.specs.Scopes.{Known, tree_ends, tree_fate};
+ghost use Rattle.flow_model.specs.ScopeContainers.{is_complete as all_settled};
+ghost use Rattle.flow_model.specs.Wiring.{IsIncoming};
+ghost use Rattle.flow_model.specs.declared.graphs.Graph.{Graph as Process, out-Graph};
+ghost use Rattle.flow_model.specs.declared.graphs.Container.{Container as Values};
+ghost use Rattle.flow_model.specs.declared.graphs.Template.{Template};
+ghost use Rattle.navigator.specs.Fresh.{incoming_count as connectors_to, IsFreshWork, IsFreshNested, IsFresh};
+ghost use Rattle.navigator.specs.Reading.{place_of as place_in, attempt_place as place_before, nested_fate, state_fate, fate_in, hold_in, with_hold, inner_of};
+ghost use Rattle.navigator.specs.Views.{IsUntouched, Shows};
+ghost use Rattle.navigator.specs.declared.scopes.NestedState.{out-NestedState};
+ghost use Rattle.navigator.specs.declared.scopes.ScopeState.{out-ScopeState};
+
 use activity_states::ProgramState;
 use blocks_subprocs::graph_of;
 use dead_paths::Tally;
@@ -47,7 +60,9 @@ pub struct ScopeState {
 }
 
 /// The place of the activity of this name in a graph.
-pub fn place_of(graph: &Graph, name: &Name) -> Option<usize> {
+pub fn place_of(graph: &Graph, name: &Name) -> Option<usize>
+    ensures { result ≡ place_in graph.now name.now }
+{
     graph
         .activities
         .as_slice()
@@ -56,19 +71,25 @@ pub fn place_of(graph: &Graph, name: &Name) -> Option<usize> {
 }
 
 /// The number of an attempt as a place.
-pub fn attempt_place(attempt: u64) -> Option<usize> {
+pub fn attempt_place(attempt: u64) -> Option<usize>
+    ensures { result ≡ place_before attempt }
+{
     usize::try_from(attempt.checked_sub(1)?).ok()
 }
 
 impl NestedState {
-    fn new(alloc: Global) -> NestedState {
+    fn new(alloc: Global) -> NestedState
+        ensures { IsFreshNested result }
+    {
         NestedState {
             scopes: Vec::new(alloc),
             stage: NestedStage::Waiting,
         }
     }
 
-    pub fn fate(&self) -> Fate {
+    pub fn fate(&self) -> Fate
+        ensures { result ≡ nested_fate self.now }
+    {
         match self.stage {
             NestedStage::Waiting => Fate::Waiting,
             NestedStage::Running => Fate::Running(self.scopes.len() as u64),
@@ -96,7 +117,9 @@ impl ActivityState {
         }
     }
 
-    fn new(alloc: Global, work: &Work) -> ActivityState {
+    fn new(alloc: Global, work: &Work) -> ActivityState
+        ensures { IsFreshWork work.now result }
+    {
         match work {
             Work::Program(_) => ActivityState::Program(ProgramState::new(alloc)),
             Work::Block(_) => ActivityState::Nested(NestedState::new(alloc)),
@@ -104,7 +127,9 @@ impl ActivityState {
         }
     }
 
-    pub fn fate(&self) -> Fate {
+    pub fn fate(&self) -> Fate
+        ensures { result ≡ state_fate self.now }
+    {
         match self {
             ActivityState::Program(state) => state.fate(),
             ActivityState::Nested(state) => state.fate(),
@@ -113,7 +138,9 @@ impl ActivityState {
 }
 
 /// The number of connectors that lead to an activity.
-fn incoming_count(graph: &Graph, place: usize) -> u32 {
+fn incoming_count(graph: &Graph, place: usize) -> u32
+    ensures { result ≡ connectors_to graph.now place }
+{
     match graph.wiring.incoming.as_slice().get(place) {
         None => 0,
         Some(row) => u32::try_from(row.len()).unwrap_or(u32::MAX),
@@ -122,7 +149,10 @@ fn incoming_count(graph: &Graph, place: usize) -> u32 {
 
 impl ScopeState {
     /// A scope of a graph that hasn't begun.
-    pub fn new(alloc: Global, graph: &Graph, input: Container) -> Result<ScopeState, AllocError> {
+    pub fn new(alloc: Global, graph: &Graph, input: Container) -> Result<ScopeState, AllocError>
+        ensures fresh { IfOk result (λ s. IsFresh graph.now input s) }
+        ensures shows { IfOk result (λ s. (ts : Seq Template) → (depth : ℕ) → (k : Known) → IsUntouched k → IsIncoming graph.now → length (out-Graph graph.now).controls < 2 ^ 32 → Shows ts depth k graph.now input s) }
+    {
         let mut tallies = Vec::new(alloc);
         let mut ends = Vec::new(alloc);
         let mut states = Vec::new(alloc);
@@ -142,12 +172,18 @@ impl ScopeState {
     }
 
     /// Whether all activities are settled.
-    pub fn is_complete(&self) -> bool {
+    pub fn is_complete(&self) -> bool
+        ensures state { result ≡ ((out-ScopeState self.now).begun && ((out-ScopeState self.now).unsettled == 0)) }
+        ensures shows { (ts : Seq Template) → (depth : ℕ) → (k : Known) → (g : Process) → (input : Values) → Shows ts depth k g input self.now → result ≡ (k.begun [] && all_settled g (tree_ends ts depth k g input)) }
+    {
         self.begun && self.unsettled == 0
     }
 
     /// The fate of the activity at a place; all is waiting in a scope that hasn't begun.
-    pub fn fate(&self, place: usize) -> Fate {
+    pub fn fate(&self, place: usize) -> Fate
+        ensures state { result ≡ fate_in self.now place }
+        ensures shows { (ts : Seq Template) → (depth : ℕ) → (k : Known) → (g : Process) → (input : Values) → Shows ts depth k g input self.now → result ≡ with_hold (hold_in self.now place) (tree_fate ts depth k g input place) }
+    {
         match self.states.get(place) {
             None => Fate::Waiting,
             Some(state) => state.fate(),
@@ -155,7 +191,9 @@ impl ScopeState {
     }
 
     /// The scope of an attempt of the activity at a place.
-    pub fn inner(&self, place: usize, attempt: u64) -> Option<&ScopeState> {
+    pub fn inner(&self, place: usize, attempt: u64) -> Option<&ScopeState>
+        ensures { option_copied result ≡ inner_of self.now place attempt }
+    {
         match self.states.get(place)? {
             ActivityState::Program(_) => None,
             ActivityState::Nested(state) => state.scopes.get(attempt_place(attempt)?),
