@@ -1,12 +1,12 @@
 -- What is read from a scope that shows its view is the view's.
-use Rattle.std.proofs.Common.{◌≡◌, ℕ, zero, suc, ◌+◌, ◌≤◌, ◌<◌, Bool, true, false, ◌&&◌, List, [], ◌∷◌, ◌++◌, length, Option, Some, None, cond, refl, ap, sym, ◌∙◌, arith, append_assoc, length-append}
+use Rattle.std.proofs.Common.{◌≡◌, ℕ, zero, suc, ◌+◌, ◌<◌, Bool, true, false, ◌&&◌, List, [], ◌∷◌, ◌++◌, length, Option, Some, None, cond, refl, ap, sym, ◌∙◌, arith, append_assoc, length-append}
 use Rattle.std.specs.Prelude.{◌==◌, not, slice_get, count_by, unwrap_or}
 use Rattle.std.specs.List.{list_all}
 use Rattle.std.specs.Option.{option_map_or}
 use Rattle.std.proofs.Math.Path.{fun_ext}
 use Rattle.std.proofs.lemmas.Bool.Decides.{nat_tests}
 use Rattle.std.proofs.lemmas.List.Sums.{sum_by-cons}
-use Rattle.std.proofs.lemmas.Option.{slice_get_within, slice_get_past}
+use Rattle.std.proofs.lemmas.Option.{slice_get_within}
 use Rattle.activity_states.specs.States.{State, waiting, dead, opened, finished, fate_of, hold_of, held}
 use Rattle.blocks_subprocs.specs.Ends.{ends_of}
 use Rattle.dead_paths.proofs.Places.{here}
@@ -24,7 +24,7 @@ use Rattle.flow_model.specs.declared.instances.Hold.TheVariants.{Nobody, Person,
 use Rattle.flow_model.specs.declared.instances.SourceEnd.{SourceEnd}
 use Rattle.flow_model.specs.declared.instances.SourceEnd.TheVariants.{Unsettled}
 use Rattle.navigator.specs.Reading.{state_fate, state_hold, fate_in, hold_in, with_hold}
-use Rattle.navigator.specs.Views.{ShowsStart, ShowsNested, ShowsWork, Shows}
+use Rattle.navigator.specs.Views.{ShowsStart, ShowsWork, Shows}
 use Rattle.navigator.specs.declared.scopes.ActivityState.{ActivityState, Program, Nested}
 use Rattle.navigator.specs.declared.scopes.ScopeState.{ScopeState, out-ScopeState}
 

@@ -1,15 +1,14 @@
 -- A scope that hasn't begun shows the view where nothing counts of it.
-use Rattle.std.proofs.Common.{◌≡◌, ℕ, zero, suc, ◌+◌, ◌-◌, ◌*◌, ◌^◌, ◌<◌, ◌≤◌, min, Bool, true, false, ◌&&◌, List, [], ◌∷◌, map, length, get_or, replicate, Option, Some, None, cond, refl, ap, sym, ◌∙◌, subst, arith}
-use Rattle.std.specs.Prelude.{◌==◌, not, slice_get, count_by, unwrap_or}
+use Rattle.std.proofs.Common.{◌≡◌, ℕ, zero, suc, ◌+◌, ◌^◌, ◌<◌, ◌≤◌, Bool, true, false, List, [], ◌∷◌, map, length, get_or, replicate, None, cond, refl, ap, sym, ◌∙◌, subst, arith}
+use Rattle.std.specs.Prelude.{◌==◌, not, count_by}
 use Rattle.std.specs.List.{filter}
 use Rattle.std.proofs.lemmas.List.Folds.{sum_by-replicate}
 use Rattle.std.proofs.lemmas.List.Sums.{length-filter, count_by-le-length}
 use Rattle.std.proofs.lemmas.Option.{slice_get_within, unwrap_or-slice_get}
-use Rattle.activity_states.specs.States.{State, waiting}
 use Rattle.blocks_subprocs.specs.Ends.{ends_of}
 use Rattle.dead_paths.specs.Tallies.{Counts}
-use Rattle.flow_model.specs.Fates.{Ends, connector_value, is_open, is_settled}
-use Rattle.flow_model.specs.Scopes.{Known, Runs, Start, values_at, fate_given, started_at, step, rounds, scope_ends, output}
+use Rattle.flow_model.specs.Fates.{Ends, connector_value, is_settled}
+use Rattle.flow_model.specs.Scopes.{Known, Runs, Start, fate_given, started_at, step, rounds, scope_ends, output}
 use Rattle.flow_model.specs.Wiring.{places, row_at, IsIncoming}
 use Rattle.flow_model.specs.declared.graphs.Activity.{Activity}
 use Rattle.flow_model.specs.declared.graphs.Container.{Container}
@@ -21,10 +20,10 @@ use Rattle.flow_model.specs.declared.instances.Fate.{Fate}
 use Rattle.flow_model.specs.declared.instances.Fate.TheVariants.{Waiting}
 use Rattle.flow_model.specs.declared.instances.SourceEnd.TheVariants.{Unsettled}
 use Rattle.navigator.specs.Fresh.{incoming_count, IsFresh, IsFreshNested, IsFreshWork}
-use Rattle.navigator.specs.Views.{ShowsStart, ShowsNested, ShowsWork, ShowsWithin, Shows, IsUntouched}
+use Rattle.navigator.specs.Views.{ShowsStart, ShowsNested, ShowsWork, Shows, IsUntouched}
 use Rattle.navigator.specs.declared.scopes.ActivityState.{ActivityState, Program, Nested}
-use Rattle.navigator.specs.declared.scopes.NestedState.{NestedState, out-NestedState}
-use Rattle.navigator.specs.declared.scopes.ScopeState.{ScopeState, out-ScopeState}
+use Rattle.navigator.specs.declared.scopes.NestedState.{NestedState}
+use Rattle.navigator.specs.declared.scopes.ScopeState.{ScopeState}
 
 chosen : {X : Type 0} (b : Bool) (n : ℕ) (ps : List ℕ) (x : X) (xs : List X) → length ps ≡ length xs → length (cond b (n ∷ ps) ps) ≡ length (cond b (x ∷ xs) xs)
 chosen true n ps x xs same = ap suc same

@@ -1,3 +1,5 @@
 pub mod Views
 pub mod Fresh
 pub mod Reading
+pub mod Items
+pub mod Instances

@@ -1,16 +1,12 @@
 -- What is read from the states of scopes: places, fates, holds, scopes further in, and items.
-use Rattle.std.specs.Prelude.{◌≡◌, ℕ, zero, suc, ◌==◌, nat_le, Bool, true, false, ◌&&◌, if◌then◌else◌, Option, Some, None, List, [], ◌∷◌, length, slice_get, position, bytes_eq, option_and_then}
+use Rattle.std.specs.Prelude.{ℕ, zero, suc, Option, Some, None, length, slice_get, position, bytes_eq, option_and_then}
 use Rattle.std.specs.Option.{option_map_or}
-use Rattle.activity_states.specs.States.{State, fate_of, hold_of}
-use Rattle.flow_model.specs.ScopeContainers.{graph_in}
-use Rattle.flow_model.specs.declared.graphs.Activity.{Activity}
+use Rattle.activity_states.specs.States.{fate_of, hold_of}
 use Rattle.flow_model.specs.declared.graphs.Graph.{Graph, out-Graph}
-use Rattle.flow_model.specs.declared.graphs.Template.{Template}
 use Rattle.flow_model.specs.declared.instances.Fate.{Fate}
 use Rattle.flow_model.specs.declared.instances.Fate.TheVariants.{Waiting, Ready, Running, Finished, Dead}
 use Rattle.flow_model.specs.declared.instances.Hold.{Hold}
 use Rattle.flow_model.specs.declared.instances.Hold.TheVariants.{Nobody, Person, Agent}
-use Rattle.flow_model.specs.declared.instances.Part.{Part}
 use Rattle.flow_model.specs.declared.names.Name.{Name}
 use Rattle.navigator.specs.Views.{stage_fate}
 use Rattle.navigator.specs.declared.scopes.ActivityState.{ActivityState, Program, Nested}

@@ -16,7 +16,6 @@ use Rattle.flow_model.specs.declared.graphs.Work.{Work, Program as RunsProgram, 
 use Rattle.flow_model.specs.declared.instances.Fate.{Fate}
 use Rattle.flow_model.specs.declared.instances.Fate.TheVariants as fates
 use Rattle.flow_model.specs.declared.instances.Hold.TheVariants.{Nobody}
-use Rattle.flow_model.specs.declared.instances.SourceEnd.{SourceEnd}
 use Rattle.flow_model.specs.declared.names.Name.{Name}
 use Rattle.navigator.specs.declared.scopes.ActivityState.{ActivityState, Program, Nested}
 use Rattle.navigator.specs.declared.scopes.NestedStage.{NestedStage}

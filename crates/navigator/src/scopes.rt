@@ -1,12 +1,13 @@
 //! A scope of an instance.
-ghost use Rattle.std.specs.Prelude.{◌≡◌, ◌==◌, ◌&&◌, ◌<◌, ◌^◌, ℕ, List as Seq, [], length, IfOk, option_copied};
+ghost use Rattle.std.specs.Prelude.{◌≡◌, ◌==◌, ◌&&◌, ◌<◌, ◌^◌, ℕ, List as Seq, [], length, IfOk, option_copied, option_map};
 ghost use Rattle.flow_model.specs.Scopes.{Known, tree_ends, tree_fate};
-ghost use Rattle.flow_model.specs.ScopeContainers.{is_complete as all_settled};
+ghost use Rattle.flow_model.specs.ScopeContainers.{graph_in, is_complete as all_settled};
 ghost use Rattle.flow_model.specs.Wiring.{IsIncoming};
 ghost use Rattle.flow_model.specs.declared.graphs.Graph.{Graph as Process, out-Graph};
 ghost use Rattle.flow_model.specs.declared.graphs.Container.{Container as Values};
 ghost use Rattle.flow_model.specs.declared.graphs.Template.{Template};
 ghost use Rattle.navigator.specs.Fresh.{incoming_count as connectors_to, IsFreshWork, IsFreshNested, IsFresh};
+ghost use Rattle.navigator.specs.Items.{stand, both, into};
 ghost use Rattle.navigator.specs.Reading.{place_of as place_in, attempt_place as place_before, nested_fate, state_fate, fate_in, hold_in, with_hold, inner_of};
 ghost use Rattle.navigator.specs.Views.{IsUntouched, Shows};
 ghost use Rattle.navigator.specs.declared.scopes.NestedState.{out-NestedState};
@@ -15,7 +16,7 @@ ghost use Rattle.navigator.specs.declared.scopes.ScopeState.{out-ScopeState};
 use activity_states::ProgramState;
 use blocks_subprocs::graph_of;
 use dead_paths::Tally;
-use flow_model::{Container, Fate, Graph, Library, Name, Part, SourceEnd, Work};
+use flow_model::{Activity, Container, Fate, Graph, Library, Name, Part, SourceEnd, Work};
 use std::alloc::{AllocError, Global};
 
 /// The state of a block or process activity: its scopes by attempt, and what has become of the last one.
@@ -208,21 +209,31 @@ pub struct Place<'a> {
     pub scope: &'a ScopeState,
 }
 
-/// The scope to which the parts of a path lead.
-pub fn scope_at<'a>(
+/// The scope of an attempt of the activity at a place, if the activity runs a graph.
+fn step_in<'a>(
+    library: &'a Library,
+    scope: &'a ScopeState,
+    place: usize,
+    activity: &'a Activity,
+    attempt: u64,
+) -> Option<Place<'a>>
+    ensures { option_map (λ p. stand p.graph.now p.scope.now) result ≡ both (graph_in library.now.templates activity.now.work) (inner_of scope.now place attempt) }
+{
+    let graph = graph_of(library, &activity.work)?;
+    let scope = scope.inner(place, attempt)?;
+    Some(Place { graph, scope })
+}
+
+/// The scope one step down.
+pub fn step_into<'a>(
     library: &'a Library,
     graph: &'a Graph,
     scope: &'a ScopeState,
-    parts: &[Part],
-) -> Option<Place<'a>> {
-    let mut at = Place { graph, scope };
-    for part in parts {
-        let place = place_of(at.graph, &part.name)?;
-        let activity = at.graph.activities.as_slice().get(place)?;
-        at = Place {
-            graph: graph_of(library, &activity.work)?,
-            scope: at.scope.inner(place, part.attempt)?,
-        };
-    }
-    Some(at)
+    part: &Part,
+) -> Option<Place<'a>>
+    ensures { option_map (λ p. stand p.graph.now p.scope.now) result ≡ into library.now.templates (stand graph.now scope.now) part.now }
+{
+    let place = place_of(graph, &part.name)?;
+    let activity = graph.activities.as_slice().get(place)?;
+    step_in(library, scope, place, activity, part.attempt)
 }

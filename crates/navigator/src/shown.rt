@@ -1,4 +1,19 @@
 //! What an instance shows: its rows, and the containers of items and of the root.
+ghost use Rattle.std.specs.Prelude.{◌≡◌, ◌+◌, ◌<◌, ◌^◌, ℕ, Some, List as Seq, true, IfOk, slice_get};
+ghost use Rattle.activity_states.specs.States.{fate_of};
+ghost use Rattle.blocks_subprocs.specs.Ends.{ends_of};
+ghost use Rattle.flow_model.specs.Containers.{fresh as fresh_container};
+ghost use Rattle.flow_model.specs.ScopeContainers.{fed, graph_of as template_graph, is_complete as all_settled};
+ghost use Rattle.flow_model.specs.Scopes.{Known, tree_ends, output as output_of_scope};
+ghost use Rattle.flow_model.specs.Wiring.{IsFeeding, IsLooping, IsSinking};
+ghost use Rattle.flow_model.specs.declared.graphs.Container.{Container as Values};
+ghost use Rattle.flow_model.specs.declared.graphs.Graph.{Graph as Process, out-Graph};
+ghost use Rattle.flow_model.specs.declared.graphs.MapEnd.TheVariants.{Border};
+ghost use Rattle.flow_model.specs.declared.graphs.Template.{Template};
+ghost use Rattle.navigator.specs.Items.{item_input};
+ghost use Rattle.navigator.specs.Views.{Shows};
+ghost use Rattle.navigator.specs.declared.scopes.ScopeState.{out-ScopeState};
+
 use crate::changes::path_below;
 use crate::instance::{Instance, Item};
 use crate::scopes::{ActivityState, NestedState, ScopeState};
@@ -52,6 +67,13 @@ fn add_rows<'x>(
     Ok(())
 }
 
+/// The output of a scope, once it is complete.
+fn scope_output(alloc: Global, graph: &Graph, scope: &ScopeState) -> Result<Container, AllocError>
+    ensures { IsSinking graph.now → IfOk result (λ out. out ≡ fed (out-Graph graph.now).lines Border (out-ScopeState scope.now).input (ends_of (out-ScopeState scope.now).ends.items) (fresh_container (out-Graph graph.now).output)) }
+{
+    output_of(alloc, graph, &scope.input, &scope.ends)
+}
+
 impl Instance {
     /// The view in show order.
     pub fn rows(&self, alloc: Global, library: &Library) -> Result<List<FateRow>, AllocError> {
@@ -67,19 +89,23 @@ impl Instance {
     }
 
     /// The output of the root, where its mode is DONE.
-    pub fn output(&self, alloc: Global, library: &Library) -> Result<Container, AllocError> {
+    pub fn output(&self, alloc: Global, library: &Library) -> Result<Container, AllocError>
+        ensures { IfOk result (λ out. (g : Process) → template_graph library.now.templates self.now.template ≡ Some g → IsSinking g → (depth : ℕ) → (k : Known) → (input : Values) → Shows library.now.templates depth k g input self.now.scope → all_settled g (tree_ends library.now.templates depth k g input) ≡ true → output_of_scope library.now.templates (depth + 1) k g input ≡ Some out) }
+    {
         match self.graph(library) {
             None => Ok(Container {
                 values: List::new(alloc),
             }),
-            Some(graph) => output_of(alloc, graph, &self.scope.input, &self.scope.ends),
+            Some(graph) => scope_output(alloc, graph, &self.scope),
         }
     }
 }
 
 impl<'a> Item<'a> {
     /// The input of the item: the base input, with the LOOP maps from the output of the attempt before it.
-    pub fn input(&self, alloc: Global) -> Result<Container, AllocError> {
+    pub fn input(&self, alloc: Global) -> Result<Container, AllocError>
+        ensures { self.now.number < 2 ^ 32 → IsFeeding self.now.place.graph.now → IsLooping self.now.place.graph.now → IfOk result (λ c. c ≡ item_input self.now.place.graph.now self.now.place.scope.now self.now.number self.now.state.now self.now.attempt) }
+    {
         let (graph, scope) = (self.place.graph, self.place.scope);
         let number = u32::try_from(self.number).unwrap_or(u32::MAX);
         let base = base_input(alloc, graph, number, &scope.input, &scope.ends)?;
@@ -90,7 +116,9 @@ impl<'a> Item<'a> {
     }
 
     /// The fate of the item's activity.
-    pub fn fate(&self) -> Fate {
+    pub fn fate(&self) -> Fate
+        ensures { result ≡ fate_of self.now.state.now }
+    {
         self.state.fate()
     }
 

@@ -1,10 +1,9 @@
-use Rattle.std.proofs.Common.{◌≡◌, ◌<◌, List, length, Some, refl, ap, sym, ◌∙◌, arith, false, None, replicate}
+use Rattle.std.proofs.Common.{◌≡◌, ◌<◌, length, Some, refl, ap, arith, false, None, replicate}
 use Rattle.std.specs.Prelude.{slice_get}
 use Rattle.std.proofs.lemmas.Option.{slice_get_read}
 use Rattle.dead_paths.specs.Tallies.{Counts}
 use Rattle.flow_model.specs.declared.graphs.Graph.{out-Graph}
-use Rattle.flow_model.specs.declared.instances.SourceEnd.TheVariants.{Unsettled}
-use Rattle.navigator.specs.Fresh.{incoming_count, IsFresh}
+use Rattle.navigator.specs.Fresh.{incoming_count}
 use Rattle.navigator.specs.declared.scopes.ScopeState.{ScopeState, roll-ScopeState}
 use Rattle.navigator.proofs.Making.{made_more, made_fresh}
 use Rattle.navigator.proofs.Untouched.{fresh_shows}
