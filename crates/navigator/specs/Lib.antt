@@ -3,3 +3,4 @@ pub mod Fresh
 pub mod Reading
 pub mod Items
 pub mod Instances
+pub mod Steps

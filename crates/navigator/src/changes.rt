@@ -1,4 +1,22 @@
 //! What an event does to the scope that receives it, and what follows from it.
+ghost use Rattle.std.specs.Prelude.{◌≡◌, ◌∷◌, ◌++◌, ◌-◌, ◌<◌, ◌^◌, ℕ, List as Seq, Option, Bool, [], Some, None, IfOk, OnOk, slice_get};
+ghost use Rattle.activity_states.specs.States.{State, made_ready};
+ghost use Rattle.blocks_subprocs.specs.Ends.{ends_of};
+ghost use Rattle.dead_paths.specs.Tallies.{Counts};
+ghost use Rattle.dead_paths.specs.declared.joins.Tally.{Tally};
+ghost use Rattle.flow_model.specs.Fates.{joined};
+ghost use Rattle.flow_model.specs.Rows.{below as path_to};
+ghost use Rattle.flow_model.specs.ScopeContainers.{graph_in, base_of};
+ghost use Rattle.flow_model.specs.Scopes.{part};
+ghost use Rattle.flow_model.specs.Wiring.{IsFeeding, IsOutgoing};
+ghost use Rattle.flow_model.specs.declared.graphs.Activity.{Activity as Node};
+ghost use Rattle.flow_model.specs.declared.graphs.Graph.{Graph as Process, out-Graph};
+ghost use Rattle.flow_model.specs.declared.instances.Message.TheVariants.{Begin};
+ghost use Rattle.flow_model.specs.declared.instances.SourceEnd.TheVariants.{Dead};
+ghost use Rattle.navigator.specs.Steps.{fields, told, with_state, settled, end_after, tell_settled, changed_at, ready_state, dead_state, dies, BeginsNext, Opens, Decides};
+ghost use Rattle.navigator.specs.declared.scopes.ActivityState.{ActivityState as Stands, Program};
+ghost use Rattle.navigator.specs.declared.scopes.ScopeState.{out-ScopeState};
+
 use crate::scopes::{ActivityState, NestedStage, NestedState, ScopeState, attempt_place, place_of};
 use blocks_subprocs::{Next, base_input, graph_of, next_attempt, next_input, output_of};
 use containers::with_return_code;
@@ -25,6 +43,42 @@ impl Effects {
             ends: Vec::new(alloc),
             ready: Vec::new(alloc),
         }
+    }
+
+    /// Adds signals.
+    fn add_signals(&mut self, signals: List<Message>) -> Result<(), AllocError>
+        ensures { OnOk result (told self.new ≡ record (told self.old) { signals = (told self.old).signals ++ signals }) }
+    {
+        for signal in signals.into_vec() {
+            self.signals.push(signal)?;
+        }
+        Ok(())
+    }
+
+    /// Adds the BEGIN of a scope.
+    fn add_begin(&mut self, scope: Path) -> Result<(), AllocError>
+        ensures { OnOk result (told self.new ≡ record (told self.old) { begins = (told self.old).begins ++ Begin scope ∷ [] }) }
+    {
+        self.begins.push(Message::Begin(scope))?;
+        Ok(())
+    }
+
+    /// Adds the END of a scope of which so many activities are left, if it is due; the root has none.
+    fn add_end(&mut self, alloc: Global, path: &Path, left: usize) -> Result<(), AllocError>
+        ensures { OnOk result (told self.new ≡ record (told self.old) { ends = (told self.old).ends ++ end_after path.now left }) }
+    {
+        if left == 0 && !path.parts.is_empty() {
+            self.ends.push(Message::End(path.copy(alloc)?))?;
+        }
+        Ok(())
+    }
+
+    /// Adds an item that came to be ready.
+    fn add_ready(&mut self, item: Path) -> Result<(), AllocError>
+        ensures { OnOk result (told self.new ≡ record (told self.old) { ready = (told self.old).ready ++ item ∷ [] }) }
+    {
+        self.ready.push(item)?;
+        Ok(())
     }
 }
 
@@ -54,13 +108,37 @@ pub fn path_below(
     scope: &Path,
     activity: &Activity,
     attempt: u64,
-) -> Result<Path, AllocError> {
+) -> Result<Path, AllocError>
+    ensures { IfOk result (λ p. p ≡ path_to scope.now (part activity.now.name attempt)) }
+{
     let mut path = scope.copy(alloc)?;
     path.parts.push(Part {
         name: activity.name.copy(alloc)?,
         attempt,
     })?;
     Ok(path)
+}
+
+impl ActivityState {
+    /// The first attempt of a program activity is ready.
+    fn make_ready(&mut self, clock: u64)
+        ensures { self.new ≡ ready_state clock self.old }
+    {
+        match self {
+            ActivityState::Program(state) => state.make_ready(clock),
+            ActivityState::Nested(_) => {}
+        }
+    }
+
+    /// The join is false.
+    fn kill(&mut self)
+        ensures { self.new ≡ dead_state self.old }
+    {
+        match self {
+            ActivityState::Program(state) => state.kill(),
+            ActivityState::Nested(state) => state.stage = NestedStage::Dead,
+        }
+    }
 }
 
 impl ScopeState {
@@ -73,7 +151,9 @@ impl ScopeState {
         activity: &'x Activity,
         input: Container,
         effects: &mut Effects,
-    ) -> Result<(), AllocError> {
+    ) -> Result<(), AllocError>
+        ensures { (h : Process) → graph_in with.entry.library.now.templates activity.now.work ≡ Some h → (was : Stands) → slice_get (fields self.old).states place ≡ Some was → OnOk result (BeginsNext h input path.now place activity.now was (fields self.old) (fields self.new) (told effects.old) (told effects.new)) }
+    {
         let Some(graph) = graph_of(with.library, &activity.work) else {
             return Ok(());
         };
@@ -83,8 +163,50 @@ impl ScopeState {
         let scope = ScopeState::new(with.alloc, graph, input)?;
         let attempt = state.add_scope(scope)?;
         let below = path_below(with.alloc, path, activity, attempt)?;
-        effects.begins.push(Message::Begin(below))?;
+        effects.add_begin(below)?;
         Ok(())
+    }
+
+    /// The first attempt of the activity at a place is ready, if it is a program activity.
+    fn set_ready(&mut self, place: usize, clock: u64)
+        ensures { fields self.new ≡ changed_at (ready_state clock) place (slice_get (fields self.old).states place) (fields self.old) }
+    {
+        if let Some(state) = self.states.get_mut(place) {
+            state.make_ready(clock);
+        }
+    }
+
+    /// The first attempt of a program activity is ready.
+    fn open_item<'x>(
+        &mut self,
+        with: Context<'x>,
+        path: &Path,
+        place: usize,
+        activity: &'x Activity,
+        effects: &mut Effects,
+    ) -> Result<(), AllocError>
+        ensures { (p : State) → slice_get (fields self.old).states place ≡ Some (Program p) → OnOk result ((fields self.new ≡ with_state place (Program (made_ready p with.entry.clock)) (fields self.old)) × (told effects.new ≡ record (told effects.old) { ready = (told effects.old).ready ++ path_to path.now (part activity.now.name 1) ∷ [] })) }
+    {
+        self.set_ready(place, with.clock);
+        effects.add_ready(path_below(with.alloc, path, activity, 1)?)?;
+        Ok(())
+    }
+
+    /// The first scope of a block or process activity: its input is the base input.
+    fn open_scope<'x>(
+        &mut self,
+        with: Context<'x>,
+        graph: &'x Graph,
+        path: &Path,
+        place: usize,
+        activity: &'x Activity,
+        effects: &mut Effects,
+    ) -> Result<(), AllocError>
+        ensures { place < 2 ^ 32 → IsFeeding graph.now → slice_get (out-Graph graph.now).activities place ≡ Some activity.now → (h : Process) → graph_in with.entry.library.now.templates activity.now.work ≡ Some h → (was : Stands) → slice_get (fields self.old).states place ≡ Some was → OnOk result (BeginsNext h (base_of graph.now activity.now place (fields self.old).input (ends_of (fields self.old).ends)) path.now place activity.now was (fields self.old) (fields self.new) (told effects.old) (told effects.new)) }
+    {
+        let number = u32::try_from(place).unwrap_or(u32::MAX);
+        let input = base_input(with.alloc, graph, number, &self.input, &self.ends)?;
+        self.begin_attempt(with, path, place, activity, input, effects)
     }
 
     /// The join of the activity at a place is true: its first attempt comes to be.
@@ -96,17 +218,27 @@ impl ScopeState {
         place: usize,
         activity: &'x Activity,
         effects: &mut Effects,
-    ) -> Result<(), AllocError> {
-        if let Some(ActivityState::Program(state)) = self.states.get_mut(place) {
-            state.make_ready(with.clock);
-            effects
-                .ready
-                .push(path_below(with.alloc, path, activity, 1)?)?;
-            return Ok(());
+    ) -> Result<(), AllocError>
+        ensures { place < 2 ^ 32 → IsFeeding graph.now → slice_get (out-Graph graph.now).activities place ≡ Some activity.now → OnOk result (Opens with.entry.library.now.templates graph.now path.now with.entry.clock place activity.now (slice_get (fields self.old).states place) (fields self.old) (fields self.new) (told effects.old) (told effects.new)) }
+    {
+        match self.states.get(place) {
+            None => Ok(()),
+            Some(ActivityState::Program(_)) => self.open_item(with, path, place, activity, effects),
+            Some(ActivityState::Nested(_)) => {
+                self.open_scope(with, graph, path, place, activity, effects)?;
+                Ok(())
+            }
         }
-        let number = u32::try_from(place).unwrap_or(u32::MAX);
-        let input = base_input(with.alloc, graph, number, &self.input, &self.ends)?;
-        self.begin_attempt(with, path, place, activity, input, effects)
+    }
+
+    /// The activity at a place has ended so.
+    fn set_end(&mut self, place: usize, end: SourceEnd)
+        ensures { fields self.new ≡ settled place end (fields self.old) }
+    {
+        if let Some(known) = self.ends.get_mut(place) {
+            *known = end;
+        }
+        self.unsettled = self.unsettled.saturating_sub(1);
     }
 
     /// The activity at a place is settled: its signals go out, and the scope's END where it was the last.
@@ -118,20 +250,24 @@ impl ScopeState {
         place: usize,
         end: SourceEnd,
         effects: &mut Effects,
-    ) -> Result<(), AllocError> {
+    ) -> Result<(), AllocError>
+        ensures state { OnOk result (fields self.new ≡ settled place end (fields self.old)) }
+        ensures tells { place < 2 ^ 32 → IsOutgoing graph.now → OnOk result (told effects.new ≡ tell_settled graph.now path.now place end ((fields self.old).unsettled - 1) (told effects.old)) }
+    {
         let number = u32::try_from(place).unwrap_or(u32::MAX);
         let signals = signals_of(with.alloc, graph, path, number, &end)?;
-        for signal in signals.into_vec() {
-            effects.signals.push(signal)?;
+        effects.add_signals(signals)?;
+        self.set_end(place, end);
+        effects.add_end(with.alloc, path, self.unsettled)
+    }
+
+    /// The activity at a place is dead.
+    fn set_dead(&mut self, place: usize)
+        ensures { fields self.new ≡ changed_at dead_state place (slice_get (fields self.old).states place) (fields self.old) }
+    {
+        if let Some(state) = self.states.get_mut(place) {
+            state.kill();
         }
-        if let Some(known) = self.ends.get_mut(place) {
-            *known = end;
-        }
-        self.unsettled = self.unsettled.saturating_sub(1);
-        if self.unsettled == 0 && !path.parts.is_empty() {
-            effects.ends.push(Message::End(path.copy(with.alloc)?))?;
-        }
-        Ok(())
     }
 
     /// The join of the activity at a place is false.
@@ -142,12 +278,11 @@ impl ScopeState {
         path: &Path,
         place: usize,
         effects: &mut Effects,
-    ) -> Result<(), AllocError> {
-        match self.states.get_mut(place) {
-            None => {}
-            Some(ActivityState::Program(state)) => state.kill(),
-            Some(ActivityState::Nested(state)) => state.stage = NestedStage::Dead,
-        }
+    ) -> Result<(), AllocError>
+        ensures state { OnOk result (fields self.new ≡ dies place (fields self.old)) }
+        ensures tells { place < 2 ^ 32 → IsOutgoing graph.now → OnOk result (told effects.new ≡ tell_settled graph.now path.now place Dead ((fields self.old).unsettled - 1) (told effects.old)) }
+    {
+        self.set_dead(place);
         self.settle(with, graph, path, place, SourceEnd::Dead, effects)
     }
 
@@ -159,7 +294,9 @@ impl ScopeState {
         path: &Path,
         place: usize,
         effects: &mut Effects,
-    ) -> Result<(), AllocError> {
+    ) -> Result<(), AllocError>
+        ensures { place < 2 ^ 32 → IsFeeding graph.now → IsOutgoing graph.now → (activity : Node) → slice_get (out-Graph graph.now).activities place ≡ Some activity → (t : Tally) → slice_get (fields self.old).tallies place ≡ Some t → (vs : Seq (Option Bool)) → Counts t vs → OnOk result (Decides with.entry.library.now.templates graph.now path.now with.entry.clock place activity (joined activity.join vs) (fields self.old) (fields self.new) (told effects.old) (told effects.new)) }
+    {
         let Some(activity) = graph.activities.as_slice().get(place) else {
             return Ok(());
         };
@@ -277,7 +414,7 @@ impl ScopeState {
         }
         if let Fate::Ready(attempt) = state.fate() {
             let item = path_below(with.alloc, path, activity, attempt)?;
-            effects.ready.push(item)?;
+            effects.add_ready(item)?;
         }
         Ok(())
     }

@@ -1,5 +1,5 @@
 //! A scope of an instance.
-ghost use Rattle.std.specs.Prelude.{◌≡◌, ◌==◌, ◌&&◌, ◌<◌, ◌^◌, ℕ, List as Seq, [], length, IfOk, option_copied, option_map};
+ghost use Rattle.std.specs.Prelude.{◌≡◌, ◌+◌, ◌==◌, ◌&&◌, ◌<◌, ◌^◌, ℕ, List as Seq, [], length, IfOk, OnOk, option_copied, option_map};
 ghost use Rattle.flow_model.specs.Scopes.{Known, tree_ends, tree_fate};
 ghost use Rattle.flow_model.specs.ScopeContainers.{graph_in, is_complete as all_settled};
 ghost use Rattle.flow_model.specs.Wiring.{IsIncoming};
@@ -9,6 +9,7 @@ ghost use Rattle.flow_model.specs.declared.graphs.Template.{Template};
 ghost use Rattle.navigator.specs.Fresh.{incoming_count as connectors_to, IsFreshWork, IsFreshNested, IsFresh};
 ghost use Rattle.navigator.specs.Items.{stand, both, into};
 ghost use Rattle.navigator.specs.Reading.{place_of as place_in, attempt_place as place_before, nested_fate, state_fate, fate_in, hold_in, with_hold, inner_of};
+ghost use Rattle.navigator.specs.Steps.{Grows, GrowsState, next_of};
 ghost use Rattle.navigator.specs.Views.{IsUntouched, Shows};
 ghost use Rattle.navigator.specs.declared.scopes.NestedState.{out-NestedState};
 ghost use Rattle.navigator.specs.declared.scopes.ScopeState.{out-ScopeState};
@@ -102,7 +103,10 @@ impl NestedState {
 
 impl NestedState {
     /// Adds the scope of the next attempt; answers its number.
-    fn add_scope(&mut self, scope: ScopeState) -> Result<u64, AllocError> {
+    fn add_scope(&mut self, scope: ScopeState) -> Result<u64, AllocError>
+        ensures number { IfOk result (λ j. j ≡ length (out-NestedState self.old).scopes.items + 1) }
+        ensures grows { OnOk result (Grows scope self.old self.new) }
+    {
         self.scopes.push(scope)?;
         self.stage = NestedStage::Running;
         Ok(self.scopes.len() as u64)
@@ -111,7 +115,10 @@ impl NestedState {
 
 impl ActivityState {
     /// Adds the scope of the next attempt of a block or process activity; answers its number.
-    pub fn add_scope(&mut self, scope: ScopeState) -> Result<u64, AllocError> {
+    pub fn add_scope(&mut self, scope: ScopeState) -> Result<u64, AllocError>
+        ensures number { IfOk result (λ j. j ≡ next_of self.old) }
+        ensures grows { OnOk result (GrowsState scope self.old self.new) }
+    {
         match self {
             ActivityState::Program(_) => Ok(0),
             ActivityState::Nested(state) => state.add_scope(scope),
