@@ -1,6 +1,9 @@
 -- What holds of each element of a list at its place, when the list gets longer or an element is replaced.
 use Rattle.std.proofs.Common.{◌≡◌, ℕ, zero, suc, ◌+◌, List, [], ◌∷◌, ◌++◌, length, replicate, Some, None, refl, ap, ◌∙◌, subst, arith}
-use Rattle.std.specs.Prelude.{slice_get}
+use Rattle.std.specs.Prelude.{slice_get, slice_set}
+use Rattle.std.proofs.Common.{get_or, ◌<◌, get_or-set_same}
+use Rattle.std.proofs.Math.ListN.{length-set}
+use Rattle.std.proofs.lemmas.Option.{slice_get_within, slice_get-get_or, get_or_from_slice_get}
 
 -- a fact of each element at its place
 abbrev pub Each : {X : Type 0} → (ℕ → X → Type 0) → List X → Type 0
@@ -21,3 +24,15 @@ replicate_more n x = go n ∙ ap (λ m. replicate m x) (let e : suc n ≡ n + 1 
     go : (m : ℕ) → replicate m x ++ x ∷ [] ≡ replicate (suc m) x
     go zero = refl
     go (suc m) = ap (λ r. x ∷ r) (go m)
+
+-- what is put at a place stands there
+pub set_read : {X : Type 0} (xs : List X) (i : ℕ) (x y : X) → slice_get xs i ≡ Some x → slice_get (slice_set xs i y) i ≡ Some y
+set_read xs i x y at =
+    let less : i < length xs = slice_get_within xs i x at in
+    let same : length (slice_set xs i y) ≡ length xs = simp length-set in
+    let within : i < length (slice_set xs i y) = omega arith in
+    slice_get-get_or (slice_set xs i y) i y within ∙ ap Some (get_or-set_same xs i y y less)
+
+-- what is read at a place is what stands there
+pub same_at : {X : Type 0} (xs : List X) (i : ℕ) (x y : X) → slice_get xs i ≡ Some x → y ≡ get_or xs i y → y ≡ x
+same_at xs i x y at is = is ∙ get_or_from_slice_get xs i x y at

@@ -1,22 +1,31 @@
 -- What each step of an event does to the scope that receives it, and which messages and items follow.
 use Rattle.std.specs.Prelude.{◌≡◌, ℕ, ◌+◌, ◌-◌, ◌==◌, Bool, true, false, not, ◌&&◌, if◌then◌else◌, Option, Some, None, List, [], ◌∷◌, ◌++◌, length, slice_get, slice_set}
-use Rattle.activity_states.specs.States.{made_ready, killed}
+use Rattle.activity_states.specs.States.{State, fate_of, made_ready, killed, completed}
+use Rattle.activity_states.specs.declared.states.Completed.{Completed}
 use Rattle.blocks_subprocs.specs.Ends.{ends_of}
 use Rattle.dead_paths.specs.Signals.{signals}
+use Rattle.dead_paths.specs.Tallies.{Counts}
 use Rattle.dead_paths.specs.declared.joins.Tally.{Tally}
+use Rattle.flow_model.specs.Conditions.{holds}
+use Rattle.flow_model.specs.Containers.{fresh, with_return_code}
+use Rattle.flow_model.specs.Fates.{joined}
 use Rattle.flow_model.specs.Rows.{below}
-use Rattle.flow_model.specs.ScopeContainers.{graph_in, base_of}
+use Rattle.flow_model.specs.ScopeContainers.{graph_in, base_of, fed, looped}
 use Rattle.flow_model.specs.Scopes.{part}
 use Rattle.flow_model.specs.declared.graphs.Activity.{Activity}
 use Rattle.flow_model.specs.declared.graphs.Container.{Container}
-use Rattle.flow_model.specs.declared.graphs.Graph.{Graph}
+use Rattle.flow_model.specs.declared.graphs.Graph.{Graph, out-Graph}
+use Rattle.flow_model.specs.declared.graphs.MapEnd.TheVariants.{Border}
 use Rattle.flow_model.specs.declared.graphs.Template.{Template}
+use Rattle.flow_model.specs.declared.instances.Fate.{Fate}
+use Rattle.flow_model.specs.declared.instances.Fate.TheVariants as fates
 use Rattle.flow_model.specs.declared.instances.Message.{Message}
 use Rattle.flow_model.specs.declared.instances.Message.TheVariants.{Begin, End}
 use Rattle.flow_model.specs.declared.instances.Part.{Part}
 use Rattle.flow_model.specs.declared.instances.Path.{Path}
 use Rattle.flow_model.specs.declared.instances.SourceEnd.{SourceEnd}
 use Rattle.flow_model.specs.declared.instances.SourceEnd.TheVariants as end
+use Rattle.flow_model.specs.declared.names.Name.{Name}
 use Rattle.navigator.specs.Fresh.{IsFresh}
 use Rattle.navigator.specs.declared.changes.Effects.{Effects}
 use Rattle.navigator.specs.declared.scopes.ActivityState.{ActivityState, Program, Nested}
@@ -140,3 +149,69 @@ abbrev pub Decides : List Template → Graph → Path → ℕ → ℕ → Activi
 Decides ts g path clock a activity None old new before after = (new ≡ old) × (after ≡ before)
 Decides ts g path clock a activity (Some true) old new before after = Opens ts g path clock a activity (slice_get old.states a) old new before after
 Decides ts g path clock a activity (Some false) old new before after = (new ≡ dies a old) × (after ≡ tell_settled g path a end.Dead (old.unsettled - 1) before)
+
+-- ---- a signal is taken
+
+-- the tally of an activity counts these values
+pub record TakesValue (a : ℕ) (vs : List (Option Bool)) (old new : Fields) : Type 0 where
+  pub tally : Tally
+  pub counts : Counts tally vs
+  pub scope : new ≡ record old { tallies = slice_set old.tallies a tally }
+
+-- the values are these, and the activity is decided where they say so
+pub record TakesSignal (ts : List Template) (g : Graph) (path : Path) (clock a : ℕ) (activity : Activity) (vs : List (Option Bool)) (old new : Fields) (before after : Told) : Type 0 where
+  pub middle : Fields
+  pub takes : TakesValue a vs old middle
+  pub decides : Decides ts g path clock a activity (joined activity.join vs) middle new before after
+
+-- ---- an attempt of a program activity is completed
+
+-- the item that is ready next
+abbrev pub ready_item : Path → Name → Fate → List Path
+ready_item path name fates.Waiting = []
+ready_item path name (fates.Ready j) = below path (part name j) ∷ []
+ready_item path name (fates.Running j) = []
+ready_item path name (fates.Finished j) = []
+ready_item path name fates.Dead = []
+
+abbrev pub completed_state : Completed → Bool → ℕ → ActivityState → ActivityState
+completed_state c last clock (Program p) = Program (completed p c last clock)
+completed_state c last clock (Nested n) = Nested n
+
+-- where the completion is the last one, the activity is settled, else the next item is ready
+abbrev pub CompletesBy : Bool → Graph → Path → ℕ → ℕ → Activity → State → Completed → Fields → Fields → Told → Told → Type 0
+CompletesBy true g path clock a activity p c old new before after =
+    (new ≡ settled a (end.Finished c.output) (with_state a (Program (completed p c true clock)) old))
+    × (after ≡ tell_settled g path a (end.Finished c.output) (old.unsettled - 1) before)
+CompletesBy false g path clock a activity p c old new before after =
+    (new ≡ with_state a (Program (completed p c false clock)) old)
+    × (after ≡ record before { ready = before.ready ++ ready_item path activity.name (fate_of (completed p c false clock)) })
+
+-- by the exit condition
+abbrev pub Completes : Graph → Path → ℕ → ℕ → Activity → State → Completed → Fields → Fields → Told → Told → Type 0
+Completes g path clock a activity p c old new before after = CompletesBy (holds activity.exit c.output) g path clock a activity p c old new before after
+
+-- ---- the scope of an attempt has ended
+
+-- the output of a scope, with the return code before it
+abbrev pub given_by : Graph → ScopeState → Container
+given_by h s = with_return_code (fed (out-Graph h).lines Border (out-ScopeState s).input (ends_of (out-ScopeState s).ends.items) (fresh (out-Graph h).output))
+
+abbrev pub finished_state : ActivityState → ActivityState
+finished_state (Program p) = Program p
+finished_state (Nested n) = Nested (at_stage stages.Finished n)
+
+-- it is finished, and settled
+abbrev pub finishes : ℕ → Container → Fields → Fields
+finishes a out f = settled a (end.Finished out) (changed_at finished_state a (slice_get f.states a) f)
+
+-- where the attempt is the last one, the activity is settled, else the next scope reads the base input with the LOOP maps from this output
+abbrev pub EndsBy : Bool → Graph → Graph → Path → ℕ → Activity → ActivityState → Container → Fields → Fields → Told → Told → Type 0
+EndsBy true g h path a activity was out old new before after =
+    (new ≡ finishes a out old) × (after ≡ tell_settled g path a (end.Finished out) (old.unsettled - 1) before)
+EndsBy false g h path a activity was out old new before after =
+    BeginsNext h (looped (out-Graph g).loops a out (base_of g activity a old.input (ends_of old.ends))) path a activity was old new before after
+
+-- by the exit condition
+abbrev pub EndsAttempt : Graph → Graph → Path → ℕ → Activity → ActivityState → Container → Fields → Fields → Told → Told → Type 0
+EndsAttempt g h path a activity was out old new before after = EndsBy (holds activity.exit out) g h path a activity was out old new before after

@@ -1,21 +1,23 @@
 //! What an event does to the scope that receives it, and what follows from it.
 ghost use Rattle.std.specs.Prelude.{◌≡◌, ◌∷◌, ◌++◌, ◌-◌, ◌<◌, ◌^◌, ℕ, List as Seq, Option, Bool, [], Some, None, IfOk, OnOk, slice_get};
-ghost use Rattle.activity_states.specs.States.{State, made_ready};
+ghost use Rattle.activity_states.specs.States.{State, fate_of, made_ready, completed};
 ghost use Rattle.blocks_subprocs.specs.Ends.{ends_of};
 ghost use Rattle.dead_paths.specs.Tallies.{Counts};
 ghost use Rattle.dead_paths.specs.declared.joins.Tally.{Tally};
 ghost use Rattle.flow_model.specs.Fates.{joined};
 ghost use Rattle.flow_model.specs.Rows.{below as path_to};
-ghost use Rattle.flow_model.specs.ScopeContainers.{graph_in, base_of};
+ghost use Rattle.flow_model.specs.ScopeContainers.{graph_in, base_of, looped};
+ghost use Rattle.flow_model.specs.Conditions.{holds};
 ghost use Rattle.flow_model.specs.Scopes.{part};
-ghost use Rattle.flow_model.specs.Wiring.{IsFeeding, IsOutgoing};
+ghost use Rattle.flow_model.specs.Wiring.{IsFeeding, IsLooping, IsOutgoing, IsSinking};
 ghost use Rattle.flow_model.specs.declared.graphs.Activity.{Activity as Node};
 ghost use Rattle.flow_model.specs.declared.graphs.Graph.{Graph as Process, out-Graph};
 ghost use Rattle.flow_model.specs.declared.instances.Message.TheVariants.{Begin};
-ghost use Rattle.flow_model.specs.declared.instances.SourceEnd.TheVariants.{Dead};
-ghost use Rattle.navigator.specs.Steps.{fields, told, with_state, settled, end_after, tell_settled, changed_at, ready_state, dead_state, dies, BeginsNext, Opens, Decides};
+ghost use Rattle.flow_model.specs.declared.instances.SourceEnd.TheVariants.{Dead, Finished};
+ghost use Rattle.navigator.specs.Steps.{fields, told, with_state, settled, end_after, tell_settled, changed_at, ready_state, completed_state, dead_state, finished_state, dies, finishes, ready_item, given_by, BeginsNext, Opens, Decides, TakesValue, TakesSignal, Completes, EndsAttempt};
+ghost use Rattle.navigator.specs.Reading.{inner_of};
 ghost use Rattle.navigator.specs.declared.scopes.ActivityState.{ActivityState as Stands, Program};
-ghost use Rattle.navigator.specs.declared.scopes.ScopeState.{out-ScopeState};
+ghost use Rattle.navigator.specs.declared.scopes.ScopeState.{ScopeState as Scope};
 
 use crate::scopes::{ActivityState, NestedStage, NestedState, ScopeState, attempt_place, place_of};
 use blocks_subprocs::{Next, base_input, graph_of, next_attempt, next_input, output_of};
@@ -80,6 +82,25 @@ impl Effects {
         self.ready.push(item)?;
         Ok(())
     }
+
+    /// Adds the item of an activity with this fate, if an attempt is ready.
+    fn add_next(
+        &mut self,
+        alloc: Global,
+        path: &Path,
+        activity: &Activity,
+        fate: Fate,
+    ) -> Result<(), AllocError>
+        ensures { OnOk result (told self.new ≡ record (told self.old) { ready = (told self.old).ready ++ ready_item path.now activity.now.name fate }) }
+    {
+        match fate {
+            Fate::Waiting => Ok(()),
+            Fate::Ready(attempt) => self.add_ready(path_below(alloc, path, activity, attempt)?),
+            Fate::Running(_) => Ok(()),
+            Fate::Finished(_) => Ok(()),
+            Fate::Dead => Ok(()),
+        }
+    }
 }
 
 /// An event of a scope.
@@ -130,6 +151,36 @@ impl ActivityState {
         }
     }
 
+    /// The next attempt of a program activity is completed; answers its fate.
+    fn complete(
+        &mut self,
+        output: Container,
+        performer: Option<Name>,
+        finished: bool,
+        clock: u64,
+    ) -> Result<Fate, AllocError>
+        ensures fate { (p : State) → self.old ≡ Program p → IfOk result (λ f. f ≡ fate_of (completed p (record { output = output; performer = performer }) finished clock)) }
+        ensures state { OnOk result (self.new ≡ completed_state (record { output = output; performer = performer }) finished clock self.old) }
+    {
+        match self {
+            ActivityState::Program(state) => {
+                state.complete(output, performer, finished, clock)?;
+                Ok(state.fate())
+            }
+            ActivityState::Nested(_) => Ok(Fate::Waiting),
+        }
+    }
+
+    /// A block or process activity is finished.
+    fn finish(&mut self)
+        ensures { self.new ≡ finished_state self.old }
+    {
+        match self {
+            ActivityState::Program(_) => {}
+            ActivityState::Nested(state) => state.stage = NestedStage::Finished,
+        }
+    }
+
     /// The join is false.
     fn kill(&mut self)
         ensures { self.new ≡ dead_state self.old }
@@ -138,6 +189,16 @@ impl ActivityState {
             ActivityState::Program(state) => state.kill(),
             ActivityState::Nested(state) => state.stage = NestedStage::Dead,
         }
+    }
+}
+
+/// Whether an activity ends with an attempt that gave this.
+fn is_last(activity: &Activity, output: &Container) -> bool
+    ensures { result ≡ holds activity.now.exit output.now }
+{
+    match next_attempt(&activity.exit, output, 0) {
+        Next::Finish => true,
+        Next::Again(_) => false,
     }
 }
 
@@ -325,6 +386,15 @@ impl ScopeState {
         Ok(())
     }
 
+    /// One more value of the connectors that lead to the activity at a place is known.
+    fn take_value(&mut self, place: usize, value: bool)
+        ensures { (t : Tally) → slice_get (fields self.old).tallies place ≡ Some t → (xs : Seq (Option Bool)) → (ys : Seq (Option Bool)) → Counts t (xs ++ None ∷ ys) → TakesValue place (xs ++ Some value ∷ ys) (fields self.old) (fields self.new) }
+    {
+        if let Some(tally) = self.tallies.get_mut(place) {
+            tally.take(value);
+        }
+    }
+
     /// A signal to the activity at a place is taken.
     fn signal<'x>(
         &mut self,
@@ -334,11 +404,12 @@ impl ScopeState {
         place: usize,
         value: bool,
         effects: &mut Effects,
-    ) -> Result<(), AllocError> {
-        if let Some(tally) = self.tallies.get_mut(place) {
-            tally.take(value);
-        }
-        self.decide(with, graph, path, place, effects)
+    ) -> Result<(), AllocError>
+        ensures { place < 2 ^ 32 → IsFeeding graph.now → IsOutgoing graph.now → (activity : Node) → slice_get (out-Graph graph.now).activities place ≡ Some activity → (t : Tally) → slice_get (fields self.old).tallies place ≡ Some t → (xs : Seq (Option Bool)) → (ys : Seq (Option Bool)) → Counts t (xs ++ None ∷ ys) → OnOk result (TakesSignal with.entry.library.now.templates graph.now path.now with.entry.clock place activity (xs ++ Some value ∷ ys) (fields self.old) (fields self.new) (told effects.old) (told effects.new)) }
+    {
+        self.take_value(place, value);
+        self.decide(with, graph, path, place, effects)?;
+        Ok(())
     }
 
     /// The output of a scope of the activity at a place, with the return code 0 before it.
@@ -348,7 +419,9 @@ impl ScopeState {
         place: usize,
         activity: &'x Activity,
         attempt: u64,
-    ) -> Result<Option<Container>, AllocError> {
+    ) -> Result<Option<Container>, AllocError>
+        ensures { (h : Process) → graph_in with.entry.library.now.templates activity.now.work ≡ Some h → IsSinking h → (s : Scope) → inner_of self.now place attempt ≡ Some s → IfOk result (λ out. out ≡ Some (given_by h s)) }
+    {
         let Some(graph) = graph_of(with.library, &activity.work) else {
             return Ok(None);
         };
@@ -357,6 +430,58 @@ impl ScopeState {
         };
         let output = output_of(with.alloc, graph, &scope.input, &scope.ends)?;
         Ok(Some(with_return_code(with.alloc, &output)?))
+    }
+
+    /// The activity at a place is finished, if it is a block or process activity.
+    fn set_finished(&mut self, place: usize)
+        ensures { fields self.new ≡ changed_at finished_state place (slice_get (fields self.old).states place) (fields self.old) }
+    {
+        if let Some(state) = self.states.get_mut(place) {
+            state.finish();
+        }
+    }
+
+    /// The last scope of the activity at a place has ended with this output.
+    fn finish<'x>(
+        &mut self,
+        with: Context<'x>,
+        graph: &'x Graph,
+        path: &Path,
+        place: usize,
+        output: Container,
+        effects: &mut Effects,
+    ) -> Result<(), AllocError>
+        ensures state { OnOk result (fields self.new ≡ finishes place output (fields self.old)) }
+        ensures tells { place < 2 ^ 32 → IsOutgoing graph.now → OnOk result (told effects.new ≡ tell_settled graph.now path.now place (Finished output) ((fields self.old).unsettled - 1) (told effects.old)) }
+    {
+        self.set_finished(place);
+        self.settle(
+            with,
+            graph,
+            path,
+            place,
+            SourceEnd::Finished(output),
+            effects,
+        )
+    }
+
+    /// The activity at a place goes on after a scope that has ended with this output.
+    fn go_on<'x>(
+        &mut self,
+        with: Context<'x>,
+        graph: &'x Graph,
+        path: &Path,
+        place: usize,
+        activity: &'x Activity,
+        output: &Container,
+        effects: &mut Effects,
+    ) -> Result<(), AllocError>
+        ensures { place < 2 ^ 32 → IsFeeding graph.now → IsLooping graph.now → slice_get (out-Graph graph.now).activities place ≡ Some activity.now → (h : Process) → graph_in with.entry.library.now.templates activity.now.work ≡ Some h → (was : Stands) → slice_get (fields self.old).states place ≡ Some was → OnOk result (BeginsNext h (looped (out-Graph graph.now).loops place output.now (base_of graph.now activity.now place (fields self.old).input (ends_of (fields self.old).ends))) path.now place activity.now was (fields self.old) (fields self.new) (told effects.old) (told effects.new)) }
+    {
+        let number = u32::try_from(place).unwrap_or(u32::MAX);
+        let base = base_input(with.alloc, graph, number, &self.input, &self.ends)?;
+        let input = next_input(with.alloc, graph, number, base, output)?;
+        self.begin_attempt(with, path, place, activity, input, effects)
     }
 
     /// The END of an attempt of the activity at a place is taken.
@@ -368,24 +493,39 @@ impl ScopeState {
         place: usize,
         attempt: u64,
         effects: &mut Effects,
-    ) -> Result<(), AllocError> {
+    ) -> Result<(), AllocError>
+        ensures { place < 2 ^ 32 → IsFeeding graph.now → IsOutgoing graph.now → IsLooping graph.now → (activity : Node) → slice_get (out-Graph graph.now).activities place ≡ Some activity → (h : Process) → graph_in with.entry.library.now.templates activity.work ≡ Some h → IsSinking h → (was : Stands) → slice_get (fields self.old).states place ≡ Some was → (s : Scope) → inner_of self.old place attempt ≡ Some s → OnOk result (EndsAttempt graph.now h path.now place activity was (given_by h s) (fields self.old) (fields self.new) (told effects.old) (told effects.new)) }
+    {
         let Some(activity) = graph.activities.as_slice().get(place) else {
             return Ok(());
         };
         let Some(output) = self.inner_output(with, place, activity, attempt)? else {
             return Ok(());
         };
-        if next_attempt(&activity.exit, &output, attempt) == Next::Finish {
-            if let Some(ActivityState::Nested(state)) = self.states.get_mut(place) {
-                state.stage = NestedStage::Finished;
-            }
-            let end = SourceEnd::Finished(output);
-            return self.settle(with, graph, path, place, end, effects);
+        if is_last(activity, &output) {
+            self.finish(with, graph, path, place, output, effects)?;
+            return Ok(());
         }
-        let number = u32::try_from(place).unwrap_or(u32::MAX);
-        let base = base_input(with.alloc, graph, number, &self.input, &self.ends)?;
-        let input = next_input(with.alloc, graph, number, base, &output)?;
-        self.begin_attempt(with, path, place, activity, input, effects)
+        self.go_on(with, graph, path, place, activity, &output, effects)?;
+        Ok(())
+    }
+
+    /// The next attempt of the program activity at a place is completed; answers its fate.
+    fn complete_attempt(
+        &mut self,
+        place: usize,
+        output: Container,
+        performer: Option<Name>,
+        finished: bool,
+        clock: u64,
+    ) -> Result<Fate, AllocError>
+        ensures fate { (p : State) → slice_get (fields self.old).states place ≡ Some (Program p) → IfOk result (λ f. f ≡ fate_of (completed p (record { output = output; performer = performer }) finished clock)) }
+        ensures state { OnOk result (fields self.new ≡ changed_at (completed_state (record { output = output; performer = performer }) finished clock) place (slice_get (fields self.old).states place) (fields self.old)) }
+    {
+        match self.states.get_mut(place) {
+            None => Ok(Fate::Waiting),
+            Some(state) => state.complete(output, performer, finished, clock),
+        }
     }
 
     /// The open attempt of the program activity at a place is completed.
@@ -398,24 +538,23 @@ impl ScopeState {
         output: Container,
         performer: Option<Name>,
         effects: &mut Effects,
-    ) -> Result<(), AllocError> {
+    ) -> Result<(), AllocError>
+        ensures { place < 2 ^ 32 → IsOutgoing graph.now → (activity : Node) → slice_get (out-Graph graph.now).activities place ≡ Some activity → (p : State) → slice_get (fields self.old).states place ≡ Some (Program p) → OnOk result (Completes graph.now path.now with.entry.clock place activity p (record { output = output; performer = performer }) (fields self.old) (fields self.new) (told effects.old) (told effects.new)) }
+    {
         let Some(activity) = graph.activities.as_slice().get(place) else {
             return Ok(());
         };
-        let finished = next_attempt(&activity.exit, &output, 0) == Next::Finish;
-        let copy = output.copy(with.alloc)?;
-        let Some(ActivityState::Program(state)) = self.states.get_mut(place) else {
+        let Some(ActivityState::Program(_)) = self.states.get(place) else {
             return Ok(());
         };
-        state.complete(output, performer, finished, with.clock)?;
+        let finished = is_last(activity, &output);
+        let copy = output.copy(with.alloc)?;
+        let fate = self.complete_attempt(place, output, performer, finished, with.clock)?;
         if finished {
-            let end = SourceEnd::Finished(copy);
-            return self.settle(with, graph, path, place, end, effects);
+            self.settle(with, graph, path, place, SourceEnd::Finished(copy), effects)?;
+            return Ok(());
         }
-        if let Fate::Ready(attempt) = state.fate() {
-            let item = path_below(with.alloc, path, activity, attempt)?;
-            effects.add_ready(item)?;
-        }
+        effects.add_next(with.alloc, path, activity, fate)?;
         Ok(())
     }
 
