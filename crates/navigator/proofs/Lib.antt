@@ -2,3 +2,4 @@ pub mod Places
 pub mod Making
 pub mod Untouched
 pub mod ReadScopes
+pub mod Beginning

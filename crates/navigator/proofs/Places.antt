@@ -36,3 +36,9 @@ set_read xs i x y at =
 -- what is read at a place is what stands there
 pub same_at : {X : Type 0} (xs : List X) (i : ℕ) (x y : X) → slice_get xs i ≡ Some x → y ≡ get_or xs i y → y ≡ x
 same_at xs i x y at is = is ∙ get_or_from_slice_get xs i x y at
+
+-- a place within a list has an element
+pub present : {X : Type 0} (xs : List X) (i : ℕ) → i < length xs → (x : X) × (slice_get xs i ≡ Some x)
+present [] i less = absurd (omega arith)
+present (x ∷ xs) zero less = (x, refl)
+present (x ∷ xs) (suc i) less = present xs i (omega arith)

@@ -1,5 +1,5 @@
 -- What each step of an event does to the scope that receives it, and which messages and items follow.
-use Rattle.std.specs.Prelude.{◌≡◌, ℕ, ◌+◌, ◌-◌, ◌==◌, Bool, true, false, not, ◌&&◌, if◌then◌else◌, Option, Some, None, List, [], ◌∷◌, ◌++◌, length, slice_get, slice_set}
+use Rattle.std.specs.Prelude.{◌≡◌, ℕ, zero, suc, ◌+◌, ◌-◌, ◌==◌, Bool, true, false, not, ◌&&◌, if◌then◌else◌, Option, Some, None, List, [], ◌∷◌, ◌++◌, length, slice_get, slice_set}
 use Rattle.activity_states.specs.States.{State, fate_of, made_ready, killed, completed}
 use Rattle.activity_states.specs.declared.states.Completed.{Completed}
 use Rattle.blocks_subprocs.specs.Ends.{ends_of}
@@ -134,14 +134,18 @@ pub record BeginsNext (h : Graph) (input : Container) (path : Path) (a : ℕ) (a
   pub scope : new ≡ with_state a state old
   pub tells : after ≡ record before { begins = before.begins ++ Begin (below path (part activity.name (next_of was))) ∷ [] }
 
+-- an activity that runs no graph has no scope
+abbrev pub Begins : Option Graph → Container → Path → ℕ → Activity → ActivityState → Fields → Fields → Told → Told → Type 0
+Begins None input path a activity was old new before after = (new ≡ old) × (after ≡ before)
+Begins (Some h) input path a activity was old new before after = BeginsNext h input path a activity was old new before after
+
 -- the first attempt of the activity at a place: an item that is ready, or a scope whose input is the base input
 abbrev pub Opens : List Template → Graph → Path → ℕ → ℕ → Activity → Option ActivityState → Fields → Fields → Told → Told → Type 0
 Opens ts g path clock a activity None old new before after = (new ≡ old) × (after ≡ before)
 Opens ts g path clock a activity (Some (Program p)) old new before after =
     (new ≡ with_state a (Program (made_ready p clock)) old) × (after ≡ record before { ready = before.ready ++ below path (part activity.name 1) ∷ [] })
 Opens ts g path clock a activity (Some (Nested n)) old new before after =
-    (h : Graph) → graph_in ts activity.work ≡ Some h
-    → BeginsNext h (base_of g activity a old.input (ends_of old.ends)) path a activity (Nested n) old new before after
+    Begins (graph_in ts activity.work) (base_of g activity a old.input (ends_of old.ends)) path a activity (Nested n) old new before after
 
 -- ---- the join of an activity is known, or not yet
 
@@ -215,3 +219,28 @@ EndsBy false g h path a activity was out old new before after =
 -- by the exit condition
 abbrev pub EndsAttempt : Graph → Graph → Path → ℕ → Activity → ActivityState → Container → Fields → Fields → Told → Told → Type 0
 EndsAttempt g h path a activity was out old new before after = EndsBy (holds activity.exit out) g h path a activity was out old new before after
+
+-- ---- a scope begins
+
+-- an activity is decided after earlier ones
+pub record DecidesNext (ts : List Template) (g : Graph) (path : Path) (clock : ℕ) (values : ℕ → List (Option Bool)) (earlier : Fields → Told → Type 0) (a : ℕ) (new : Fields) (after : Told) : Type 0 where
+  pub middle : Fields
+  pub so_far : Told
+  pub before : earlier middle so_far
+  pub decides : (activity : Activity) → slice_get (out-Graph g).activities a ≡ Some activity → Decides ts g path clock a activity (joined activity.join (values a)) middle new so_far after
+
+-- the first n activities are decided in their order, each by the values of the connectors that lead there
+abbrev pub DecidesFirst : List Template → Graph → Path → ℕ → (ℕ → List (Option Bool)) → ℕ → Fields → Fields → Told → Told → Type 0
+DecidesFirst ts g path clock values zero old new before after = (new ≡ old) × (after ≡ before)
+DecidesFirst ts g path clock values (suc n) old new before after =
+    DecidesNext ts g path clock values (λ middle so_far. DecidesFirst ts g path clock values n old middle before so_far) n new after
+
+-- each activity has a tally, which counts these values
+pub record AreTallied (g : Graph) (values : ℕ → List (Option Bool)) (tallies : List Tally) : Type 0 where
+  pub long : length tallies ≡ length (out-Graph g).activities
+  pub counts : (a : ℕ) (t : Tally) → slice_get tallies a ≡ Some t → Counts t (values a)
+
+-- all activities are decided; those to which no connector leads have a join that is known
+abbrev pub BeginsAll : List Template → Graph → Path → ℕ → (ℕ → List (Option Bool)) → Fields → Fields → Told → Told → Type 0
+BeginsAll ts g path clock values old new before after =
+    DecidesFirst ts g path clock values (length (out-Graph g).activities) (record old { begun = true }) new before after

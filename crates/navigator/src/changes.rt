@@ -1,5 +1,5 @@
 //! What an event does to the scope that receives it, and what follows from it.
-ghost use Rattle.std.specs.Prelude.{◌≡◌, ◌∷◌, ◌++◌, ◌-◌, ◌<◌, ◌^◌, ℕ, List as Seq, Option, Bool, [], Some, None, IfOk, OnOk, slice_get};
+ghost use Rattle.std.specs.Prelude.{◌≡◌, ◌∷◌, ◌++◌, ◌-◌, ◌<◌, ◌≤◌, ◌^◌, length, ℕ, List as Seq, Option, Bool, [], Some, None, IfOk, OnOk, slice_get};
 ghost use Rattle.activity_states.specs.States.{State, fate_of, made_ready, completed};
 ghost use Rattle.blocks_subprocs.specs.Ends.{ends_of};
 ghost use Rattle.dead_paths.specs.Tallies.{Counts};
@@ -14,7 +14,7 @@ ghost use Rattle.flow_model.specs.declared.graphs.Activity.{Activity as Node};
 ghost use Rattle.flow_model.specs.declared.graphs.Graph.{Graph as Process, out-Graph};
 ghost use Rattle.flow_model.specs.declared.instances.Message.TheVariants.{Begin};
 ghost use Rattle.flow_model.specs.declared.instances.SourceEnd.TheVariants.{Dead, Finished};
-ghost use Rattle.navigator.specs.Steps.{fields, told, with_state, settled, end_after, tell_settled, changed_at, ready_state, completed_state, dead_state, finished_state, dies, finishes, ready_item, given_by, BeginsNext, Opens, Decides, TakesValue, TakesSignal, Completes, EndsAttempt};
+ghost use Rattle.navigator.specs.Steps.{fields, told, with_state, settled, end_after, tell_settled, changed_at, ready_state, completed_state, dead_state, finished_state, dies, finishes, ready_item, given_by, Begins, Opens, Decides, AreTallied, BeginsAll, TakesValue, TakesSignal, Completes, EndsAttempt};
 ghost use Rattle.navigator.specs.Reading.{inner_of};
 ghost use Rattle.navigator.specs.declared.scopes.ActivityState.{ActivityState as Stands, Program};
 ghost use Rattle.navigator.specs.declared.scopes.ScopeState.{ScopeState as Scope};
@@ -213,7 +213,7 @@ impl ScopeState {
         input: Container,
         effects: &mut Effects,
     ) -> Result<(), AllocError>
-        ensures { (h : Process) → graph_in with.entry.library.now.templates activity.now.work ≡ Some h → (was : Stands) → slice_get (fields self.old).states place ≡ Some was → OnOk result (BeginsNext h input path.now place activity.now was (fields self.old) (fields self.new) (told effects.old) (told effects.new)) }
+        ensures { (was : Stands) → slice_get (fields self.old).states place ≡ Some was → OnOk result (Begins (graph_in with.entry.library.now.templates activity.now.work) input path.now place activity.now was (fields self.old) (fields self.new) (told effects.old) (told effects.new)) }
     {
         let Some(graph) = graph_of(with.library, &activity.work) else {
             return Ok(());
@@ -263,7 +263,7 @@ impl ScopeState {
         activity: &'x Activity,
         effects: &mut Effects,
     ) -> Result<(), AllocError>
-        ensures { place < 2 ^ 32 → IsFeeding graph.now → slice_get (out-Graph graph.now).activities place ≡ Some activity.now → (h : Process) → graph_in with.entry.library.now.templates activity.now.work ≡ Some h → (was : Stands) → slice_get (fields self.old).states place ≡ Some was → OnOk result (BeginsNext h (base_of graph.now activity.now place (fields self.old).input (ends_of (fields self.old).ends)) path.now place activity.now was (fields self.old) (fields self.new) (told effects.old) (told effects.new)) }
+        ensures { place < 2 ^ 32 → IsFeeding graph.now → slice_get (out-Graph graph.now).activities place ≡ Some activity.now → (was : Stands) → slice_get (fields self.old).states place ≡ Some was → OnOk result (Begins (graph_in with.entry.library.now.templates activity.now.work) (base_of graph.now activity.now place (fields self.old).input (ends_of (fields self.old).ends)) path.now place activity.now was (fields self.old) (fields self.new) (told effects.old) (told effects.new)) }
     {
         let number = u32::try_from(place).unwrap_or(u32::MAX);
         let input = base_input(with.alloc, graph, number, &self.input, &self.ends)?;
@@ -378,7 +378,9 @@ impl ScopeState {
         graph: &'x Graph,
         path: &Path,
         effects: &mut Effects,
-    ) -> Result<(), AllocError> {
+    ) -> Result<(), AllocError>
+        ensures { IsFeeding graph.now → IsOutgoing graph.now → length (out-Graph graph.now).activities ≤ 2 ^ 32 → (values : ℕ → Seq (Option Bool)) → AreTallied graph.now values (fields self.old).tallies → OnOk result (BeginsAll with.entry.library.now.templates graph.now path.now with.entry.clock values (fields self.old) (fields self.new) (told effects.old) (told effects.new)) }
+    {
         self.begun = true;
         for place in 0..graph.activities.len() {
             self.decide(with, graph, path, place, effects)?;
@@ -476,7 +478,7 @@ impl ScopeState {
         output: &Container,
         effects: &mut Effects,
     ) -> Result<(), AllocError>
-        ensures { place < 2 ^ 32 → IsFeeding graph.now → IsLooping graph.now → slice_get (out-Graph graph.now).activities place ≡ Some activity.now → (h : Process) → graph_in with.entry.library.now.templates activity.now.work ≡ Some h → (was : Stands) → slice_get (fields self.old).states place ≡ Some was → OnOk result (BeginsNext h (looped (out-Graph graph.now).loops place output.now (base_of graph.now activity.now place (fields self.old).input (ends_of (fields self.old).ends))) path.now place activity.now was (fields self.old) (fields self.new) (told effects.old) (told effects.new)) }
+        ensures { place < 2 ^ 32 → IsFeeding graph.now → IsLooping graph.now → slice_get (out-Graph graph.now).activities place ≡ Some activity.now → (was : Stands) → slice_get (fields self.old).states place ≡ Some was → OnOk result (Begins (graph_in with.entry.library.now.templates activity.now.work) (looped (out-Graph graph.now).loops place output.now (base_of graph.now activity.now place (fields self.old).input (ends_of (fields self.old).ends))) path.now place activity.now was (fields self.old) (fields self.new) (told effects.old) (told effects.new)) }
     {
         let number = u32::try_from(place).unwrap_or(u32::MAX);
         let base = base_input(with.alloc, graph, number, &self.input, &self.ends)?;
@@ -679,7 +681,9 @@ impl NestedState {
 pub fn messages_of(
     alloc: Global,
     effects: Effects,
-) -> Result<(List<Message>, Vec<Path>), AllocError> {
+) -> Result<(List<Message>, Vec<Path>), AllocError>
+    ensures { IfOk result (λ given. (given.0 ≡ (told effects).signals ++ (told effects).begins ++ (told effects).ends) × (given.1.items ≡ (told effects).ready)) }
+{
     let Effects {
         signals,
         begins,

@@ -1,8 +1,5 @@
-use Rattle.std.proofs.Common.{◌≡◌, Some, ap, sym, ◌∙◌, subst, refl}
+use Rattle.std.proofs.Common.{◌≡◌, Some, ap, ◌∙◌}
 use Rattle.flow_model.specs.Containers.{with_return_code}
-use Rattle.flow_model.specs.Wiring.{IsSinking}
-use Rattle.flow_model.specs.declared.graphs.Container.{Container}
-use Rattle.navigator.specs.Steps.{given_by}
 use Rattle.navigator.proofs.scopes.ScopeState.inner_output.Goals as goal
 
 pub returns : goal.returns

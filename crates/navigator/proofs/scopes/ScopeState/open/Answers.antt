@@ -9,4 +9,4 @@ returns-in_ok-open_scope-in-Some-Nested c = λ fits feeding here.
     let state = c.in-Some-Nested.field-0.now in
     let at : slice_get c.deref.result.now c.args.place ≡ Some state = slice_get_read c.deref.result.now _ c.args.place state refl found.3.0 found.1 in
     let there = (rw c.deref.ensures.value at at) ∙ ap Some c.in-Some-Nested.field-0-is in
-    rw there (λ h is. c.in_ok-open_scope-in-Some-Nested.ensures fits feeding here h is _ there)
+    rw there (c.in_ok-open_scope-in-Some-Nested.ensures fits feeding here _ there)
