@@ -3,3 +3,4 @@ pub mod Making
 pub mod Untouched
 pub mod ReadScopes
 pub mod Beginning
+pub mod RowLists

@@ -4,3 +4,4 @@ pub mod Reading
 pub mod Items
 pub mod Instances
 pub mod Steps
+pub mod ViewRows
