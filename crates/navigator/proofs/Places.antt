@@ -1,8 +1,9 @@
 -- What holds of each element of a list at its place, when the list gets longer or an element is replaced.
-use Rattle.std.proofs.Common.{◌≡◌, ℕ, zero, suc, ◌+◌, List, [], ◌∷◌, ◌++◌, length, replicate, Some, None, refl, ap, ◌∙◌, subst, arith}
+use Rattle.std.proofs.Common.{◌≤◌, ◌-◌, take, drop, ◌≡◌, ℕ, zero, suc, ◌+◌, List, [], ◌∷◌, ◌++◌, length, replicate, Some, None, refl, ap, ◌∙◌, subst, arith}
 use Rattle.std.specs.Prelude.{slice_get, slice_set}
 use Rattle.std.proofs.Common.{get_or, ◌<◌, get_or-set_same}
 use Rattle.std.proofs.Math.ListN.{length-set}
+use Rattle.std.proofs.lemmas.List.{take_all}
 use Rattle.std.proofs.lemmas.Option.{slice_get_within, slice_get-get_or, get_or_from_slice_get}
 
 -- a fact of each element at its place
@@ -42,3 +43,10 @@ pub present : {X : Type 0} (xs : List X) (i : ℕ) → i < length xs → (x : X)
 present [] i less = absurd (omega arith)
 present (x ∷ xs) zero less = (x, refl)
 present (x ∷ xs) (suc i) less = present xs i (omega arith)
+
+-- a list is its first element and the rest
+pub first_and_rest : {X : Type 0} (xs : List X) (x : X) → 1 ≤ length xs → x ≡ get_or xs 0 x → x ∷ take (length xs - 1) (drop 1 xs) ≡ xs
+first_and_rest [] x long is = absurd (omega arith)
+first_and_rest (y ∷ ys) x long is =
+    let all : length ys ≤ suc (length ys) - 1 = omega arith in
+    rw take_all (ap (λ z. z ∷ ys) is)

@@ -5,3 +5,4 @@ pub mod Items
 pub mod Instances
 pub mod Steps
 pub mod ViewRows
+pub mod Events

@@ -15,8 +15,10 @@ ghost use Rattle.flow_model.specs.declared.graphs.Graph.{Graph as Process, out-G
 ghost use Rattle.flow_model.specs.declared.instances.Message.TheVariants.{Begin};
 ghost use Rattle.flow_model.specs.declared.instances.SourceEnd.TheVariants.{Dead, Finished};
 ghost use Rattle.navigator.specs.Steps.{fields, told, with_state, settled, end_after, tell_settled, changed_at, ready_state, completed_state, dead_state, finished_state, dies, finishes, ready_item, given_by, Begins, Opens, Decides, AreTallied, BeginsAll, TakesValue, TakesSignal, Completes, EndsAttempt};
+ghost use Rattle.navigator.specs.Events.{IsUsable, Receives, ChangesScope, ChangesState, ChangesAt};
 ghost use Rattle.navigator.specs.Reading.{inner_of};
-ghost use Rattle.navigator.specs.declared.scopes.ActivityState.{ActivityState as Stands, Program};
+ghost use Rattle.navigator.specs.declared.scopes.NestedState.{NestedState as Nest, out-NestedState};
+ghost use Rattle.navigator.specs.declared.scopes.ActivityState.{ActivityState as Stands, Program, Nested};
 ghost use Rattle.navigator.specs.declared.scopes.ScopeState.{ScopeState as Scope};
 
 use crate::scopes::{ActivityState, NestedStage, NestedState, ScopeState, attempt_place, place_of};
@@ -568,23 +570,35 @@ impl ScopeState {
         path: &Path,
         event: Event<'_>,
         effects: &mut Effects,
-    ) -> Result<(), AllocError> {
+    ) -> Result<(), AllocError>
+        ensures { OnOk result (IsUsable graph.now → Receives with.entry.library.now.templates path.now with.entry.clock event.entry (told effects.old) (told effects.new) graph.now self.old self.new) }
+    {
         match event {
-            Event::Begin => self.begin(with, graph, path, effects),
-            Event::Signal(name, value) => match place_of(graph, name) {
-                None => Ok(()),
-                Some(place) => self.signal(with, graph, path, place, value, effects),
-            },
-            Event::End(name, attempt) => match place_of(graph, name) {
-                None => Ok(()),
-                Some(place) => self.end(with, graph, path, place, attempt, effects),
-            },
-            Event::Complete(name, output, performer) => match place_of(graph, name) {
-                None => Ok(()),
-                Some(place) => {
-                    self.complete(with, graph, path, place, output, performer, effects)
-                }
-            },
+            Event::Begin => {
+                self.begin(with, graph, path, effects)?;
+                Ok(())
+            }
+            Event::Signal(name, value) => {
+                let Some(place) = place_of(graph, name) else {
+                    return Ok(());
+                };
+                self.signal(with, graph, path, place, value, effects)?;
+                Ok(())
+            }
+            Event::End(name, attempt) => {
+                let Some(place) = place_of(graph, name) else {
+                    return Ok(());
+                };
+                self.end(with, graph, path, place, attempt, effects)?;
+                Ok(())
+            }
+            Event::Complete(name, output, performer) => {
+                let Some(place) = place_of(graph, name) else {
+                    return Ok(());
+                };
+                self.complete(with, graph, path, place, output, performer, effects)?;
+                Ok(())
+            }
         }
     }
 
@@ -598,10 +612,18 @@ impl ScopeState {
         parts: &[Part],
         event: Event<'_>,
         effects: &mut Effects,
-    ) -> Result<(), AllocError> {
+    ) -> Result<(), AllocError>
+        ensures { OnOk result (ChangesAt with.entry.library.now.templates (λ g s t. IsUsable g → Receives with.entry.library.now.templates path.now with.entry.clock event.entry (told effects.old) (told effects.new) g s t) parts.now graph.now self.old self.new) }
+    {
         match parts {
-            [] => self.receive(with, graph, path, event, effects),
-            [part, rest @ ..] => self.change_inside(with, graph, path, part, rest, event, effects),
+            [] => {
+                self.receive(with, graph, path, event, effects)?;
+                Ok(())
+            }
+            [part, rest @ ..] => {
+                self.change_inside(with, graph, path, part, rest, event, effects)?;
+                Ok(())
+            }
         }
     }
 
@@ -616,7 +638,9 @@ impl ScopeState {
         rest: &[Part],
         event: Event<'_>,
         effects: &mut Effects,
-    ) -> Result<(), AllocError> {
+    ) -> Result<(), AllocError>
+        ensures { OnOk result (ChangesAt with.entry.library.now.templates (λ g s t. IsUsable g → Receives with.entry.library.now.templates path.now with.entry.clock event.entry (told effects.old) (told effects.new) g s t) (part.now ∷ rest.now) graph.now self.old self.new) }
+    {
         let Some(place) = place_of(graph, &part.name) else {
             return Ok(());
         };
@@ -631,7 +655,10 @@ impl ScopeState {
         };
         match self.states.get_mut(place) {
             None => Ok(()),
-            Some(state) => state.change_inner(attempt, with, inner, path, rest, event, effects),
+            Some(state) => {
+                state.change_inner(attempt, with, inner, path, rest, event, effects)?;
+                Ok(())
+            }
         }
     }
 }
@@ -648,11 +675,14 @@ impl ActivityState {
         rest: &[Part],
         event: Event<'_>,
         effects: &mut Effects,
-    ) -> Result<(), AllocError> {
+    ) -> Result<(), AllocError>
+        ensures { (n : Nest) → self.old ≡ Nested n → (inner : Scope) → slice_get (out-NestedState n).scopes.items attempt ≡ Some inner → OnOk result (ChangesState (ChangesAt with.entry.library.now.templates (λ g s t. IsUsable g → Receives with.entry.library.now.templates path.now with.entry.clock event.entry (told effects.old) (told effects.new) g s t) rest.now graph.now) attempt inner n self.new) }
+    {
         match self {
             ActivityState::Program(_) => Ok(()),
             ActivityState::Nested(state) => {
-                state.change_scope(attempt, with, graph, path, rest, event, effects)
+                state.change_scope(attempt, with, graph, path, rest, event, effects)?;
+                Ok(())
             }
         }
     }
@@ -669,10 +699,15 @@ impl NestedState {
         rest: &[Part],
         event: Event<'_>,
         effects: &mut Effects,
-    ) -> Result<(), AllocError> {
+    ) -> Result<(), AllocError>
+        ensures { (inner : Scope) → slice_get (out-NestedState self.old).scopes.items attempt ≡ Some inner → OnOk result (ChangesScope (ChangesAt with.entry.library.now.templates (λ g s t. IsUsable g → Receives with.entry.library.now.templates path.now with.entry.clock event.entry (told effects.old) (told effects.new) g s t) rest.now graph.now) attempt inner self.old self.new) }
+    {
         match self.scopes.get_mut(attempt) {
             None => Ok(()),
-            Some(scope) => scope.change(with, graph, path, rest, event, effects),
+            Some(scope) => {
+                scope.change(with, graph, path, rest, event, effects)?;
+                Ok(())
+            }
         }
     }
 }
