@@ -1,7 +1,19 @@
 //! A root instance.
+ghost use Rattle.std.specs.Prelude.{◌≡◌, true, false, ◌==◌, ◌&&◌, ℕ, List as Seq, [], slice_get, IfOk, option_copied, option_map, option_and_then};
+ghost use Rattle.activity_states.specs.States.{fate_of, hold_of};
+ghost use Rattle.flow_model.specs.Scopes.{Known, tree_ends};
+ghost use Rattle.flow_model.specs.ScopeContainers.{graph_of as template_graph, is_complete as all_settled};
+ghost use Rattle.flow_model.specs.declared.graphs.Container.{Container as Values};
+ghost use Rattle.flow_model.specs.declared.graphs.Graph.{Graph as Process, out-Graph};
+ghost use Rattle.flow_model.specs.declared.graphs.Template.{Template};
+ghost use Rattle.navigator.specs.Instances.{mode_of, Starts};
+ghost use Rattle.navigator.specs.Items.{stand, entry_of, attempts_in as attempts_of_fate, entry_of_state, entry_here, entry_at, phase_of};
+ghost use Rattle.navigator.specs.Views.{Shows};
+ghost use Rattle.navigator.specs.declared.scopes.ScopeState.{out-ScopeState};
+
 use crate::changes::{Context, Effects, Event, messages_of};
 use crate::scopes::{
-    ActivityState, NestedState, Place, ScopeState, attempt_place, place_of, scope_at,
+    ActivityState, NestedState, Place, ScopeState, attempt_place, place_of, step_into,
 };
 use activity_states::ProgramState;
 use blocks_subprocs::graph_of;
@@ -40,13 +52,89 @@ pub struct Item<'a> {
 }
 
 /// The attempts that a fate counts.
-fn attempts_in(fate: Fate) -> u64 {
+fn attempts_in(fate: Fate) -> u64
+    ensures { result ≡ attempts_of_fate fate }
+{
     match fate {
         Fate::Waiting => 0,
         Fate::Ready(attempt) => attempt,
         Fate::Running(attempt) => attempt,
         Fate::Finished(attempt) => attempt,
         Fate::Dead => 0,
+    }
+}
+
+/// The graph of the template at a place.
+#[tactic(auto, using(blocks_subprocs::proofs::Library::template_graph))]
+fn root_graph(library: &Library, template: u32) -> Option<&Graph>
+    ensures { option_copied result ≡ template_graph library.now.templates template }
+{
+    match library.templates.as_slice().get(template as usize) {
+        None => None,
+        Some(template) => Some(&template.graph),
+    }
+}
+
+/// The item of an attempt of an activity that is a program activity.
+fn item_of<'a>(
+    place: Place<'a>,
+    number: usize,
+    activity: &'a Activity,
+    state: &'a ActivityState,
+    attempt: u64,
+) -> Option<Item<'a>>
+    ensures { option_map (λ i. entry_of i.place.graph.now i.place.scope.now i.number i.activity.now i.state.now i.attempt) result ≡ entry_of_state (stand place.entry.graph.now place.entry.scope.now) attempt number activity.now state.now }
+{
+    let ActivityState::Program(state) = state else {
+        return None;
+    };
+    if attempt < 1 || attempt > attempts_in(state.fate()) {
+        return None;
+    }
+    Some(Item {
+        place,
+        number,
+        activity,
+        state,
+        attempt,
+    })
+}
+
+/// The item of a part in a scope, which has to have begun.
+fn item_here<'a>(graph: &'a Graph, scope: &'a ScopeState, part: &Part) -> Option<Item<'a>>
+    ensures { option_map (λ i. entry_of i.place.graph.now i.place.scope.now i.number i.activity.now i.state.now i.attempt) result ≡ entry_here part.now (stand graph.now scope.now) }
+{
+    if !scope.begun {
+        return None;
+    }
+    let number = place_of(graph, &part.name)?;
+    let activity = graph.activities.as_slice().get(number)?;
+    let state = scope.states.get(number)?;
+    item_of(
+        Place { graph, scope },
+        number,
+        activity,
+        state,
+        part.attempt,
+    )
+}
+
+/// The item to which the parts of a path lead from a scope.
+fn item_at<'a>(
+    library: &'a Library,
+    graph: &'a Graph,
+    scope: &'a ScopeState,
+    parts: &[Part],
+) -> Option<Item<'a>>
+    ensures { option_map (λ i. entry_of i.place.graph.now i.place.scope.now i.number i.activity.now i.state.now i.attempt) result ≡ entry_at library.now.templates parts.now (stand graph.now scope.now) }
+{
+    match parts {
+        [] => None,
+        [last] => item_here(graph, scope, last),
+        [part, rest @ ..] => {
+            let inner = step_into(library, graph, scope, part)?;
+            item_at(library, inner.graph, inner.scope, rest)
+        }
     }
 }
 
@@ -59,28 +147,34 @@ impl Instance {
         root: u64,
         starter: Name,
         input: Container,
-    ) -> Result<Option<Instance>, AllocError> {
-        let Some(known) = library.templates.as_slice().get(template as usize) else {
+    ) -> Result<Option<Instance>, AllocError>
+        ensures { IfOk result (λ i. Starts library.now.templates template root starter input i) }
+    {
+        let Some(graph) = root_graph(library, template) else {
             return Ok(None);
         };
         Ok(Some(Instance {
             root,
             template,
             starter,
-            scope: ScopeState::new(alloc, &known.graph, input)?,
+            scope: ScopeState::new(alloc, graph, input)?,
             suspended: false,
             terminated: false,
         }))
     }
 
     /// The graph of the root scope.
-    pub fn graph<'a>(&self, library: &'a Library) -> Option<&'a Graph> {
-        let template = library.templates.as_slice().get(self.template as usize)?;
-        Some(&template.graph)
+    pub fn graph<'a>(&self, library: &'a Library) -> Option<&'a Graph>
+        ensures { option_copied result ≡ template_graph library.now.templates self.now.template }
+    {
+        root_graph(library, self.template)
     }
 
     /// The mode.
-    pub fn mode(&self) -> Mode {
+    pub fn mode(&self) -> Mode
+        ensures state { result ≡ mode_of self.now.terminated ((out-ScopeState self.now.scope).begun && ((out-ScopeState self.now.scope).unsettled == 0)) self.now.suspended }
+        ensures shows { (ts : Seq Template) → (depth : ℕ) → (k : Known) → (g : Process) → (input : Values) → Shows ts depth k g input self.now.scope → result ≡ mode_of self.now.terminated (k.begun [] && all_settled g (tree_ends ts depth k g input)) self.now.suspended }
+    {
         if self.terminated {
             Mode::Terminated
         } else if self.scope.is_complete() {
@@ -92,15 +186,21 @@ impl Instance {
         }
     }
 
-    pub fn suspend(&mut self) {
+    pub fn suspend(&mut self)
+        ensures { self.new ≡ record self.old { suspended = true } }
+    {
         self.suspended = true;
     }
 
-    pub fn resume(&mut self) {
+    pub fn resume(&mut self)
+        ensures { self.new ≡ record self.old { suspended = false } }
+    {
         self.suspended = false;
     }
 
-    pub fn terminate(&mut self) {
+    pub fn terminate(&mut self)
+        ensures { self.new ≡ record self.old { terminated = true } }
+    {
         self.terminated = true;
     }
 
@@ -177,29 +277,15 @@ impl Instance {
     }
 
     /// The item of a path; None exactly where there is no such item.
-    pub fn item<'a>(&'a self, library: &'a Library, item: &Path) -> Option<Item<'a>> {
-        let [parts @ .., last] = item.parts.as_slice() else {
-            return None;
-        };
-        let place = scope_at(library, self.graph(library)?, &self.scope, parts)?;
-        if !place.scope.begun {
-            return None;
-        }
-        let number = place_of(place.graph, &last.name)?;
-        let activity = place.graph.activities.as_slice().get(number)?;
-        let ActivityState::Program(state) = place.scope.states.get(number)? else {
-            return None;
-        };
-        if last.attempt < 1 || last.attempt > attempts_in(state.fate()) {
-            return None;
-        }
-        Some(Item {
-            place,
-            number,
-            activity,
-            state,
-            attempt: last.attempt,
-        })
+    pub fn item<'a>(&'a self, library: &'a Library, item: &Path) -> Option<Item<'a>>
+        ensures { option_map (λ i. entry_of i.place.graph.now i.place.scope.now i.number i.activity.now i.state.now i.attempt) result ≡ option_and_then (λ g. entry_at library.now.templates item.now.parts (stand g self.now.scope)) (template_graph library.now.templates self.now.template) }
+    {
+        item_at(
+            library,
+            self.graph(library)?,
+            &self.scope,
+            item.parts.as_slice(),
+        )
     }
 
     /// Changes who holds the open attempt of an item's activity; answers the take number of an agent.
@@ -334,7 +420,9 @@ fn change_hold_here(graph: &Graph, scope: &mut ScopeState, name: &Name, change: 
 
 impl<'a> Item<'a> {
     /// The phase of the item.
-    pub fn phase(&self) -> Phase {
+    pub fn phase(&self) -> Phase
+        ensures { result ≡ phase_of (fate_of self.now.state.now) self.now.attempt }
+    {
         match self.state.fate() {
             Fate::Ready(attempt) if attempt == self.attempt => Phase::Ready,
             Fate::Running(attempt) if attempt == self.attempt => Phase::Running,
@@ -343,7 +431,9 @@ impl<'a> Item<'a> {
     }
 
     /// Who holds the item.
-    pub fn hold(&self) -> &'a Hold {
+    pub fn hold(&self) -> &'a Hold
+        ensures { result.now ≡ hold_of self.now.state.now }
+    {
         self.state.hold()
     }
 }
