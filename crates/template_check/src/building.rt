@@ -1,4 +1,10 @@
 //! From the tree of an accepted text to its templates and people.
+ghost use Rattle.std.specs.Prelude.{◌≡◌, ◌<◌, length, IfOk, IfSome};
+ghost use Rattle.std.specs.List.{All};
+ghost use Rattle.template_check.specs.Built.{end_in, IsDrawn, IsLaidAlone, IsLaidInside, IsSound, IsSoundInside};
+ghost use Rattle.template_check.specs.Texts.{activities_in, lines_in, edges_in, IsLineAlong};
+ghost use Rattle.template_check.specs.Wires.{pairs_of};
+
 use crate::catalog::Catalog;
 use crate::members::LeafTable;
 use crate::people::{Callee, Known, is_manual};
@@ -52,10 +58,16 @@ fn expires_of(activity: &ActivityTree) -> Option<u32> {
     None
 }
 
-fn map_end<'a>(scope: &Scope<'a>, end: &'a EndTree) -> MapEnd {
+/// The end of a line, where its name is known.
+fn map_end<'a>(scope: &Scope<'a>, end: &'a EndTree) -> Option<MapEnd>
+    ensures { result ≡ end_in scope.now.elements.now end.now }
+{
     match end {
-        EndTree::Border => MapEnd::Border,
-        EndTree::Activity(name) => MapEnd::Activity(number_in(scope, name)),
+        EndTree::Border => Some(MapEnd::Border),
+        EndTree::Activity(name) => match scope.number(name) {
+            Some(number) => Some(MapEnd::Activity(number)),
+            None => None,
+        },
     }
 }
 
@@ -97,12 +109,16 @@ impl<'a> Builder<'a> {
         Ok(DoneBy::Starter)
     }
 
-    fn program(&self, scope: &Scope<'a>, activity: &'a ActivityTree) -> Result<Work, AllocError> {
-        Ok(Work::Program(Program {
+    fn program(
+        &self,
+        scope: &Scope<'a>,
+        activity: &'a ActivityTree,
+    ) -> Result<Program, AllocError> {
+        Ok(Program {
             manual: is_manual(activity),
             by: self.done_by(scope, activity)?,
             expires: expires_of(activity),
-        }))
+        })
     }
 
     /// The place in the library of the process that an activity runs.
@@ -131,14 +147,18 @@ impl<'a> Builder<'a> {
         }
     }
 
-    fn controls(&self, scope: &Scope<'a>) -> Result<List<Control>, AllocError> {
+    fn controls(&self, scope: &Scope<'a>) -> Result<List<Control>, AllocError>
+        ensures { IfOk result (λ controls. pairs_of controls ≡ edges_in scope.now.elements.now) }
+    {
         let mut controls = List::new(self.alloc);
         for control in &scope.controls {
-            controls.push(Control {
-                from: number_in(scope, &control.from),
-                to: number_in(scope, &control.to),
-                when: self.when(scope, control)?,
-            })?;
+            match scope.ends(&control.from, &control.to) {
+                None => {}
+                Some((from, to)) => {
+                    let when = self.when(scope, control)?;
+                    controls.push(Control { from, to, when })?;
+                }
+            }
         }
         Ok(controls)
     }
@@ -157,31 +177,92 @@ impl<'a> Builder<'a> {
         Ok(maps)
     }
 
-    fn lines(&self, scope: &Scope<'a>) -> Result<List<DataLine>, AllocError> {
+    /// A line between two known ends.
+    fn data_line(
+        &self,
+        scope: &Scope<'a>,
+        line: &'a DataTree,
+    ) -> Result<Option<DataLine>, AllocError>
+        requires { IsLineAlong scope.now.elements.now line.now }
+        ensures { IfOk result (λ drawn. IfSome drawn (IsDrawn scope.now.elements.now)) }
+    {
+        match &line.ends {
+            EndsTree::Loop(_) => Ok(None),
+            EndsTree::Line(from, to) => {
+                let Some(from) = map_end(scope, from) else {
+                    return Ok(None);
+                };
+                let Some(to) = map_end(scope, to) else {
+                    return Ok(None);
+                };
+                let maps = self.maps(scope, line)?;
+                Ok(Some(DataLine { from, to, maps }))
+            }
+        }
+    }
+
+    fn lines(&self, scope: &Scope<'a>) -> Result<List<DataLine>, AllocError>
+        requires { All (IsLineAlong scope.now.elements.now) (lines_in scope.now.elements.now) }
+        ensures { IfOk result (All (IsDrawn scope.now.elements.now)) }
+    {
         let mut lines = List::new(self.alloc);
         for line in &scope.lines {
-            if let EndsTree::Line(from, to) = &line.ends {
-                lines.push(DataLine {
-                    from: map_end(scope, from),
-                    to: map_end(scope, to),
-                    maps: self.maps(scope, line)?,
-                })?;
+            match self.data_line(scope, line)? {
+                None => {}
+                Some(line) => lines.push(line)?,
             }
         }
         Ok(lines)
     }
 
-    fn loops(&self, scope: &Scope<'a>) -> Result<List<LoopLine>, AllocError> {
+    /// A LOOP line of a known activity.
+    fn loop_line(
+        &self,
+        scope: &Scope<'a>,
+        line: &'a DataTree,
+    ) -> Result<Option<LoopLine>, AllocError>
+        ensures { IfOk result (λ made. IfSome made (λ l. l.activity < length (activities_in scope.now.elements.now))) }
+    {
+        match &line.ends {
+            EndsTree::Line(_, _) => Ok(None),
+            EndsTree::Loop(name) => {
+                let Some(activity) = scope.number(name) else {
+                    return Ok(None);
+                };
+                let maps = self.maps(scope, line)?;
+                Ok(Some(LoopLine { activity, maps }))
+            }
+        }
+    }
+
+    fn loops(&self, scope: &Scope<'a>) -> Result<List<LoopLine>, AllocError>
+        ensures { IfOk result (All (λ l. l.activity < length (activities_in scope.now.elements.now))) }
+    {
         let mut loops = List::new(self.alloc);
         for line in &scope.lines {
-            if let EndsTree::Loop(name) = &line.ends {
-                loops.push(LoopLine {
-                    activity: number_in(scope, name),
-                    maps: self.maps(scope, line)?,
-                })?;
+            match self.loop_line(scope, line)? {
+                None => {}
+                Some(line) => loops.push(line)?,
             }
         }
         Ok(loops)
+    }
+
+    #[cycle(building)]
+    fn work(&self, scope: &Scope<'a>, activity: &'a ActivityTree) -> Result<Work, AllocError>
+        requires { IsSoundInside activity.now }
+        ensures { IfOk result IsLaidInside }
+    {
+        match &activity.work {
+            WorkTree::Program => Ok(Work::Program(self.program(scope, activity)?)),
+            WorkTree::Process(name) => Ok(Work::Process(self.callee(scope.process, name))),
+            WorkTree::Block(elements) => {
+                let (input, output) = (&activity.input, &activity.output);
+                let elements = elements.as_slice();
+                let graph = self.graph(scope.process, activity.place, input, output, elements)?;
+                Ok(Work::Block(Box::new(self.alloc, graph)?))
+            }
+        }
     }
 
     #[cycle(building)]
@@ -189,33 +270,42 @@ impl<'a> Builder<'a> {
         &self,
         scope: &Scope<'a>,
         activity: &'a ActivityTree,
-    ) -> Result<Activity, AllocError> {
-        let work = match &activity.work {
-            WorkTree::Program => self.program(scope, activity)?,
-            WorkTree::Process(name) => Work::Process(self.callee(scope.process, name)),
-            WorkTree::Block(elements) => {
-                let (input, output) = (&activity.input, &activity.output);
-                let graph = self.graph(
-                    scope.process,
-                    activity.place,
-                    input,
-                    output,
-                    elements.as_slice(),
-                )?;
-                Work::Block(Box::new(self.alloc, graph)?)
-            }
-        };
+    ) -> Result<Activity, AllocError>
+        requires { IsSoundInside activity.now }
+        ensures { IfOk result (λ built. IsLaidInside built.work) }
+    {
+        let structures = self.table.structures();
         Ok(Activity {
             name: activity.name.name.copy(self.alloc)?,
-            work,
-            input: self.table.structures().leaves(self.alloc, &activity.input)?,
-            output: self
-                .table
-                .structures()
-                .output_leaves(self.alloc, &activity.output)?,
+            work: self.work(scope, activity)?,
+            input: structures.leaves(self.alloc, &activity.input)?,
+            output: structures.output_leaves(self.alloc, &activity.output)?,
             join: join_of(activity),
             exit: self.exit(activity)?,
         })
+    }
+
+    #[cycle(building)]
+    fn activities(
+        &self,
+        scope: &Scope<'a>,
+        elements: &'a [ElementTree],
+    ) -> Result<List<Activity>, AllocError>
+        requires { All IsSoundInside (activities_in elements.now) }
+        ensures long { IfOk result (λ built. length built ≡ length (activities_in elements.now)) }
+        ensures laid { IfOk result (All (λ built. IsLaidInside built.work)) }
+    {
+        let mut activities = List::new(self.alloc);
+        for element in elements {
+            match element {
+                ElementTree::Activity(activity) => {
+                    activities.push(self.activity(scope, activity)?)?;
+                }
+                ElementTree::Control(_) => {}
+                ElementTree::Line(_) => {}
+            }
+        }
+        Ok(activities)
     }
 
     #[cycle(building)]
@@ -226,31 +316,31 @@ impl<'a> Builder<'a> {
         input: &'a NameAt,
         output: &'a NameAt,
         elements: &'a [ElementTree],
-    ) -> Result<Graph, AllocError> {
+    ) -> Result<Graph, AllocError>
+        requires { IsSound elements.now }
+        ensures { IfOk result IsLaidAlone }
+    {
         let scope = Scope::new(self.alloc, process, place, input, output, elements)?;
-        let mut activities = List::new(self.alloc);
-        for element in elements {
-            if let ElementTree::Activity(activity) = element {
-                activities.push(self.activity(&scope, activity)?)?;
-            }
-        }
+        let activities = self.activities(&scope, elements)?;
         let controls = self.controls(&scope)?;
         let lines = self.lines(&scope)?;
         let loops = self.loops(&scope)?;
+        let wiring = wiring(
+            self.alloc,
+            activities.len(),
+            controls.as_slice(),
+            lines.as_slice(),
+            loops.as_slice(),
+        )?;
+        let structures = self.table.structures();
         Ok(Graph {
-            input: self.table.structures().leaves(self.alloc, input)?,
-            output: self.table.structures().leaves(self.alloc, output)?,
-            wiring: wiring(
-                self.alloc,
-                activities.len(),
-                controls.as_slice(),
-                lines.as_slice(),
-                loops.as_slice(),
-            )?,
+            input: structures.leaves(self.alloc, input)?,
+            output: structures.leaves(self.alloc, output)?,
             activities,
             controls,
             lines,
             loops,
+            wiring,
         })
     }
 
@@ -260,7 +350,10 @@ impl<'a> Builder<'a> {
         number: u32,
         process: &'a ProcessTree,
         shape: Shape,
-    ) -> Result<Template, AllocError> {
+    ) -> Result<Template, AllocError>
+        requires { IsSound process.now.elements }
+        ensures { IfOk result (λ template. IsLaidAlone template.graph) }
+    {
         let (input, output) = (&process.input, &process.output);
         let elements = process.elements.as_slice();
         let catalog: &Catalog = self.known.catalog();

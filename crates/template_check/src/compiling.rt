@@ -1,4 +1,12 @@
 //! The rules in their order, and what an accepted text compiles to.
+ghost use Rattle.std.specs.Prelude.{◌≡◌, None, IfOk};
+ghost use Rattle.std.specs.List.{All};
+ghost use Rattle.template_check.specs.Blocks.{lists_of, IsCovered};
+ghost use Rattle.template_check.specs.Built.{AreLaidAlone, IsSound};
+ghost use Rattle.template_check.specs.ClosedWalks.{IsAcyclic};
+ghost use Rattle.template_check.specs.Passed.{IsPassed};
+ghost use Rattle.template_check.specs.Texts.{edges_in, lines_in, processes_in, IsLineAlong};
+
 use crate::building::Builder;
 use crate::catalog::Catalog;
 use crate::connectors::{
@@ -9,9 +17,10 @@ use crate::least::lesser;
 use crate::members::{LeafTable, Search, leaf_fault};
 use crate::names::{duplicate, end_name};
 use crate::people::{Known, container_mismatch, performer, unknown_person, unknown_process};
-use crate::scopes::{Scope, small, text_scopes};
+use crate::scopes::{Scope, small};
 use crate::sizes::{Shape, count_limit, expanded_size, nesting, number, shapes};
 use crate::structures::Structures;
+use crate::text_graphs::text_scopes;
 use fdl_lexer::{LexFault, lex};
 use fdl_parser::{SyntaxFault, parse};
 use flow_model::{ItemTree, List, PersonDef, Template, Tree};
@@ -100,11 +109,9 @@ enum GraphRule {
     Performer,
 }
 
-fn graph_fault(
-    alloc: Global,
-    rule: GraphRule,
-    scope: &Scope<'_>,
-) -> Result<Option<u32>, AllocError> {
+fn graph_fault(alloc: Global, rule: GraphRule, scope: &Scope<'_>) -> Result<Option<u32>, AllocError>
+    ensures { IfOk result (λ place. place ≡ None → IsPassed rule scope.now.elements.now) }
+{
     match rule {
         GraphRule::UnknownActivity => Ok(unknown_activity(scope)),
         GraphRule::DoubleConnector => double_connector(alloc, scope),
@@ -120,7 +127,9 @@ fn over_graphs(
     alloc: Global,
     rule: GraphRule,
     scopes: &[Scope<'_>],
-) -> Result<Option<u32>, AllocError> {
+) -> Result<Option<u32>, AllocError>
+    ensures { IfOk result (λ place. place ≡ None → All (λ s. IsPassed rule s.elements.now) scopes.now) }
+{
     let mut least = None;
     for scope in scopes {
         least = lesser(least, graph_fault(alloc, rule, scope)?);
@@ -129,19 +138,19 @@ fn over_graphs(
 }
 
 /// Rules 9 to 12.
-fn first_connectors(alloc: Global, scopes: &[Scope<'_>]) -> Result<Broken, AllocError> {
-    let rules = [
-        (9, GraphRule::UnknownActivity),
-        (10, GraphRule::DoubleConnector),
-        (11, GraphRule::Cycle),
-        (12, GraphRule::EmptyGraph),
-    ];
-    for (number, rule) in rules {
-        if let Some(place) = over_graphs(alloc, rule, scopes)? {
-            return Ok(Some((number, place)));
-        }
+fn first_connectors(alloc: Global, scopes: &[Scope<'_>]) -> Result<Broken, AllocError>
+    ensures { IfOk result (λ fault. fault ≡ None → All (λ s. IsAcyclic (edges_in s.elements.now)) scopes.now) }
+{
+    if let Some(place) = over_graphs(alloc, GraphRule::UnknownActivity, scopes)? {
+        return Ok(Some((9, place)));
     }
-    Ok(None)
+    if let Some(place) = over_graphs(alloc, GraphRule::DoubleConnector, scopes)? {
+        return Ok(Some((10, place)));
+    }
+    match over_graphs(alloc, GraphRule::Cycle, scopes)? {
+        Some(place) => Ok(Some((11, place))),
+        None => Ok(broken(12, over_graphs(alloc, GraphRule::EmptyGraph, scopes)?)),
+    }
 }
 
 fn over_members<'a>(search: Search, table: &LeafTable<'a>, scopes: &[Scope<'a>]) -> Option<u32> {
@@ -157,7 +166,9 @@ fn first_members<'a>(
     alloc: Global,
     table: &LeafTable<'a>,
     scopes: &[Scope<'a>],
-) -> Result<Broken, AllocError> {
+) -> Result<Broken, AllocError>
+    ensures { IfOk result (λ fault. fault ≡ None → All (λ s. All (IsLineAlong s.elements.now) (lines_in s.elements.now)) scopes.now) }
+{
     if let Some(place) = over_members(Search::Unknown, table, scopes) {
         return Ok(Some((13, place)));
     }
@@ -167,7 +178,10 @@ fn first_members<'a>(
     if let Some(place) = over_graphs(alloc, GraphRule::Otherwise, scopes)? {
         return Ok(Some((15, place)));
     }
-    Ok(broken(16, over_graphs(alloc, GraphRule::UnreachableData, scopes)?))
+    match over_graphs(alloc, GraphRule::UnreachableData, scopes)? {
+        Some(place) => Ok(Some((16, place))),
+        None => Ok(None),
+    }
 }
 
 fn over_processes<'a>(known: &Known<'a>, scopes: &[Scope<'a>]) -> Option<u32> {
@@ -237,19 +251,18 @@ fn first_sizes<'a>(
     Ok(broken(24, count_limit(known.processes(), scopes)))
 }
 
-/// Judges rules 13 to 24, and builds what the text adds where none is broken.
-fn judged_and_built<'a>(
+/// Judges rules 17 to 24 in a text that breaks none of the others, and builds what it adds where it breaks none.
+fn shaped_and_built<'a>(
     alloc: Global,
     tree: &'a Tree,
-    structures: Structures<'a>,
+    table: LeafTable<'a>,
     scopes: &[Scope<'a>],
     earlier: &'a Catalog,
-) -> Result<Result<Compiled, (u8, u32)>, AllocError> {
-    let table = LeafTable::new(alloc, structures, scopes)?;
+) -> Result<Result<Compiled, (u8, u32)>, AllocError>
+    requires { All (λ p. IsSound p.elements) (processes_in tree.now.items) }
+    ensures { IfOk result (λ judged. IfOk judged (λ compiled. AreLaidAlone compiled.templates)) }
+{
     let known = Known::new(alloc, tree, earlier)?;
-    if let Some(fault) = first_members(alloc, &table, scopes)? {
-        return Ok(Err(fault));
-    }
     if let Some(fault) = first_people(alloc, &known, &table, scopes)? {
         return Ok(Err(fault));
     }
@@ -265,12 +278,34 @@ fn judged_and_built<'a>(
     Ok(Ok(built(&builder, tree, &shapes)?))
 }
 
+/// Judges rules 13 to 24, and builds what the text adds where none is broken.
+fn judged_and_built<'a>(
+    alloc: Global,
+    tree: &'a Tree,
+    structures: Structures<'a>,
+    scopes: &[Scope<'a>],
+    earlier: &'a Catalog,
+) -> Result<Result<Compiled, (u8, u32)>, AllocError>
+    requires covered { All (λ p. IsCovered (lists_of scopes.now) p.elements) (processes_in tree.now.items) }
+    requires acyclic { All (λ s. IsAcyclic (edges_in s.elements.now)) scopes.now }
+    ensures { IfOk result (λ judged. IfOk judged (λ compiled. AreLaidAlone compiled.templates)) }
+{
+    let table = LeafTable::new(alloc, structures, scopes)?;
+    match first_members(alloc, &table, scopes)? {
+        Some(fault) => Ok(Err(fault)),
+        None => shaped_and_built(alloc, tree, table, scopes, earlier),
+    }
+}
+
 /// The templates and the people of an accepted text.
 fn built<'a>(
     builder: &Builder<'a>,
     tree: &'a Tree,
     shapes: &[Shape],
-) -> Result<Compiled, AllocError> {
+) -> Result<Compiled, AllocError>
+    requires { All (λ p. IsSound p.elements) (processes_in tree.now.items) }
+    ensures { IfOk result (λ compiled. AreLaidAlone compiled.templates) }
+{
     let mut templates = List::new(builder.alloc);
     let mut people = List::new(builder.alloc);
     for item in tree.items.as_slice() {
@@ -279,13 +314,36 @@ fn built<'a>(
             ItemTree::Person(person) => people.push(builder.person(person)?)?,
             ItemTree::Process(process) => {
                 let number = templates.len();
-                let shape = shapes.get(number).copied();
-                let shape = shape.unwrap_or(Shape { depth: 0, size: 0 });
-                templates.push(builder.template(small(number), process, shape)?)?;
+                let shape = shape_of(shapes, number);
+                let template = builder.template(small(number), process, shape)?;
+                templates.push(template)?;
             }
         }
     }
     Ok(Compiled { templates, people })
+}
+
+/// The shape of the process of this number.
+fn shape_of(shapes: &[Shape], number: usize) -> Shape {
+    let shape = shapes.get(number).copied();
+    shape.unwrap_or(Shape { depth: 0, size: 0 })
+}
+
+/// Judges rules 9 to 24, and builds what the text adds where none is broken.
+fn connected_and_built<'a>(
+    alloc: Global,
+    tree: &'a Tree,
+    structures: Structures<'a>,
+    scopes: &[Scope<'a>],
+    earlier: &'a Catalog,
+) -> Result<Result<Compiled, (u8, u32)>, AllocError>
+    requires { All (λ p. IsCovered (lists_of scopes.now) p.elements) (processes_in tree.now.items) }
+    ensures { IfOk result (λ judged. IfOk judged (λ compiled. AreLaidAlone compiled.templates)) }
+{
+    match first_connectors(alloc, scopes)? {
+        Some(fault) => Ok(Err(fault)),
+        None => judged_and_built(alloc, tree, structures, scopes, earlier),
+    }
 }
 
 /// What a tree adds to the library, or the first rule from 4 on that it breaks.
@@ -293,22 +351,23 @@ fn compile_tree(
     alloc: Global,
     tree: &Tree,
     earlier: &Catalog,
-) -> Result<Result<Compiled, (u8, u32)>, AllocError> {
+) -> Result<Result<Compiled, (u8, u32)>, AllocError>
+    ensures { IfOk result (λ judged. IfOk judged (λ compiled. AreLaidAlone compiled.templates)) }
+{
     let scopes = text_scopes(alloc, tree)?;
     let mut structures = Structures::new(alloc, tree)?;
     if let Some(fault) = first_names(alloc, tree, &mut structures, &scopes)? {
         return Ok(Err(fault));
     }
-    if let Some(fault) = first_connectors(alloc, &scopes)? {
-        return Ok(Err(fault));
-    }
-    judged_and_built(alloc, tree, structures, &scopes, earlier)
+    connected_and_built(alloc, tree, structures, &scopes, earlier)
 }
 
 /// What a text adds to the library of the earlier imports.
 ///
 /// `Rule` comes exactly where it breaks a rule: the least rule, and then the least place.
-pub fn compile(alloc: Global, text: &[u8], earlier: &Catalog) -> Result<Compiled, ImportFault> {
+pub fn compile(alloc: Global, text: &[u8], earlier: &Catalog) -> Result<Compiled, ImportFault>
+    ensures { IfOk result (λ compiled. AreLaidAlone compiled.templates) }
+{
     let tree = syntax_tree(alloc, text)?;
     match compile_tree(alloc, &tree, earlier)? {
         Ok(compiled) => Ok(compiled),

@@ -1,7 +1,15 @@
 //! Rules 9 to 12, 15 and 16: connectors and data lines as edges of their graph.
+ghost use Rattle.std.specs.Prelude.{ℕ, ◌≡◌, ◌<◌, false, true, None, IfOk, OnOk};
+ghost use Rattle.graph_check.specs.Walks.{Reaches};
+ghost use Rattle.template_check.specs.Texts.{edges_in, lines_in, line_edge, IsNotClosing, IsLineAlong};
+ghost use Rattle.template_check.specs.ClosedWalks.{IsAcyclic};
+ghost use Rattle.template_check.specs.GraphEdges.{AreEdgesOf, AreKnown};
+ghost use Rattle.std.specs.List.{All};
+
+use crate::edges::{Edges, is_marked};
 use crate::least::lesser;
 use crate::scopes::Scope;
-use flow_model::{ControlTree, EndTree, EndsTree, NameAt, WhenTree};
+use flow_model::{ControlTree, DataTree, EndTree, EndsTree, NameAt, WhenTree};
 use indexmap::{IndexMap, IndexSet};
 use std::alloc::{AllocError, Global};
 
@@ -51,18 +59,36 @@ pub fn double_connector(alloc: Global, scope: &Scope<'_>) -> Result<Option<u32>,
     Ok(None)
 }
 
+/// Whether a connector lies on a closed walk.
+fn closes_walk<'a>(
+    alloc: Global,
+    scope: &Scope<'a>,
+    edges: &Edges,
+    control: &'a ControlTree,
+) -> Result<bool, AllocError>
+    requires { AreEdgesOf scope.now.elements.now edges.now }
+    ensures { IfOk result (λ yes. yes ≡ false → IsNotClosing scope.now.elements.now control.now) }
+{
+    match scope.ends(&control.from, &control.to) {
+        None => Ok(false),
+        Some((from, to)) => {
+            let seen = edges.reaching(alloc, from)?;
+            Ok(is_marked(&seen, to))
+        }
+    }
+}
+
 /// Rule 11: a CONTROL lies on a closed walk of its graph.
-pub fn cycle(alloc: Global, scope: &Scope<'_>) -> Result<Option<u32>, AllocError> {
+pub fn cycle(alloc: Global, scope: &Scope<'_>) -> Result<Option<u32>, AllocError>
+    ensures { IfOk result (λ place. place ≡ None → IsAcyclic (edges_in scope.now.elements.now)) }
+{
     let edges = scope.edges(alloc)?;
     if edges.order(alloc)?.is_some() {
         return Ok(None);
     }
     for control in &scope.controls {
-        if let (Some(from), Some(to)) = (scope.number(&control.from), scope.number(&control.to)) {
-            let seen = edges.reaching(alloc, from)?;
-            if from == to || seen.get(to as usize).copied().unwrap_or(false) {
-                return Ok(Some(control.place));
-            }
+        if closes_walk(alloc, scope, &edges, control)? {
+            return Ok(Some(control.place));
         }
     }
     Ok(None)
@@ -112,32 +138,94 @@ pub fn otherwise(alloc: Global, scope: &Scope<'_>) -> Result<Option<u32>, AllocE
 }
 
 /// The numbers of the two activities of a DATA line between activities.
-fn line_ends<'a>(scope: &Scope<'a>, ends: &'a EndsTree) -> Option<(u32, u32)> {
+fn line_ends<'a>(scope: &Scope<'a>, ends: &'a EndsTree) -> Option<(u32, u32)>
+    ensures { result ≡ line_edge scope.now.elements.now ends.now }
+{
     match ends {
-        EndsTree::Line(EndTree::Activity(from), EndTree::Activity(to)) => {
-            Some((scope.number(from)?, scope.number(to)?))
-        }
-        EndsTree::Line(_, _) => None,
+        EndsTree::Line(from, to) => match from {
+            EndTree::Border => None,
+            EndTree::Activity(from) => match to {
+                EndTree::Border => None,
+                EndTree::Activity(to) => scope.ends(from, to),
+            },
+        },
         EndsTree::Loop(_) => None,
     }
 }
 
+/// From which activities of a graph walks lead to others, as far as was asked.
+#[derive(Drop)]
+struct Walks {
+    edges: Edges,
+    known: IndexMap<u32, Vec<bool>>,
+}
+
+impl Walks {
+    fn new(alloc: Global, edges: Edges) -> Walks
+        ensures edges { result.edges ≡ edges }
+        ensures known { AreKnown result.edges result.known }
+    {
+        Walks {
+            edges,
+            known: IndexMap::new(alloc),
+        }
+    }
+
+    /// Sees to it that the walks to an activity are known.
+    fn learn(&mut self, alloc: Global, to: u32) -> Result<(), AllocError>
+        requires { AreKnown self.old.edges self.old.known }
+        ensures edges { self.new.edges ≡ self.old.edges }
+        ensures known { OnOk result (AreKnown self.new.edges self.new.known) }
+    {
+        if !self.known.contains_key(&to) {
+            let seen = self.edges.reaching(alloc, to)?;
+            self.known.insert(to, seen)?;
+        }
+        Ok(())
+    }
+
+    /// Whether a walk is known that leads from one activity to another.
+    fn lead(&self, from: u32, to: u32) -> bool
+        requires { AreKnown self.now.edges self.now.known }
+        ensures { result ≡ true → from < self.now.edges.nodes → to < self.now.edges.nodes → Reaches self.now.edges.pairs.items from to }
+    {
+        match self.known.get(&to) {
+            Some(seen) => is_marked(seen, from),
+            None => false,
+        }
+    }
+
+    /// Whether a DATA line between two activities goes along a walk; true of other lines.
+    fn has_line<'a>(
+        &mut self,
+        alloc: Global,
+        scope: &Scope<'a>,
+        line: &'a DataTree,
+    ) -> Result<bool, AllocError>
+        requires edges { AreEdgesOf scope.now.elements.now self.old.edges }
+        requires known { AreKnown self.old.edges self.old.known }
+        ensures edges { self.new.edges ≡ self.old.edges }
+        ensures known { OnOk result (AreKnown self.new.edges self.new.known) }
+        ensures along { IfOk result (λ yes. yes ≡ true → IsLineAlong scope.now.elements.now line.now) }
+    {
+        match line_ends(scope, &line.ends) {
+            None => Ok(true),
+            Some((from, to)) => {
+                self.learn(alloc, to)?;
+                Ok(self.lead(from, to))
+            }
+        }
+    }
+}
+
 /// Rule 16: a DATA line between two activities whose target isn't reachable from the source.
-pub fn unreachable_data(alloc: Global, scope: &Scope<'_>) -> Result<Option<u32>, AllocError> {
-    let edges = scope.edges(alloc)?;
-    let mut known: IndexMap<u32, Vec<bool>> = IndexMap::new(alloc);
+pub fn unreachable_data(alloc: Global, scope: &Scope<'_>) -> Result<Option<u32>, AllocError>
+    ensures { IfOk result (λ place. place ≡ None → All (IsLineAlong scope.now.elements.now) (lines_in scope.now.elements.now)) }
+{
+    let mut walks = Walks::new(alloc, scope.edges(alloc)?);
     for line in &scope.lines {
-        if let Some((from, to)) = line_ends(scope, &line.ends) {
-            if !known.contains_key(&to) {
-                known.insert(to, edges.reaching(alloc, to)?)?;
-            }
-            let reached = match known.get(&to) {
-                Some(seen) => seen.get(from as usize).copied().unwrap_or(false),
-                None => false,
-            };
-            if !reached {
-                return Ok(Some(line.place));
-            }
+        if !walks.has_line(alloc, scope, line)? {
+            return Ok(Some(line.place));
         }
     }
     Ok(None)

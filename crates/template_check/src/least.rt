@@ -1,10 +1,14 @@
 //! The least of some places.
+ghost use Rattle.std.specs.Prelude.{◌≡◌, None};
+
 use flow_model::NameAt;
 use indexmap::IndexSet;
 use std::alloc::{AllocError, Global};
 
 /// The lesser of two places, where there are any.
-pub fn lesser(first: Option<u32>, second: Option<u32>) -> Option<u32> {
+pub fn lesser(first: Option<u32>, second: Option<u32>) -> Option<u32>
+    ensures { result ≡ None → (first ≡ None) × (second ≡ None) }
+{
     match (first, second) {
         (None, _) => second,
         (_, None) => first,

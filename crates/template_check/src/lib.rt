@@ -11,6 +11,7 @@ mod compiling;
 mod connectors;
 mod edges;
 mod faults;
+mod layout;
 mod least;
 mod members;
 mod names;
@@ -18,8 +19,10 @@ mod people;
 mod scopes;
 mod sizes;
 mod structures;
+mod text_graphs;
 mod wires;
 
 pub use catalog::Catalog;
 pub use compiling::{Compiled, compile, line_of, syntax_tree};
 pub use faults::{ImportFault, RuleFault};
+pub use layout::laid_together;

@@ -1,14 +1,91 @@
 //! The graphs of a text: its processes, and the blocks in them.
+ghost use Rattle.std.specs.Prelude.{◌≡◌, ℕ, ◌<◌, map, bytes_eq, IfOk, OnOk, option_copied, length, slice_get};
+ghost use Rattle.template_check.specs.Texts.{activities_in, controls_in, lines_in, number_in, pair_of, AreNumbered};
+ghost use Rattle.template_check.specs.GraphEdges.{AreEdgesOf};
+
 use crate::edges::Edges;
-use flow_model::{
-    ActivityTree, ControlTree, DataTree, ElementTree, ItemTree, NameAt, ProcessTree, Tree, WorkTree,
-};
+use flow_model::{ActivityTree, ControlTree, DataTree, ElementTree, NameAt, WorkTree};
 use indexmap::IndexMap;
 use std::alloc::{AllocError, Global};
 
 /// A number of something of which a text has fewer than 2^32.
 pub fn small(number: usize) -> u32 {
     u32::try_from(number).unwrap_or(u32::MAX)
+}
+
+/// A number of 32 bits; an error where it is larger, since nothing that large has room.
+pub fn narrow(number: usize) -> Result<u32, AllocError>
+    ensures { IfOk result (λ narrow. narrow ≡ number) }
+{
+    match u32::try_from(number) {
+        Ok(narrow) => Ok(narrow),
+        Err(_) => Err(AllocError),
+    }
+}
+
+fn activities_of<'a>(
+    alloc: Global,
+    elements: &'a [ElementTree],
+) -> Result<Vec<&'a ActivityTree>, AllocError>
+    ensures { IfOk result (λ found. map (λ a. a.now) found.items ≡ activities_in elements.now) }
+{
+    let mut activities = Vec::new(alloc);
+    for element in elements {
+        match element {
+            ElementTree::Activity(activity) => activities.push(activity)?,
+            ElementTree::Control(_) => {}
+            ElementTree::Line(_) => {}
+        }
+    }
+    Ok(activities)
+}
+
+fn controls_of<'a>(
+    alloc: Global,
+    elements: &'a [ElementTree],
+) -> Result<Vec<&'a ControlTree>, AllocError>
+    ensures { IfOk result (λ found. map (λ c. c.now) found.items ≡ controls_in elements.now) }
+{
+    let mut controls = Vec::new(alloc);
+    for element in elements {
+        match element {
+            ElementTree::Control(control) => controls.push(control)?,
+            ElementTree::Activity(_) => {}
+            ElementTree::Line(_) => {}
+        }
+    }
+    Ok(controls)
+}
+
+fn lines_of<'a>(alloc: Global, elements: &'a [ElementTree]) -> Result<Vec<&'a DataTree>, AllocError>
+    ensures { IfOk result (λ found. map (λ l. l.now) found.items ≡ lines_in elements.now) }
+{
+    let mut lines = Vec::new(alloc);
+    for element in elements {
+        match element {
+            ElementTree::Line(line) => lines.push(line)?,
+            ElementTree::Activity(_) => {}
+            ElementTree::Control(_) => {}
+        }
+    }
+    Ok(lines)
+}
+
+/// The number of each name; of two activities of one name the first has it.
+fn numbers_of<'a>(
+    alloc: Global,
+    activities: &[&'a ActivityTree],
+) -> Result<IndexMap<&'a [u8], u32>, AllocError>
+    ensures { IfOk result (λ numbers. AreNumbered (map (λ a. a.now) activities.now) numbers) }
+{
+    let mut numbers: IndexMap<&'a [u8], u32> = IndexMap::new(alloc);
+    for (i, activity) in activities.iter().enumerate() {
+        let name = activity.name.name.as_slice();
+        if !numbers.contains_key(&name) {
+            numbers.insert(name, narrow(i)?)?;
+        }
+    }
+    Ok(numbers)
 }
 
 /// A graph of a text, with its elements by kind and the numbers of its activities by name.
@@ -20,10 +97,15 @@ pub struct Scope<'a> {
     pub place: u32,
     pub input: &'a NameAt,
     pub output: &'a NameAt,
+    pub elements: &'a [ElementTree],
     pub activities: Vec<&'a ActivityTree>,
     pub controls: Vec<&'a ControlTree>,
     pub lines: Vec<&'a DataTree>,
     numbers: IndexMap<&'a [u8], u32>,
+    ghost with_activities: { map (λ a. a.now) activities.items ≡ activities_in elements.now },
+    ghost with_controls: { map (λ c. c.now) controls.items ≡ controls_in elements.now },
+    ghost with_lines: { map (λ l. l.now) lines.items ≡ lines_in elements.now },
+    ghost numbered: { AreNumbered (activities_in elements.now) numbers },
 }
 
 impl<'a> Scope<'a> {
@@ -35,51 +117,36 @@ impl<'a> Scope<'a> {
         input: &'a NameAt,
         output: &'a NameAt,
         elements: &'a [ElementTree],
-    ) -> Result<Scope<'a>, AllocError> {
-        let mut scope = Scope {
+    ) -> Result<Scope<'a>, AllocError>
+        ensures { IfOk result (λ scope. scope.elements.now ≡ elements.now) }
+    {
+        let activities = activities_of(alloc, elements)?;
+        let numbers = numbers_of(alloc, &activities)?;
+        Ok(Scope {
             process,
             place,
             input,
             output,
-            activities: Vec::new(alloc),
-            controls: Vec::new(alloc),
-            lines: Vec::new(alloc),
-            numbers: IndexMap::new(alloc),
-        };
-        for element in elements {
-            scope.add(element)?;
-        }
-        Ok(scope)
-    }
-
-    fn add(&mut self, element: &'a ElementTree) -> Result<(), AllocError> {
-        match element {
-            ElementTree::Activity(activity) => self.add_activity(activity),
-            ElementTree::Control(control) => {
-                self.controls.push(control)?;
-                Ok(())
-            }
-            ElementTree::Line(line) => {
-                self.lines.push(line)?;
-                Ok(())
-            }
-        }
-    }
-
-    /// Of two activities of one name the first has the number.
-    fn add_activity(&mut self, activity: &'a ActivityTree) -> Result<(), AllocError> {
-        let name = activity.name.name.as_slice();
-        let number = small(self.activities.len());
-        self.activities.push(activity)?;
-        if !self.numbers.contains_key(&name) {
-            self.numbers.insert(name, number)?;
-        }
-        Ok(())
+            elements,
+            controls: controls_of(alloc, elements)?,
+            lines: lines_of(alloc, elements)?,
+            activities,
+            numbers,
+        })
     }
 
     /// The number of the activity of this name.
-    pub fn number(&self, name: &'a NameAt) -> Option<u32> {
+    pub fn number(&self, name: &'a NameAt) -> Option<u32>
+        ensures { result ≡ number_in self.now.elements.now name.now.name }
+    {
         self.numbers.get(&name.name.as_slice()).copied()
+    }
+
+    /// The numbers of the activities of two names, where both are known.
+    pub fn ends(&self, from: &'a NameAt, to: &'a NameAt) -> Option<(u32, u32)>
+        ensures { result ≡ pair_of (number_in self.now.elements.now from.now.name) (number_in self.now.elements.now to.now.name) }
+    {
+        Some((self.number(from)?, self.number(to)?))
     }
 
     /// The activity of this name.
@@ -89,11 +156,14 @@ impl<'a> Scope<'a> {
     }
 
     /// The connectors whose ends are known, as pairs of numbers.
-    pub fn edges(&self, alloc: Global) -> Result<Edges, AllocError> {
-        let mut edges = Edges::new(alloc, small(self.activities.len()));
+    pub fn edges(&self, alloc: Global) -> Result<Edges, AllocError>
+        ensures { IfOk result (AreEdgesOf self.now.elements.now) }
+    {
+        let mut edges = Edges::new(alloc, narrow(self.activities.len())?);
         for control in &self.controls {
-            if let (Some(from), Some(to)) = (self.number(&control.from), self.number(&control.to)) {
-                edges.add(from, to)?;
+            match self.ends(&control.from, &control.to) {
+                Some((from, to)) => edges.add(from, to)?,
+                None => {}
             }
         }
         Ok(edges)
@@ -107,47 +177,4 @@ pub fn block_elements(activity: &ActivityTree) -> &[ElementTree] {
         WorkTree::Process(_) => &[],
         WorkTree::Program => &[],
     }
-}
-
-/// Adds the graphs of the blocks among these elements, and of those in them, in the order of the text.
-fn add_blocks<'a>(
-    alloc: Global,
-    scopes: &mut Vec<Scope<'a>>,
-    process: u32,
-    elements: &'a [ElementTree],
-) -> Result<(), AllocError> {
-    for element in elements {
-        if let ElementTree::Activity(activity) = element {
-            if let WorkTree::Block(inner) = &activity.work {
-                let inner = inner.as_slice();
-                let (input, output) = (&activity.input, &activity.output);
-                scopes.push(Scope::new(alloc, process, activity.place, input, output, inner)?)?;
-                add_blocks(alloc, scopes, process, inner)?;
-            }
-        }
-    }
-    Ok(())
-}
-
-/// The processes of a text, in order.
-pub fn processes<'a>(alloc: Global, tree: &'a Tree) -> Result<Vec<&'a ProcessTree>, AllocError> {
-    let mut processes = Vec::new(alloc);
-    for item in tree.items.as_slice() {
-        if let ItemTree::Process(process) = item {
-            processes.push(process)?;
-        }
-    }
-    Ok(processes)
-}
-
-/// All graphs of a text, each before those inside it, in the order of the text.
-pub fn text_scopes<'a>(alloc: Global, tree: &'a Tree) -> Result<Vec<Scope<'a>>, AllocError> {
-    let mut scopes = Vec::new(alloc);
-    for (i, process) in processes(alloc, tree)?.iter().enumerate() {
-        let elements = process.elements.as_slice();
-        let (input, output) = (&process.input, &process.output);
-        scopes.push(Scope::new(alloc, small(i), process.place, input, output, elements)?)?;
-        add_blocks(alloc, &mut scopes, small(i), elements)?;
-    }
-    Ok(scopes)
 }

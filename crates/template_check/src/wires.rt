@@ -1,8 +1,17 @@
 //! Where the lines of a graph lead, by the places of its activities.
+ghost use Rattle.std.specs.Prelude.{◌≡◌, ◌<◌, ◌==◌, ◌++◌, ◌∷◌, [], length, replicate, slice_set, slice_index_or, IfOk, OnOk};
+ghost use Rattle.std.specs.List.{All};
+ghost use Rattle.flow_model.specs.ScopeContainers.{same_end};
+ghost use Rattle.flow_model.specs.Wiring.{places};
+ghost use Rattle.template_check.specs.Wires.{AreRows, IsEndBelow, AreWithin, AreWired, pairs_of};
+ghost use Rattle.template_check.specs.ClosedWalks.{IsAcyclic};
+ghost use Rattle.graph_check.specs.Walks.{IsOrder};
+
 use crate::edges::Edges;
-use crate::scopes::small;
+use crate::scopes::narrow;
 use flow_model::{Control, DataLine, List, LoopLine, MapEnd, Wiring};
 use std::alloc::{AllocError, Global};
+use std::marker::Model;
 
 /// Rows of places, one for each activity.
 #[derive(Drop)]
@@ -10,42 +19,79 @@ struct Rows {
     rows: Vec<List<u32>>,
 }
 
+impl Model for Rows {
+    ghost use Rattle.std.specs.Prelude.{ℕ, List};
+
+    ghost Value = { List (List ℕ) };
+
+    ghost view = { λ s. s.rows.items };
+}
+
 impl Rows {
-    fn new(alloc: Global, count: usize) -> Result<Rows, AllocError> {
+    fn new(alloc: Global, count: usize) -> Result<Rows, AllocError>
+        ensures { IfOk result (λ rows. rows ≡ replicate count []) }
+    {
         let mut rows = Vec::new(alloc);
-        for _ in 0..count {
+        for _activity in 0..count {
             rows.push(List::new(alloc))?;
         }
         Ok(Rows { rows })
     }
 
-    /// Adds a place to the row of an activity.
-    fn add(&mut self, activity: u32, place: usize) -> Result<(), AllocError> {
-        if let Some(row) = self.rows.get_mut(activity as usize) {
-            row.push(small(place))?;
-        }
+    /// Adds a place to the row of an activity. A place of more than 32 bits has no room.
+    fn add(&mut self, activity: u32, place: usize) -> Result<(), AllocError>
+        requires { activity < length self.old }
+        ensures { OnOk result (self.new ≡ slice_set self.old activity (slice_index_or self.old activity [] ++ place ∷ [])) }
+    {
+        let place = narrow(place)?;
+        let row = &mut self.rows[activity as usize];
+        row.push(place)?;
         Ok(())
     }
 
-    fn into_list(self) -> List<List<u32>> {
+    fn into_list(self) -> List<List<u32>>
+        ensures { result ≡ self }
+    {
         let Rows { rows } = self;
         List::from_vec(rows)
     }
 }
 
-fn order(alloc: Global, count: usize, controls: &[Control]) -> Result<List<u32>, AllocError> {
-    let mut edges = Edges::new(alloc, small(count));
+/// The connectors as edges between so many activities.
+fn edges_of(alloc: Global, count: usize, controls: &[Control]) -> Result<Edges, AllocError>
+    requires sources { All (λ c. c.from < count) controls.now }
+    requires targets { All (λ c. c.to < count) controls.now }
+    ensures nodes { IfOk result (λ edges. edges.nodes ≡ count) }
+    ensures pairs { IfOk result (λ edges. edges.pairs.items ≡ pairs_of controls.now) }
+{
+    let mut edges = Edges::new(alloc, narrow(count)?);
     for control in controls {
         edges.add(control.from, control.to)?;
     }
-    Ok(edges.order(alloc)?.unwrap_or(List::new(alloc)))
+    Ok(edges)
+}
+
+/// An order of the activities in which each connector goes forward. There is one, since no walk is closed.
+fn order(alloc: Global, count: usize, controls: &[Control]) -> Result<List<u32>, AllocError>
+    requires sources { All (λ c. c.from < count) controls.now }
+    requires targets { All (λ c. c.to < count) controls.now }
+    requires acyclic { IsAcyclic (pairs_of controls.now) }
+    ensures { IfOk result (IsOrder count (pairs_of controls.now)) }
+{
+    match edges_of(alloc, count, controls)?.order(alloc)? {
+        Some(order) => Ok(order),
+        None => Ok(List::new(alloc)),
+    }
 }
 
 fn incoming(
     alloc: Global,
     count: usize,
     controls: &[Control],
-) -> Result<List<List<u32>>, AllocError> {
+) -> Result<List<List<u32>>, AllocError>
+    requires { All (λ c. c.to < count) controls.now }
+    ensures { IfOk result (AreRows (λ c a. c.to == a) controls.now) }
+{
     let mut rows = Rows::new(alloc, count)?;
     for (i, control) in controls.iter().enumerate() {
         rows.add(control.to, i)?;
@@ -57,7 +103,10 @@ fn outgoing(
     alloc: Global,
     count: usize,
     controls: &[Control],
-) -> Result<List<List<u32>>, AllocError> {
+) -> Result<List<List<u32>>, AllocError>
+    requires { All (λ c. c.from < count) controls.now }
+    ensures { IfOk result (AreRows (λ c a. c.from == a) controls.now) }
+{
     let mut rows = Rows::new(alloc, count)?;
     for (i, control) in controls.iter().enumerate() {
         rows.add(control.from, i)?;
@@ -65,27 +114,36 @@ fn outgoing(
     Ok(rows.into_list())
 }
 
-fn feeding(alloc: Global, count: usize, lines: &[DataLine]) -> Result<List<List<u32>>, AllocError> {
+fn feeding(alloc: Global, count: usize, lines: &[DataLine]) -> Result<List<List<u32>>, AllocError>
+    requires { All (λ line. IsEndBelow count line.to) lines.now }
+    ensures { IfOk result (AreRows (λ line a. same_end line.to (MapEnd.Activity a)) lines.now) }
+{
     let mut rows = Rows::new(alloc, count)?;
     for (i, line) in lines.iter().enumerate() {
-        if let MapEnd::Activity(to) = line.to {
-            rows.add(to, i)?;
+        match line.to {
+            MapEnd::Activity(to) => rows.add(to, i)?,
+            MapEnd::Border => {}
         }
     }
     Ok(rows.into_list())
 }
 
-fn sinking(alloc: Global, lines: &[DataLine]) -> Result<List<u32>, AllocError> {
+fn sinking(alloc: Global, lines: &[DataLine]) -> Result<List<u32>, AllocError>
+    ensures { IfOk result (λ row. row ≡ places (λ line. same_end line.to MapEnd.Border) 0 lines.now) }
+{
     let mut places = List::new(alloc);
     for (i, line) in lines.iter().enumerate() {
         if line.to == MapEnd::Border {
-            places.push(small(i))?;
+            places.push(narrow(i)?)?;
         }
     }
     Ok(places)
 }
 
-fn looping(alloc: Global, count: usize, loops: &[LoopLine]) -> Result<List<List<u32>>, AllocError> {
+fn looping(alloc: Global, count: usize, loops: &[LoopLine]) -> Result<List<List<u32>>, AllocError>
+    requires { All (λ line. line.activity < count) loops.now }
+    ensures { IfOk result (AreRows (λ line a. line.activity == a) loops.now) }
+{
     let mut rows = Rows::new(alloc, count)?;
     for (i, line) in loops.iter().enumerate() {
         rows.add(line.activity, i)?;
@@ -93,14 +151,18 @@ fn looping(alloc: Global, count: usize, loops: &[LoopLine]) -> Result<List<List<
     Ok(rows.into_list())
 }
 
-/// Where these lines lead between so many activities.
+/// Where these lines lead between so many activities. A list of more lines than places of 32 bits has no room.
 pub fn wiring(
     alloc: Global,
     count: usize,
     controls: &[Control],
     lines: &[DataLine],
     loops: &[LoopLine],
-) -> Result<Wiring, AllocError> {
+) -> Result<Wiring, AllocError>
+    requires within { AreWithin count controls.now lines.now loops.now }
+    requires acyclic { IsAcyclic (pairs_of controls.now) }
+    ensures { IfOk result (AreWired count controls.now lines.now loops.now) }
+{
     Ok(Wiring {
         order: order(alloc, count, controls)?,
         incoming: incoming(alloc, count, controls)?,

@@ -1,4 +1,4 @@
-use Rattle.std.proofs.Common.{rules, ◌≡◌, ◌<◌, ◌^◌, ◌∷◌, [], ◌++◌, length, ap, sym, ◌∙◌, min, arith}
+use Rattle.std.proofs.Common.{length, ◌∙◌}
 use Rattle.template_check.specs.Imports.{AreIndexed}
 use Rattle.template_check.proofs.Indexing.{pushed, place_is}
 use Rattle.template_check.proofs.catalog.Catalog.add_person.Goals as goal

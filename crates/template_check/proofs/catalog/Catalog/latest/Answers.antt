@@ -1,4 +1,4 @@
-use Rattle.std.proofs.Common.{rules, ap, ◌∙◌, bytes_eq}
+use Rattle.std.proofs.Common.{ap, ◌∙◌, bytes_eq}
 use Rattle.std.specs.HashMap as hash
 use Rattle.template_check.proofs.catalog.Catalog.latest.Goals as goal
 

@@ -1,0 +1,102 @@
+-- What the text of a graph says: its activities, connectors and data lines, the activities that names stand for, and which graphs stand in it.
+use Rattle.std.specs.Borrow.{Bor}
+use Rattle.std.specs.Prelude.{◌≡◌, ℕ, ◌+◌, Bool, if◌then◌else◌, Option, Some, None, List, [], ◌∷◌, bytes_eq}
+use Rattle.std.specs.List.{All, filter_map}
+use Rattle.std.specs.Option.{option_map}
+use Rattle.std.specs.HashMap as hash
+use Rattle.std.specs.HashMap.{HashMap}
+use Rattle.flow_model.specs.declared.trees.ActivityTree.{ActivityTree}
+use Rattle.flow_model.specs.declared.trees.ControlTree.{ControlTree}
+use Rattle.flow_model.specs.declared.trees.DataTree.{DataTree}
+use Rattle.flow_model.specs.declared.trees.ElementTree.{ElementTree, Activity', Control, Line}
+use Rattle.flow_model.specs.declared.trees.EndTree.TheVariants.{Border, Activity as At}
+use Rattle.flow_model.specs.declared.trees.EndsTree.{EndsTree}
+use Rattle.flow_model.specs.declared.trees.EndsTree.TheVariants as ends
+use Rattle.flow_model.specs.declared.trees.ItemTree.{ItemTree}
+use Rattle.flow_model.specs.declared.trees.ItemTree.TheVariants as item
+use Rattle.flow_model.specs.declared.trees.ProcessTree.{ProcessTree}
+use Rattle.graph_check.specs.Walks.{Reaches}
+use Rattle.template_check.specs.ClosedWalks.{IsAcyclic}
+
+-- ---- the elements by kind
+
+abbrev pub activity_of : ElementTree → Option ActivityTree
+activity_of (Activity' place work name input output attrs end) = Some (record { place = place; work = work; name = name; input = input; output = output; attrs = attrs; end = end })
+activity_of (Control c) = None
+activity_of (Line l) = None
+
+abbrev pub control_of : ElementTree → Option ControlTree
+control_of (Activity' place work name input output attrs end) = None
+control_of (Control c) = Some c
+control_of (Line l) = None
+
+abbrev pub line_of : ElementTree → Option DataTree
+line_of (Activity' place work name input output attrs end) = None
+line_of (Control c) = None
+line_of (Line l) = Some l
+
+abbrev pub activities_in : List ElementTree → List ActivityTree
+activities_in = filter_map activity_of
+
+abbrev pub controls_in : List ElementTree → List ControlTree
+controls_in = filter_map control_of
+
+abbrev pub lines_in : List ElementTree → List DataTree
+lines_in = filter_map line_of
+
+abbrev pub process_of : ItemTree → Option ProcessTree
+process_of (item.Structure s) = None
+process_of (item.Person p) = None
+process_of (item.Process p) = Some p
+
+abbrev pub processes_in : List ItemTree → List ProcessTree
+processes_in = filter_map process_of
+
+-- ---- what names stand for
+
+abbrev pub first_place : {X : Type 0} → (X → Bool) → List X → Option ℕ
+first_place test [] = None
+first_place test (x ∷ xs) = if test x then Some 0 else option_map (λ place. place + 1) (first_place test xs)
+
+-- names lead to the first activity of each
+abbrev pub AreNumbered : {S : Type 0} → List ActivityTree → HashMap (Bor (List ℕ)) ℕ S → Type 0
+AreNumbered activities numbers = (key : List ℕ) → hash.get_by (λ k. bytes_eq key k.now) numbers ≡ first_place (λ a. bytes_eq a.name.name key) activities
+
+-- the first activity of a name
+abbrev pub number_in : List ElementTree → List ℕ → Option ℕ
+number_in elements name = first_place (λ a. bytes_eq a.name.name name) (activities_in elements)
+
+abbrev pub pair_of : Option ℕ → Option ℕ → Option (ℕ × ℕ)
+pair_of None to = None
+pair_of (Some a) None = None
+pair_of (Some a) (Some b) = Some (a, b)
+
+-- the numbers of a connector's ends, where both are known
+abbrev pub edge_of : List ElementTree → ControlTree → Option (ℕ × ℕ)
+edge_of elements c = pair_of (number_in elements c.from.name) (number_in elements c.to.name)
+
+-- the connectors between known activities, as pairs of numbers
+abbrev pub edges_in : List ElementTree → List (ℕ × ℕ)
+edges_in elements = filter_map (edge_of elements) (controls_in elements)
+
+-- ---- what rules 11 and 16 ask of a graph
+
+-- the numbers of the two activities of a data line between activities, where both are known
+abbrev pub line_edge : List ElementTree → EndsTree → Option (ℕ × ℕ)
+line_edge elements (ends.Line Border to) = None
+line_edge elements (ends.Line (At from) Border) = None
+line_edge elements (ends.Line (At from) (At to)) = pair_of (number_in elements from.name) (number_in elements to.name)
+line_edge elements (ends.Loop name) = None
+
+-- a walk along the connectors leads from the first activity of a data line to the second
+abbrev pub IsLineAlong : List ElementTree → DataTree → Type 0
+IsLineAlong elements line = (a b : ℕ) → line_edge elements line.ends ≡ Some (a, b) → Reaches (edges_in elements) a b
+
+-- no walk leads back along a connector
+abbrev pub IsNotClosing : List ElementTree → ControlTree → Type 0
+IsNotClosing elements c = (a b : ℕ) → edge_of elements c ≡ Some (a, b) → Reaches (edges_in elements) b a → ⊥
+
+-- no connectors close a walk, and each data line between activities goes along one
+pub record IsJudged (elements : List ElementTree) : Type 0 where
+  pub acyclic : IsAcyclic (edges_in elements)
+  pub along : All (IsLineAlong elements) (lines_in elements)
