@@ -326,6 +326,10 @@ impl Session {
     }
 
     /// The reply to an input: empty for a line of blanks and comments, inside an IMPORT, and at the end.
+    ///
+    /// A line that can't be read and a command that isn't allowed have their refusal as the reply. `NoMemory` comes
+    /// where there is no memory, `StoreFault` where the journal may not have kept a transaction or a checkpoint;
+    /// then nothing is replied.
     pub fn serve<J: Journal>(&mut self, journal: &mut J, input: Input<'_>) -> Result<Vec<u8>, Stop>
         requires { J.tells → J.holds journal.old (summary self.old.core) }
         ensures kept { J.tells → OnOk result (J.holds journal.new (summary self.new.core)) }
