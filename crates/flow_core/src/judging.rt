@@ -1,7 +1,7 @@
 //! Whether a command is allowed now: the first refusal in the order of its tests, or its transaction.
 ghost use Rattle.std.specs.Prelude.{◌≡◌, ℕ, ◌<◌, List as ListOf, option_copied, IfOk, OnOk};
 ghost use Rattle.flow_model.specs.declared.commands.Command.TheVariants as asked;
-ghost use Rattle.flow_model.specs.declared.instances.Setting.{Setting as SettingOf};
+ghost use Rattle.flow_model.specs.declared.transactions.Setting.{Setting as SettingOf};
 ghost use Rattle.flow_model.specs.declared.transactions.Transaction.TheVariants as made;
 ghost use Rattle.flow_core.specs.Verdicts.{IsFor, IsVerdict, next_root};
 
@@ -105,7 +105,7 @@ impl Core {
     }
 
     fn copied_key(&self, key: Option<&Name>) -> Result<Option<Name>, AllocError>
-        ensures { IfOk result (λ copy. copy ≡ option_copied key) }
+        ensures { IfOk result (λ copy. copy ≡ option_copied key.entry) }
     {
         match key {
             None => Ok(None),
@@ -121,7 +121,7 @@ impl Core {
         written: &[RawSetting],
     ) -> Result<Transaction, Stop>
         ensures room { OnOk result (self.now.number < self.now.limit) }
-        ensures made { IfOk result (λ t. (version : ℕ) × (settings : ListOf SettingOf) × (t ≡ made.Start (next_root self.now) process.now version starter.now (option_copied key) settings)) }
+        ensures made { IfOk result (λ t. (version : ℕ) × (settings : ListOf SettingOf) × (t ≡ made.Start (next_root self.now) process.now version starter.now (option_copied key.entry) settings)) }
     {
         self.needs_person(starter)?;
         let Some(place) = self.store.newest(process) else {
