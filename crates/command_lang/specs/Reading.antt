@@ -1,6 +1,13 @@
 -- What a line says by its bytes and its tokens: nothing, something, or that it can't be read. Places are
 -- counted from 1.
-use Rattle.std.specs.Prelude.{◌≡◌, ◌⊎◌, ℕ, ◌-◌, ◌<◌, ◌≤◌, ◌==◌, nat_le, Bool, not, ◌||◌, ◌&&◌, Option, Some, None, Result, Ok, Err, List, [], length, position}
+use Rattle.std.specs.Prelude.{◌≡◌, ◌⊎◌, ℕ, ◌+◌, ◌-◌, ◌^◌, min, take, slice_get, ◌<◌, ◌≤◌, ◌==◌, nat_le, Bool, not, ◌||◌, ◌&&◌, Option, Some, None, Result, Ok, Err, List, [], length, position}
+use Rattle.std.specs.Option.{option_map_or}
+use Rattle.flow_model.specs.declared.commands.Command.{Command}
+use Rattle.flow_model.specs.declared.commands.Completion.{Completion}
+use Rattle.fdl_parser.specs.Faults.{NamesOne}
+use Rattle.fdl_parser.specs.Tokens.{spell, reading}
+use Rattle.fdl_parser.specs.declared.cursor.SyntaxFault.TheVariants.{At}
+use Rattle.command_lang.specs.Grammar.{IsCommand, IsCompletion}
 use Rattle.flow_table.specs.declared.keyword.TheConstants as keyword
 use Rattle.fdl_lexer.specs.declared.kinds.Token.{Token}
 use Rattle.fdl_lexer.specs.Tokens.{AreTokens, IsStuckAt}
@@ -37,6 +44,35 @@ abbrev pub IsReading : {X : Type 0} → List ℕ → Result (Option X) CommandFa
 IsReading line (Ok None) = AreLineTokens line []
 IsReading line (Ok (Some x)) = HasTokens line
 IsReading line (Err e) = HasNoTokens line e ⊎ HasTokens line
+
+-- where the last token ends
+abbrev pub last_end : List Token → ℕ
+last_end tokens = option_map_or (λ t. t.to) (slice_get tokens (length tokens - 1)) 0
+
+-- the line up to the end of its last token
+abbrev pub spoken_in : List ℕ → List Token → List ℕ
+spoken_in line tokens = take (last_end tokens) line
+
+-- the tokens of the line say this command, if there is one
+abbrev pub SaysCommand : List ℕ → Option Command → Type 0
+SaysCommand line None = Unit {0}
+SaysCommand line (Some command) = (tokens : List Token) × AreLineTokens line tokens × IsCommand command (spell line tokens)
+
+-- the tokens of the line say this completion, if there is one
+abbrev pub SaysCompletion : List ℕ → Option Completion → Type 0
+SaysCompletion line None = Unit {0}
+SaysCompletion line (Some completion) = (tokens : List Token) × AreLineTokens line tokens × IsCompletion completion (spell line tokens)
+
+-- the fault names the place of one of the tokens, or the place behind the last one
+abbrev pub NamesToken : List ℕ → CommandFault → Type 0
+NamesToken line (Word place) =
+    (tokens : List Token) × AreLineTokens line tokens × (0 < length tokens)
+    × ((p : ℕ) × (place ≡ min (p + 1) (2 ^ 32 - 1)) × NamesOne (reading (spoken_in line tokens) tokens) (At p))
+NamesToken line NoMemory = Unit {0}
+
+-- why a line is refused: for its bytes, or for one of its tokens
+abbrev pub IsRefusal : List ℕ → CommandFault → Type 0
+IsRefusal line e = HasNoTokens line e ⊎ NamesToken line e
 
 -- a command begins with this word
 abbrev pub is_first_word : ℕ → Bool

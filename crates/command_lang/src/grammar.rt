@@ -1,5 +1,9 @@
 //! The grammar of commands over the tokens of a line.
-ghost use Rattle.std.specs.Prelude.{◌≡◌};
+ghost use Rattle.std.specs.Prelude.{◌≡◌, ◌<◌, [], length, IfOk, IfErr};
+ghost use Rattle.fdl_parser.specs.Faults.{Names};
+ghost use Rattle.flow_table.specs.declared.keyword.TheConstants as first;
+ghost use Rattle.fdl_parser.specs.Tokens.{StaysWithin};
+ghost use Rattle.command_lang.specs.Grammar.{IsNamed, IsValue, IsSetting, IsWith, IsReturnCode, IsOutcome, IsKey, IsWho, IsBehind, IsCommand, IsTarget, IsCompletion};
 ghost use Rattle.command_lang.specs.Reading.{is_first_word};
 
 use fdl_lexer::What;
@@ -10,29 +14,37 @@ use flow_model::{
 };
 use flow_table::keyword;
 
-fn name(cursor: &mut Cursor<'_>) -> Result<Name, SyntaxFault> {
-    Ok(cursor.name()?.name)
-}
-
-fn number(cursor: &mut Cursor<'_>) -> Result<u64, SyntaxFault> {
-    Ok(cursor.number()?.size)
-}
-
 /// Takes a word, and a name behind it.
-fn named(cursor: &mut Cursor<'_>, word: u8) -> Result<Name, SyntaxFault> {
+fn named(cursor: &mut Cursor<'_>, word: u8) -> Result<Name, SyntaxFault>
+    ensures within { StaysWithin cursor.old cursor.new }
+    ensures read { IfOk result (λ x. IsNamed word x cursor.old.left cursor.new.left) }
+    ensures names { IfErr result (Names cursor.new) }
+{
     cursor.word(word)?;
-    name(cursor)
+    let named = cursor.name()?;
+    Ok(named.name)
 }
 
-fn value(cursor: &mut Cursor<'_>) -> Result<RawValue, SyntaxFault> {
+fn value(cursor: &mut Cursor<'_>) -> Result<RawValue, SyntaxFault>
+    ensures shorter { IfOk result (λ _. length cursor.new.left < length cursor.old.left) }
+    ensures within { StaysWithin cursor.old cursor.new }
+    ensures read { IfOk result (λ x. IsValue x cursor.old.left cursor.new.left) }
+    ensures names { IfErr result (Names cursor.new) }
+{
     if cursor.is_next(What::Text) {
         let (text, place) = cursor.text()?;
         return Ok(RawValue::Text(text, place));
     }
-    Ok(RawValue::Number(cursor.signed()?))
+    let number = cursor.signed()?;
+    Ok(RawValue::Number(number))
 }
 
-fn setting(cursor: &mut Cursor<'_>) -> Result<RawSetting, SyntaxFault> {
+fn setting(cursor: &mut Cursor<'_>) -> Result<RawSetting, SyntaxFault>
+    ensures shorter { IfOk result (λ _. length cursor.new.left < length cursor.old.left) }
+    ensures within { StaysWithin cursor.old cursor.new }
+    ensures read { IfOk result (λ x. IsSetting x cursor.old.left cursor.new.left) }
+    ensures names { IfErr result (Names cursor.new) }
+{
     let leaf = cursor.leaf()?;
     cursor.mark(mark::EQUAL)?;
     let value = value(cursor)?;
@@ -40,140 +52,255 @@ fn setting(cursor: &mut Cursor<'_>) -> Result<RawSetting, SyntaxFault> {
 }
 
 /// Takes WITH and the settings behind it, if it stands there.
-fn settings(cursor: &mut Cursor<'_>) -> Result<List<RawSetting>, SyntaxFault> {
+fn settings(cursor: &mut Cursor<'_>) -> Result<List<RawSetting>, SyntaxFault>
+    ensures within { StaysWithin cursor.old cursor.new }
+    ensures read { IfOk result (λ x. IsWith x cursor.old.left cursor.new.left) }
+    ensures names { IfErr result (Names cursor.new) }
+{
     let mut settings = List::new(cursor.alloc());
     if !cursor.is_word(keyword::WITH) {
         return Ok(settings);
     }
     cursor.word(keyword::WITH)?;
-    settings.push(setting(cursor)?)?;
-    for _ in 0..u64::MAX {
-        if !cursor.is_mark(mark::COMMA) {
-            break;
-        }
+    let first = setting(cursor)?;
+    settings.push(first)?;
+    while cursor.is_mark(mark::COMMA) {
         cursor.mark(mark::COMMA)?;
-        settings.push(setting(cursor)?)?;
+        let next = setting(cursor)?;
+        settings.push(next)?;
     }
     Ok(settings)
 }
 
 /// Takes RC and the number behind it, if it stands there.
-fn return_code(cursor: &mut Cursor<'_>) -> Result<Option<NumberAt>, SyntaxFault> {
+fn return_code(cursor: &mut Cursor<'_>) -> Result<Option<NumberAt>, SyntaxFault>
+    ensures within { StaysWithin cursor.old cursor.new }
+    ensures read { IfOk result (λ x. IsReturnCode x cursor.old.left cursor.new.left) }
+    ensures names { IfErr result (Names cursor.new) }
+{
     if !cursor.is_word(keyword::RC) {
         return Ok(None);
     }
     cursor.word(keyword::RC)?;
-    Ok(Some(cursor.signed()?))
+    let code = cursor.signed()?;
+    Ok(Some(code))
 }
 
-fn outcome(cursor: &mut Cursor<'_>) -> Result<Outcome, SyntaxFault> {
+fn outcome(cursor: &mut Cursor<'_>) -> Result<Outcome, SyntaxFault>
+    ensures within { StaysWithin cursor.old cursor.new }
+    ensures read { IfOk result (λ x. IsOutcome x cursor.old.left cursor.new.left) }
+    ensures names { IfErr result (Names cursor.new) }
+{
     let rc = return_code(cursor)?;
     let settings = settings(cursor)?;
     Ok(Outcome { rc, settings })
 }
 
 /// Takes KEY and the name behind it, if it stands there.
-fn key(cursor: &mut Cursor<'_>) -> Result<Option<Name>, SyntaxFault> {
-    if cursor.is_word(keyword::KEY) {
-        return Ok(Some(named(cursor, keyword::KEY)?));
+fn key(cursor: &mut Cursor<'_>) -> Result<Option<Name>, SyntaxFault>
+    ensures within { StaysWithin cursor.old cursor.new }
+    ensures read { IfOk result (λ x. IsKey x cursor.old.left cursor.new.left) }
+    ensures names { IfErr result (Names cursor.new) }
+{
+    if !cursor.is_word(keyword::KEY) {
+        return Ok(None);
     }
-    Ok(None)
+    let key = named(cursor, keyword::KEY)?;
+    Ok(Some(key))
 }
 
-fn start(cursor: &mut Cursor<'_>) -> Result<Command, SyntaxFault> {
-    let process = name(cursor)?;
+/// Takes who completes an item.
+fn who(cursor: &mut Cursor<'_>) -> Result<Who, SyntaxFault>
+    ensures within { StaysWithin cursor.old cursor.new }
+    ensures read { IfOk result (λ x. IsWho x cursor.old.left cursor.new.left) }
+    ensures names { IfErr result (Names cursor.new) }
+{
+    if cursor.is_word(keyword::BY) {
+        let person = named(cursor, keyword::BY)?;
+        return Ok(Who::Person(person));
+    }
+    cursor.word(keyword::TAKE)?;
+    let number = cursor.number()?;
+    Ok(Who::Agent(number.size))
+}
+
+/// Takes what stands behind START.
+fn start(cursor: &mut Cursor<'_>) -> Result<Command, SyntaxFault>
+    ensures within { StaysWithin cursor.old cursor.new }
+    ensures read { IfOk result (λ x. IsBehind first.START x cursor.old.left cursor.new.left) }
+    ensures names { IfErr result (Names cursor.new) }
+{
+    let process = cursor.name()?;
     let starter = named(cursor, keyword::BY)?;
     let key = key(cursor)?;
     let settings = settings(cursor)?;
-    Ok(Command::Start(process, starter, key, settings))
+    Ok(Command::Start(process.name, starter, key, settings))
 }
 
-fn transfer(cursor: &mut Cursor<'_>) -> Result<Command, SyntaxFault> {
+/// Takes what stands behind CLAIM.
+fn claim(cursor: &mut Cursor<'_>) -> Result<Command, SyntaxFault>
+    ensures within { StaysWithin cursor.old cursor.new }
+    ensures read { IfOk result (λ x. IsBehind first.CLAIM x cursor.old.left cursor.new.left) }
+    ensures names { IfErr result (Names cursor.new) }
+{
+    let item = cursor.item()?;
+    let person = named(cursor, keyword::BY)?;
+    Ok(Command::Claim(item, person))
+}
+
+/// Takes what stands behind RELEASE.
+fn release(cursor: &mut Cursor<'_>) -> Result<Command, SyntaxFault>
+    ensures within { StaysWithin cursor.old cursor.new }
+    ensures read { IfOk result (λ x. IsBehind first.RELEASE x cursor.old.left cursor.new.left) }
+    ensures names { IfErr result (Names cursor.new) }
+{
+    let item = cursor.item()?;
+    let person = named(cursor, keyword::BY)?;
+    Ok(Command::Release(item, person))
+}
+
+/// Takes what stands behind TRANSFER.
+fn transfer(cursor: &mut Cursor<'_>) -> Result<Command, SyntaxFault>
+    ensures within { StaysWithin cursor.old cursor.new }
+    ensures read { IfOk result (λ x. IsBehind first.TRANSFER x cursor.old.left cursor.new.left) }
+    ensures names { IfErr result (Names cursor.new) }
+{
     let item = cursor.item()?;
     let from = named(cursor, keyword::BY)?;
     let to = named(cursor, keyword::TO)?;
     Ok(Command::Transfer(item, from, to))
 }
 
-/// Takes who completes an item.
-fn who(cursor: &mut Cursor<'_>) -> Result<Who, SyntaxFault> {
-    if cursor.is_word(keyword::BY) {
-        return Ok(Who::Person(named(cursor, keyword::BY)?));
-    }
-    cursor.word(keyword::TAKE)?;
-    Ok(Who::Agent(number(cursor)?))
-}
-
-fn done(cursor: &mut Cursor<'_>) -> Result<Command, SyntaxFault> {
+/// Takes what stands behind DONE.
+fn done(cursor: &mut Cursor<'_>) -> Result<Command, SyntaxFault>
+    ensures within { StaysWithin cursor.old cursor.new }
+    ensures read { IfOk result (λ x. IsBehind first.DONE x cursor.old.left cursor.new.left) }
+    ensures names { IfErr result (Names cursor.new) }
+{
     let item = cursor.item()?;
     let who = who(cursor)?;
     let outcome = outcome(cursor)?;
     Ok(Command::Done(item, who, outcome))
 }
 
-/// Takes an item, and a name behind BY.
-fn item_by(cursor: &mut Cursor<'_>) -> Result<(Bytes, Name), SyntaxFault> {
+/// Takes what stands behind FORCE.
+fn force(cursor: &mut Cursor<'_>) -> Result<Command, SyntaxFault>
+    ensures within { StaysWithin cursor.old cursor.new }
+    ensures read { IfOk result (λ x. IsBehind first.FORCE x cursor.old.left cursor.new.left) }
+    ensures names { IfErr result (Names cursor.new) }
+{
     let item = cursor.item()?;
-    let person = named(cursor, keyword::BY)?;
-    Ok((item, person))
+    let outcome = outcome(cursor)?;
+    Ok(Command::Force(item, outcome))
 }
 
-/// Takes what follows the first word of a command on items.
-fn item_command(cursor: &mut Cursor<'_>, word: u8) -> Result<Command, SyntaxFault> {
+/// Takes what stands behind the first word of a command that only asks.
+fn query_behind(cursor: &mut Cursor<'_>, word: u8) -> Result<Command, SyntaxFault>
+    ensures within { StaysWithin cursor.old cursor.new }
+    ensures read { IfOk result (λ x. IsBehind word x cursor.old.left cursor.new.left) }
+    ensures names { IfErr result (Names cursor.new) }
+{
     match word {
-        keyword::CLAIM => {
-            let (item, person) = item_by(cursor)?;
-            Ok(Command::Claim(item, person))
+        keyword::SHOW => {
+            let number = cursor.number()?;
+            Ok(Command::Ask(Query::Show(number.size)))
         }
-        keyword::RELEASE => {
-            let (item, person) = item_by(cursor)?;
-            Ok(Command::Release(item, person))
+        keyword::OUTPUT => {
+            let number = cursor.number()?;
+            Ok(Command::Ask(Query::Output(number.size)))
         }
-        keyword::TRANSFER => transfer(cursor),
-        keyword::TAKE => Ok(Command::Take(cursor.item()?)),
-        keyword::DONE => done(cursor),
-        keyword::FORCE => {
+        keyword::INPUT => {
             let item = cursor.item()?;
-            Ok(Command::Force(item, outcome(cursor)?))
+            Ok(Command::Ask(Query::Input(item)))
         }
-        _ => Ok(Command::Restart(cursor.item()?)),
+        keyword::WORKLIST => {
+            let person = cursor.name()?;
+            Ok(Command::Ask(Query::Worklist(person.name)))
+        }
+        keyword::QUEUE => {
+            let number = cursor.number()?;
+            Ok(Command::Ask(Query::Queue(number.size)))
+        }
+        keyword::AUDIT => {
+            let number = cursor.number()?;
+            Ok(Command::Ask(Query::Audit(number.size)))
+        }
+        keyword::TEMPLATES => Ok(Command::Ask(Query::Templates)),
+        _ => Err(cursor.fault()),
     }
 }
 
-/// Takes what follows the first word of a command on a root or a queue.
-fn number_command(cursor: &mut Cursor<'_>, word: u8) -> Result<Command, SyntaxFault> {
-    if word == keyword::CLOCK {
-        return Ok(Command::Clock(cursor.number()?));
+/// Takes what stands behind the first word of a command on a root, a queue or the clock, or of one that only asks.
+fn number_behind(cursor: &mut Cursor<'_>, word: u8) -> Result<Command, SyntaxFault>
+    ensures within { StaysWithin cursor.old cursor.new }
+    ensures read { IfOk result (λ x. IsBehind word x cursor.old.left cursor.new.left) }
+    ensures names { IfErr result (Names cursor.new) }
+{
+    match word {
+        keyword::TURN => {
+            let number = cursor.number()?;
+            Ok(Command::Turn(number.size))
+        }
+        keyword::SUSPEND => {
+            let number = cursor.number()?;
+            Ok(Command::Suspend(number.size))
+        }
+        keyword::RESUME => {
+            let number = cursor.number()?;
+            Ok(Command::Resume(number.size))
+        }
+        keyword::TERMINATE => {
+            let number = cursor.number()?;
+            Ok(Command::Terminate(number.size))
+        }
+        keyword::DELETE => {
+            let number = cursor.number()?;
+            Ok(Command::Delete(number.size))
+        }
+        keyword::CLOCK => {
+            let number = cursor.number()?;
+            Ok(Command::Clock(number))
+        }
+        _ => query_behind(cursor, word),
     }
-    let number = number(cursor)?;
-    Ok(match word {
-        keyword::TURN => Command::Turn(number),
-        keyword::SUSPEND => Command::Suspend(number),
-        keyword::RESUME => Command::Resume(number),
-        keyword::TERMINATE => Command::Terminate(number),
-        keyword::DELETE => Command::Delete(number),
-        keyword::SHOW => Command::Ask(Query::Show(number)),
-        keyword::OUTPUT => Command::Ask(Query::Output(number)),
-        keyword::QUEUE => Command::Ask(Query::Queue(number)),
-        _ => Command::Ask(Query::Audit(number)),
-    })
 }
 
-/// Takes what follows the first word of a command.
-fn rest_of(cursor: &mut Cursor<'_>, word: u8) -> Result<Command, SyntaxFault> {
+/// Takes what stands behind the first word of a command on items, or of one of those that follow.
+fn item_behind(cursor: &mut Cursor<'_>, word: u8) -> Result<Command, SyntaxFault>
+    ensures within { StaysWithin cursor.old cursor.new }
+    ensures read { IfOk result (λ x. IsBehind word x cursor.old.left cursor.new.left) }
+    ensures names { IfErr result (Names cursor.new) }
+{
+    match word {
+        keyword::CLAIM => claim(cursor),
+        keyword::RELEASE => release(cursor),
+        keyword::TRANSFER => transfer(cursor),
+        keyword::TAKE => {
+            let item = cursor.item()?;
+            Ok(Command::Take(item))
+        }
+        keyword::DONE => done(cursor),
+        keyword::FORCE => force(cursor),
+        keyword::RESTART => {
+            let item = cursor.item()?;
+            Ok(Command::Restart(item))
+        }
+        _ => number_behind(cursor, word),
+    }
+}
+
+/// Takes what stands behind the first word of a command.
+fn behind(cursor: &mut Cursor<'_>, word: u8) -> Result<Command, SyntaxFault>
+    ensures within { StaysWithin cursor.old cursor.new }
+    ensures read { IfOk result (λ x. IsBehind word x cursor.old.left cursor.new.left) }
+    ensures names { IfErr result (Names cursor.new) }
+{
     match word {
         keyword::IMPORT => Ok(Command::Import(Bytes::from_vec(Vec::new(cursor.alloc())))),
+        keyword::START => start(cursor),
         keyword::DRAIN => Ok(Command::Drain),
         keyword::CHECKPOINT => Ok(Command::Checkpoint),
-        keyword::TEMPLATES => Ok(Command::Ask(Query::Templates)),
-        keyword::START => start(cursor),
-        keyword::WORKLIST => Ok(Command::Ask(Query::Worklist(name(cursor)?))),
-        keyword::INPUT => Ok(Command::Ask(Query::Input(cursor.item()?))),
-        keyword::CLAIM | keyword::RELEASE | keyword::TRANSFER | keyword::TAKE => {
-            item_command(cursor, word)
-        }
-        keyword::DONE | keyword::FORCE | keyword::RESTART => item_command(cursor, word),
-        _ => number_command(cursor, word),
+        _ => item_behind(cursor, word),
     }
 }
 
@@ -188,7 +315,10 @@ fn begins(word: u8) -> bool
 }
 
 /// Takes the end of the line.
-fn end(cursor: &Cursor<'_>) -> Result<(), SyntaxFault> {
+fn end(cursor: &Cursor<'_>) -> Result<(), SyntaxFault>
+    ensures read { IfOk result (λ _. cursor.now.left ≡ []) }
+    ensures names { IfErr result (Names cursor.now) }
+{
     if cursor.is_at_end() {
         Ok(())
     } else {
@@ -197,27 +327,41 @@ fn end(cursor: &Cursor<'_>) -> Result<(), SyntaxFault> {
 }
 
 /// Takes a whole command.
-pub fn command(cursor: &mut Cursor<'_>) -> Result<Command, SyntaxFault> {
+pub fn command(cursor: &mut Cursor<'_>) -> Result<Command, SyntaxFault>
+    ensures within { StaysWithin cursor.old cursor.new }
+    ensures read { IfOk result (λ x. IsCommand x cursor.old.left) }
+    ensures names { IfErr result (Names cursor.new) }
+{
     let word = match cursor.peek() {
         Some(What::Word(word)) if begins(word) => word,
         _ => return Err(cursor.fault()),
     };
     cursor.word(word)?;
-    let command = rest_of(cursor, word)?;
+    let command = behind(cursor, word)?;
     end(cursor)?;
     Ok(command)
 }
 
 /// Takes what a completion line completes.
-fn target(cursor: &mut Cursor<'_>) -> Result<Target, SyntaxFault> {
+fn target(cursor: &mut Cursor<'_>) -> Result<Target, SyntaxFault>
+    ensures within { StaysWithin cursor.old cursor.new }
+    ensures read { IfOk result (λ x. IsTarget x cursor.old.left cursor.new.left) }
+    ensures names { IfErr result (Names cursor.new) }
+{
     if cursor.is_next(What::Item) {
-        return Ok(Target::Item(cursor.item()?));
+        let item = cursor.item()?;
+        return Ok(Target::Item(item));
     }
-    Ok(Target::Activity(name(cursor)?))
+    let activity = cursor.name()?;
+    Ok(Target::Activity(activity.name))
 }
 
 /// Takes a whole completion.
-pub fn completion(cursor: &mut Cursor<'_>) -> Result<Completion, SyntaxFault> {
+pub fn completion(cursor: &mut Cursor<'_>) -> Result<Completion, SyntaxFault>
+    ensures within { StaysWithin cursor.old cursor.new }
+    ensures read { IfOk result (λ x. IsCompletion x cursor.old.left) }
+    ensures names { IfErr result (Names cursor.new) }
+{
     cursor.word(keyword::DONE)?;
     let target = target(cursor)?;
     let outcome = outcome(cursor)?;

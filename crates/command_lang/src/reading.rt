@@ -1,7 +1,7 @@
 //! From the bytes of a line to what it says. Places are counted from 1.
-ghost use Rattle.std.specs.Prelude.{◌≡◌, ◌≤◌, ◌<◌, ◌+◌, ◌-◌, ◌^◌, ℕ, [], Some, None, Err, length, min, IfOk, IfErr, IsSome};
+ghost use Rattle.std.specs.Prelude.{◌≡◌, ◌≤◌, ◌<◌, ◌+◌, ◌-◌, ◌^◌, ℕ, [], Some, None, Err, length, min, IfOk, IfErr, IfSome};
 ghost use Rattle.command_lang.specs.declared.reading.CommandFault.TheVariants.{Word};
-ghost use Rattle.command_lang.specs.Reading.{may_stand as may_stand_test, wrong_byte as wrong_byte_of, AreLineTokens, HasNoTokens, IsReading};
+ghost use Rattle.command_lang.specs.Reading.{may_stand as may_stand_test, wrong_byte as wrong_byte_of, spoken_in, AreLineTokens, HasNoTokens, IsReading, SaysCommand, SaysCompletion, IsRefusal};
 ghost use Rattle.command_lang.specs.declared.reading.CommandFault.TheVariants.{NoMemory};
 
 use crate::grammar::{command, completion};
@@ -82,13 +82,19 @@ fn tokens_of(alloc: Global, line: &[u8]) -> Result<Tokens, CommandFault>
 /// The line up to the end of its last token; None where it has none.
 fn spoken<'a>(line: &'a [u8], tokens: &Tokens) -> Option<&'a [u8]>
     ensures none { result ≡ None → tokens.now.items ≡ [] }
-    ensures some { IsSome result → 0 < length tokens.now.items }
+    ensures some { IfSome result (λ s. (0 < length tokens.now.items) × (s.now ≡ spoken_in line.now tokens.now.items)) }
 {
     let last = tokens.items.as_slice().last()?;
-    Some(line.get(..last.to as usize).unwrap_or(line))
+    match line.get(..last.to as usize) {
+        Some(spoken) => Some(spoken),
+        None => Some(line),
+    }
 }
 
-fn command_fault(fault: SyntaxFault) -> CommandFault {
+fn command_fault(fault: SyntaxFault) -> CommandFault
+    ensures place { (p : ℕ) → fault ≡ SyntaxFault.At p → result ≡ Word (min (p + 1) (2 ^ 32 - 1)) }
+    ensures memory { fault ≡ SyntaxFault.NoMemory → result ≡ CommandFault.NoMemory }
+{
     match fault {
         SyntaxFault::At(place) => from_one(place),
         SyntaxFault::NoMemory => CommandFault::NoMemory,
@@ -103,6 +109,8 @@ pub fn read_command(alloc: Global, line: &[u8]) -> Result<Option<Command>, Comma
     requires { length line.now ≤ 65536 }
     ensures read { IsReading line.now result }
     ensures byte { (p : ℕ) → wrong_byte_of line.now ≡ Some p → result ≡ Err (Word (p + 1)) }
+    ensures says { IfOk result (SaysCommand line.now) }
+    ensures refused { IfErr result (IsRefusal line.now) }
 {
     let tokens = tokens_of(alloc, line)?;
     let Some(spoken) = spoken(line, &tokens) else {
@@ -120,6 +128,8 @@ pub fn read_completion(alloc: Global, line: &[u8]) -> Result<Option<Completion>,
     requires { length line.now ≤ 65536 }
     ensures read { IsReading line.now result }
     ensures byte { (p : ℕ) → wrong_byte_of line.now ≡ Some p → result ≡ Err (Word (p + 1)) }
+    ensures says { IfOk result (SaysCompletion line.now) }
+    ensures refused { IfErr result (IsRefusal line.now) }
 {
     let tokens = tokens_of(alloc, line)?;
     let Some(spoken) = spoken(line, &tokens) else {

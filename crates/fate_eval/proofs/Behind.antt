@@ -1,13 +1,16 @@
 -- Completions seen from the scope of an attempt.
-use Rattle.std.proofs.Common.{◌≡◌, ℕ, suc, get_or, ◌+◌, ◌<◌, Bool, true, false, ◌&&◌, List, [], ◌∷◌, ◌++◌, length, take, Option, Some, None, cond, refl, ap, sym, ◌∙◌, arith}
-use Rattle.std.specs.Prelude.{◌==◌}
-use Rattle.std.specs.Option.{option_map_or, option_or}
-use Rattle.std.proofs.lemmas.List.{take_more}
-use Rattle.std.proofs.lemmas.Bool.Decides.{nat_tests}
+use Rattle.std.proofs.Common.{◌≡◌, ℕ, suc, get_or, ◌+◌, ◌<◌, Bool, true, false, ◌&&◌, List, [], ◌∷◌, ◌++◌, length, take, Option, Some, None, cond, refl, ap, sym, ◌∙◌, ◌≤◌, ◌⊎◌, inl, inr, zero, arith}
+use Rattle.std.specs.Prelude.{◌==◌, bytes_eq, nat_le, slice_get}
+use Rattle.std.proofs.lemmas.Slice.Eq.{bytes_eq-Decides}
+use Rattle.fate_laws.proofs.Items.{parts_one, parts_itself}
+use Rattle.std.specs.Option.{option_map, option_map_or, option_or}
+use Rattle.std.proofs.lemmas.List.{take_more, length-take-le}
+use Rattle.std.proofs.lemmas.Bool.Decides.{nat_tests, leb_tells}
 use Rattle.flow_model.specs.Rows.{same_part, same_parts, output_of}
+use Rattle.flow_model.specs.declared.graphs.Container.{Container}
 use Rattle.flow_model.specs.declared.instances.Fact.{Fact}
 use Rattle.flow_model.specs.declared.instances.Part.{Part}
-use Rattle.fate_eval.specs.Entries.{output_in, parts_behind}
+use Rattle.fate_eval.specs.Entries.{Dated, dated, dated_in, dated_from, by_then, leads_to, parts_behind}
 use Rattle.fate_eval.specs.declared.accepted.Entry.{Entry}
 
 no_zero : (n : ℕ) → false ≡ (suc n == 0)
@@ -38,38 +41,181 @@ or_cond true x o p = refl
 or_cond false x o p = refl
 
 -- the first wins
-pub output_append : (es fs : List Entry) (p : List Part) → output_in (es ++ fs) p ≡ option_or (output_in es p) (output_in fs p)
+pub output_append : (es fs : List Entry) (p : List Part) → dated_in (es ++ fs) p ≡ option_or (dated_in es p) (dated_in fs p)
 output_append [] fs p = refl
 output_append (e ∷ es) fs p =
-    ap (cond (same_parts e.parts.now p) (Some e.output.now)) (output_append es fs p)
-    ∙ or_cond (same_parts e.parts.now p) e.output.now (output_in es p) (output_in fs p)
+    ap (cond (same_parts e.parts.now p) (Some (dated e))) (output_append es fs p)
+    ∙ or_cond (same_parts e.parts.now p) (dated e) (dated_in es p) (dated_in fs p)
 
-below_one : (e e' : Entry) (q : Part) (p : List Part) → Some e'.parts.now ≡ parts_behind q e.parts.now → e'.output.now ≡ e.output.now
-    → output_in (e' ∷ []) p ≡ output_in (e ∷ []) (q ∷ p)
-below_one e e' q p is out = rw (same_behind e.parts.now q p, ← is, out) refl
+below_one : (e e' : Entry) (q : Part) (p : List Part) → Some e'.parts.now ≡ parts_behind q e.parts.now → dated e' ≡ dated e
+    → dated_in (e' ∷ []) p ≡ dated_in (e ∷ []) (q ∷ p)
+below_one e e' q p is same = rw (same_behind e.parts.now q p, ← is, same) refl
 
 -- one more completion below
-pub one_below : (es : List Entry) (e e' : Entry) (q : Part) (p : List Part) → Some e'.parts.now ≡ parts_behind q e.parts.now → e'.output.now ≡ e.output.now
-    → output_in (es ++ e' ∷ []) p ≡ option_or (output_in es p) (output_in (e ∷ []) (q ∷ p))
-one_below es e e' q p is out = output_append es (e' ∷ []) p ∙ ap (option_or (output_in es p)) (below_one e e' q p is out)
+pub one_below : (es : List Entry) (e e' : Entry) (q : Part) (p : List Part) → Some e'.parts.now ≡ parts_behind q e.parts.now → dated e' ≡ dated e
+    → dated_in (es ++ e' ∷ []) p ≡ option_or (dated_in es p) (dated_in (e ∷ []) (q ∷ p))
+one_below es e e' q p is same = output_append es (e' ∷ []) p ∙ ap (option_or (dated_in es p)) (below_one e e' q p is same)
 
 -- the first so many, and one more
 pub output_more : (es : List Entry) (i : ℕ) (e : Entry) (p : List Part) → i < length es → e ≡ get_or es i e
-    → option_or (output_in (take i es) p) (output_in (e ∷ []) p) ≡ output_in (take (i + 1) es) p
+    → option_or (dated_in (take i es) p) (dated_in (e ∷ []) p) ≡ dated_in (take (i + 1) es) p
 output_more es i e p less is =
     sym (output_append (take i es) (e ∷ []) p)
-    ∙ ap (λ fs. output_in fs p) (rw (take_more es i e less) (ap (λ f. take i es ++ f ∷ []) is))
+    ∙ ap (λ fs. dated_in fs p) (rw (take_more es i e less) (ap (λ f. take i es ++ f ∷ []) is))
 
-facts_append : (es fs : List Fact) (p : List Part) → output_of (es ++ fs) p ≡ option_or (output_of es p) (output_of fs p)
-facts_append [] fs p = refl
-facts_append (e ∷ es) fs p =
-    ap (cond (same_parts e.item.parts p) (Some e.output)) (facts_append es fs p)
-    ∙ or_cond (same_parts e.item.parts p) e.output (output_of es p) (output_of fs p)
+-- a completion below an activity is of an item that leads there
+named_one : (e : Entry) (name : List ℕ) (p : List Part) → cond (leads_to name e.parts.now) (dated_in (e ∷ []) p) None ≡ cond (leads_to name p) (dated_in (e ∷ []) p) None
+named_one e name p = go (same_parts e.parts.now p) refl
+  where
+    go : (b : Bool) → same_parts e.parts.now p ≡ b → cond (leads_to name e.parts.now) (dated_in (e ∷ []) p) None ≡ cond (leads_to name p) (dated_in (e ∷ []) p) None
+    go true is = rw (parts_one e.parts.now p is) refl
+    go false is = rw is (nothing (leads_to name e.parts.now) ∙ sym (nothing (leads_to name p)))
+      where
+        nothing : (b : Bool) → cond {A = Option Dated} b None None ≡ None
+        nothing true = refl
+        nothing false = refl
+
+-- one more completion below an activity
+pub one_named : (es : List Entry) (e : Entry) (name : List ℕ) (p : List Part) → leads_to name e.parts.now ≡ true
+    → dated_in (es ++ e ∷ []) p ≡ option_or (dated_in es p) (cond (leads_to name p) (dated_in (e ∷ []) p) None)
+one_named es e name p leads = output_append es (e ∷ []) p ∙ ap (option_or (dated_in es p)) (rw leads at (named_one e name p))
+
+-- or elsewhere
+pub none_named : (es : List Entry) (e : Entry) (name : List ℕ) (p : List Part) → leads_to name e.parts.now ≡ false
+    → dated_in es p ≡ option_or (dated_in es p) (cond (leads_to name p) (dated_in (e ∷ []) p) None)
+none_named es e name p leads = rw (← (rw leads at (named_one e name p))) (sym (or_none (dated_in es p)))
+  where
+    or_none : (o : Option Dated) → option_or o None ≡ o
+    or_none None = refl
+    or_none (Some d) = refl
+
+-- the first so many, and one more
+pub named_more : (es : List Entry) (i : ℕ) (e : Entry) (name : List ℕ) (p : List Part) → i < length es → e ≡ get_or es i e
+    → option_or (cond (leads_to name p) (dated_in (take i es) p) None) (cond (leads_to name p) (dated_in (e ∷ []) p) None) ≡ cond (leads_to name p) (dated_in (take (i + 1) es) p) None
+named_more es i e name p less is = go (leads_to name p)
+  where
+    go : (b : Bool) → option_or (cond b (dated_in (take i es) p) None) (cond b (dated_in (e ∷ []) p) None) ≡ cond b (dated_in (take (i + 1) es) p) None
+    go true = output_more es i e p less is
+    go false = refl
+
+-- the items of an activity, and no others, are told as in its scope
+pub named_same : (es named : List Entry) (name : List ℕ) → ((p : List Part) → dated_in named p ≡ cond (leads_to name p) (dated_in es p) None)
+    → (q : Part) (p : List Part) → q.name ≡ name → dated_in named (q ∷ p) ≡ dated_in es (q ∷ p)
+named_same es named name all q p is =
+    let leads : bytes_eq q.name name ≡ true = (bytes_eq-Decides q.name name).1 is in
+    rw leads at (all (q ∷ p))
+
+pub named_kept : (es named : List Entry) (name : List ℕ) → ((p : List Part) → dated_in named p ≡ cond (leads_to name p) (dated_in es p) None)
+    → (p : List Part) (d : Dated) → dated_in named p ≡ Some d → dated_in es p ≡ Some d
+named_kept es named name all p d is = go (leads_to name p) (sym (all p) ∙ is)
+  where
+    go : (b : Bool) → cond b (dated_in es p) None ≡ Some d → dated_in es p ≡ Some d
+    go true h = h
+    go false h = let n : ⊥ = cc in absurd n
+
+facts_append : (n : ℕ) (es fs : List Fact) (p : List Part) → dated_from n (es ++ fs) p ≡ option_or (dated_from n es p) (dated_from (n + length es) fs p)
+facts_append n [] fs p = let e : n + zero ≡ n = omega arith in rw e refl
+facts_append n (f ∷ es) fs p =
+    let e : n + suc (length es) ≡ n + 1 + length es = omega arith in
+    rw e
+    (ap (cond (same_parts f.item.parts p) (Some (record { after = n + 1; output = f.output }))) (facts_append (n + 1) es fs p)
+    ∙ or_cond (same_parts f.item.parts p) (record { after = n + 1; output = f.output }) (dated_from (n + 1) es p) (dated_from (n + 1 + length es) fs p))
 
 -- an entry of the next completion
 pub fact_more : (es : List Entry) (fs : List Fact) (i : ℕ) (e : Entry) (f : Fact) (p : List Part) → i < length fs → f ≡ get_or fs i f
-    → e.parts.now ≡ f.item.parts → e.output.now ≡ f.output → output_in es p ≡ output_of (take i fs) p
-    → output_in (es ++ e ∷ []) p ≡ output_of (take (i + 1) fs) p
-fact_more es fs i e f p less is parts out before =
+    → e.parts.now ≡ f.item.parts → e.output.now ≡ f.output → e.after ≡ i + 1 → dated_in es p ≡ dated_from 0 (take i fs) p
+    → dated_in (es ++ e ∷ []) p ≡ dated_from 0 (take (i + 1) fs) p
+fact_more es fs i e f p less is parts out after before =
     let more : take i fs ++ f ∷ [] ≡ take (i + 1) fs = rw (take_more fs i f less) (ap (λ g. take i fs ++ g ∷ []) is) in
-    output_append es (e ∷ []) p ∙ rw (before, parts, out, ← more) (sym (facts_append (take i fs) (f ∷ []) p))
+    let taken : length (take i fs) ≡ i = length-take-le i fs (omega arith) in
+    let long : 0 + length (take i fs) ≡ i = omega arith in
+    output_append es (e ∷ []) p ∙ rw (before, parts, out, after, ← more) (sym (rw long at (facts_append 0 (take i fs) (f ∷ []) p)))
+
+-- ---- the completions of a root, of which the first so many came
+
+pub outputs_from : (fs : List Fact) (p : List Part) (m : ℕ) → option_map (λ d. d.output) (dated_from m fs p) ≡ output_of fs p
+outputs_from [] p m = refl
+outputs_from (f ∷ fs) p m = go (same_parts f.item.parts p) (outputs_from fs p (m + 1))
+  where
+    go : (b : Bool) → option_map (λ d. d.output) (dated_from (m + 1) fs p) ≡ output_of fs p
+        → option_map (λ d. d.output) (cond b (Some (record { after = m + 1; output = f.output })) (dated_from (m + 1) fs p)) ≡ cond b (Some f.output) (output_of fs p)
+    go true rest = refl
+    go false rest = rest
+
+abbrev date : ℕ → Container → Dated
+date n out = record { after = n; output = out }
+
+dated_later : (n m : ℕ) (out : Container) → n ≤ m → by_then n (Some (date (m + 1) out)) ≡ None
+dated_later n m out less = go (leb_tells (m + 1) n)
+  where
+    go : ((nat_le (m + 1) n ≡ true) × (m + 1 ≤ n)) ⊎ ((nat_le (m + 1) n ≡ false) × (n < m + 1)) → by_then n (Some (date (m + 1) out)) ≡ None
+    go (inl u) = absurd (omega (arith, u.1))
+    go (inr u) = rw u.0 refl
+
+dated_before : (n m : ℕ) (out : Container) → m + 1 ≤ n → by_then n (Some (date (m + 1) out)) ≡ Some out
+dated_before n m out less = go (leb_tells (m + 1) n)
+  where
+    go : ((nat_le (m + 1) n ≡ true) × (m + 1 ≤ n)) ⊎ ((nat_le (m + 1) n ≡ false) × (n < m + 1)) → by_then n (Some (date (m + 1) out)) ≡ Some out
+    go (inl u) = rw u.0 refl
+    go (inr u) = absurd (omega (arith, u.1))
+
+-- those that come later are not known before
+later_from : (fs : List Fact) (p : List Part) (m n : ℕ) → n ≤ m → by_then n (dated_from m fs p) ≡ None
+later_from [] p m n less = refl
+later_from (f ∷ fs) p m n less = go (same_parts f.item.parts p) (later_from fs p (m + 1) n (omega arith))
+  where
+    go : (b : Bool) → by_then n (dated_from (m + 1) fs p) ≡ None → by_then n (cond b (Some (date (m + 1) f.output)) (dated_from (m + 1) fs p)) ≡ None
+    go true rest = dated_later n m f.output less
+    go false rest = rest
+
+pub known_from : (fs : List Fact) (p : List Part) (m c : ℕ) → by_then (m + c) (dated_from m fs p) ≡ output_of (take c fs) p
+known_from [] p m zero = refl
+known_from [] p m (suc c) = refl
+known_from (f ∷ fs) p m zero = later_from (f ∷ fs) p m (m + 0) (omega arith)
+known_from (f ∷ fs) p m (suc c) =
+    let e : m + suc c ≡ m + 1 + c = omega arith in
+    go (same_parts f.item.parts p) (rw e (known_from fs p (m + 1) c))
+  where
+    go : (b : Bool) → by_then (m + suc c) (dated_from (m + 1) fs p) ≡ output_of (take c fs) p
+        → by_then (m + suc c) (cond b (Some (date (m + 1) f.output)) (dated_from (m + 1) fs p)) ≡ cond b (Some f.output) (output_of (take c fs) p)
+    go false rest = rest
+    go true rest = dated_before (m + suc c) m f.output (omega arith)
+
+-- a completion that is the first of an item by its number is of this item
+pub fact_at : (fs : List Fact) (p : List Part) (m : ℕ) (i : ℕ) (out : Container) → dated_from m fs p ≡ Some (date (i + 1) out)
+    → (j : ℕ) × (i ≡ m + j) × (f : Fact) × (slice_get fs j ≡ Some f) × (same_parts f.item.parts p ≡ true)
+fact_at [] p m i out is = absurd (no_some is)
+  where
+    no_some : None ≡ Some (date (i + 1) out) → ⊥
+    no_some h = cc
+fact_at (f ∷ fs) p m i out is = go (same_parts f.item.parts p) refl (fact_at fs p (m + 1) i out)
+  where
+    go : (b : Bool) → same_parts f.item.parts p ≡ b
+        → (dated_from (m + 1) fs p ≡ Some (date (i + 1) out) → (j : ℕ) × (i ≡ m + 1 + j) × (g : Fact) × (slice_get fs j ≡ Some g) × (same_parts g.item.parts p ≡ true))
+        → (j : ℕ) × (i ≡ m + j) × (g : Fact) × (slice_get (f ∷ fs) j ≡ Some g) × (same_parts g.item.parts p ≡ true)
+    go true same rest =
+        let here : Some (date (m + 1) f.output) ≡ Some (date (i + 1) out) = rw same at is in
+        let number : m + 1 ≡ i + 1 = ap (λ o. option_map_or (λ (d : Dated). d.after) o 0) here in
+        (0, omega arith, f, refl, same)
+    go false other rest = let r = rest (rw other at is) in (suc r.0, omega (arith, r.1), r.2, r.3, r.4)
+
+-- the first completion of its item is known by its number
+pub first_dated : (fs : List Fact) (n : ℕ) (f : Fact) (m : ℕ) → slice_get fs n ≡ Some f → output_of (take n fs) f.item.parts ≡ None
+    → dated_from m fs f.item.parts ≡ Some (record { after = m + n + 1; output = f.output })
+first_dated [] n f m is none = absurd (no_some is)
+  where
+    no_some : None ≡ Some f → ⊥
+    no_some h = cc
+first_dated (e ∷ fs) zero f m is none =
+    let same : e ≡ f = cc in
+    let number : m + 0 + 1 ≡ m + 1 = omega arith in
+    rw (number, same) (rw (parts_itself f.item.parts) refl)
+first_dated (e ∷ fs) (suc n) f m is none = go (same_parts e.item.parts f.item.parts) refl (first_dated fs n f (m + 1) is)
+  where
+    go : (b : Bool) → same_parts e.item.parts f.item.parts ≡ b
+        → (output_of (take n fs) f.item.parts ≡ None → dated_from (m + 1) fs f.item.parts ≡ Some (record { after = m + 1 + n + 1; output = f.output }))
+        → dated_from m (e ∷ fs) f.item.parts ≡ Some (record { after = m + suc n + 1; output = f.output })
+    go true same rest = let wrong : Some e.output ≡ None = rw same at none in let x : ⊥ = cc in absurd x
+    go false other rest =
+        let number : m + suc n + 1 ≡ m + 1 + n + 1 = omega arith in
+        rw (number, other) (rest (rw other at none))

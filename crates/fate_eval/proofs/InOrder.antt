@@ -25,20 +25,20 @@ use Rattle.flow_model.specs.declared.instances.Path.{Path}
 use Rattle.flow_model.specs.declared.instances.SourceEnd.{SourceEnd}
 use Rattle.flow_model.specs.declared.instances.SourceEnd.TheVariants.{Unsettled}
 use Rattle.blocks_subprocs.specs.Ends.{ends_of}
-use Rattle.fate_eval.specs.Entries.{known_in}
+use Rattle.fate_eval.specs.Entries.{known_by}
 use Rattle.fate_laws.specs.Layout.{IsLaid}
 use Rattle.fate_eval.specs.Passing.{IsFound, fate_by_ends, end_by_ends, starts_by_ends, rows_by_ends, rows_inside}
-use Rattle.fate_eval.specs.declared.accepted.Entry.{Entry}
+use Rattle.flow_model.specs.declared.instances.Part.{Part}
 
 -- what stands at a place after another was written
-at_other : {X : Type 0} (xs : List X) (i j : ℕ) (x : X) → (j ≡ i → ⊥) → slice_get (set xs i x) j ≡ slice_get xs j
+pub at_other : {X : Type 0} (xs : List X) (i j : ℕ) (x : X) → (j ≡ i → ⊥) → slice_get (set xs i x) j ≡ slice_get xs j
 at_other [] i j x other = refl
 at_other (y ∷ xs) zero zero x other = absurd (other refl)
 at_other (y ∷ xs) zero (suc j) x other = refl
 at_other (y ∷ xs) (suc i) zero x other = refl
 at_other (y ∷ xs) (suc i) (suc j) x other = at_other xs i j x (λ e. other (ap suc e))
 
-at_same : {X : Type 0} (xs : List X) (i : ℕ) (x : X) → i < length xs → slice_get (set xs i x) i ≡ Some x
+pub at_same : {X : Type 0} (xs : List X) (i : ℕ) (x : X) → i < length xs → slice_get (set xs i x) i ≡ Some x
 at_same [] i x less = absurd (omega arith)
 at_same (y ∷ xs) zero x less = refl
 at_same (y ∷ xs) (suc i) x less = at_same xs i x (omega arith)
@@ -54,14 +54,14 @@ flat_from items F before (v ∷ rest) n long same =
     = λ a low high. rw append_assoc (same a (omega arith) (omega arith)) in
     rw (first, flat_from items F (before ++ v ∷ []) rest (n + 1) (omega (arith, length-append before (v ∷ []))) later) refl
 
-module _ (ts : List Template) (depth most : ℕ) (es : List Entry) (g : Graph) (input : Container) (s : Path) where
-  abbrev k : Known
-  k = known_in most es
+module _ (ts : List Template) (depth most : ℕ) (given : List Part → Option Container) (g : Graph) (input : Container) (s : Path) where
+  abbrev pub k : Known
+  k = known_by most given
 
-  abbrev e* : Ends
+  abbrev pub e* : Ends
   e* = tree_ends ts depth k g input
 
-  abbrev rows_at : ℕ → List FateRow
+  abbrev pub rows_at : ℕ → List FateRow
   rows_at a = rows_of ts depth (rows_inside ts depth) k g input s a (slice_get (out-Graph g).activities a)
 
   -- a pass that has come so far in the order
@@ -95,7 +95,7 @@ module _ (ts : List Template) (depth most : ℕ) (es : List Entry) (g : Graph) (
       (ap (λ c. if is_open (fate_by_ends ts depth k g input e* a (Some activity)) && is_fed (out-Graph g).lines a e*
       then starts (suc most) (gives ts k (output ts depth) activity.name activity.work) (trial g a activity c) 1 c else []) (base_same e a activity lines))
 
-  rows_same : (e : Ends) (a : ℕ) (o : Option Activity) → slice_get (out-Graph g).activities a ≡ o → SameControls (out-Graph g).controls a e e* → SameLines (out-Graph g).lines a e e*
+  pub rows_same : (e : Ends) (a : ℕ) (o : Option Activity) → slice_get (out-Graph g).activities a ≡ o → SameControls (out-Graph g).controls a e e* → SameLines (out-Graph g).lines a e e*
       → rows_by_ends ts depth k g input s e a o ≡ rows_of ts depth (rows_inside ts depth) k g input s a o
   rows_same e a None is controls lines = refl
   rows_same e a (Some activity) is controls lines =
@@ -114,7 +114,7 @@ module _ (ts : List Template) (depth most : ℕ) (es : List Entry) (g : Graph) (
     | inr other ↦ ap (λ o. option_map_or items o []) (at_other found a b v other.1) ∙ before other.1
   ]
 
-  rows_are : rows ts depth k g input s ≡ flat_map rows_at (up_to (length (out-Graph g).activities) 0)
+  pub rows_are : rows ts depth k g input s ≡ flat_map rows_at (up_to (length (out-Graph g).activities) 0)
   rows_are = go depth
     where
       go : (d : ℕ) → rows ts d k g input s ≡ flat_map (λ a. rows_of ts d (rows_inside ts d) k g input s a (slice_get (out-Graph g).activities a)) (up_to (length (out-Graph g).activities) 0)

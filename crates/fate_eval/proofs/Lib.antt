@@ -3,4 +3,15 @@ pub mod Rows
 pub mod Complete
 pub mod Turns
 pub mod Seen
+pub mod Sources
+pub mod InTurn
+pub mod InTime
 pub mod InOrder
+pub mod InPass
+pub mod Below
+pub mod Marks
+pub mod WholeTurn
+pub mod RowScopes
+pub mod WholeTime
+pub mod WholePass
+pub mod WholeBelow

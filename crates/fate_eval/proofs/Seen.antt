@@ -1,14 +1,14 @@
 -- What is known from the scope of an attempt, and by the completions of one activity.
-use Rattle.std.proofs.Common.{◌≡◌, ℕ, zero, suc, true, List, [], ◌∷◌, length, Option, Some, None, refl, ap, sym, ◌∙◌, subst, arith}
+use Rattle.std.proofs.Common.{◌≡◌, ℕ, zero, suc, ◌+◌, true, List, [], ◌∷◌, length, take, Option, Some, None, refl, ap, sym, ◌∙◌, subst, arith}
 use Rattle.std.proofs.Math.Path.{fun_ext}
 use Rattle.std.specs.Prelude.{slice_get, Result, Ok, Err, IfOk}
 use Rattle.std.specs.List.{last_or, flat_map}
 use Rattle.std.specs.Option.{option_map}
 use Rattle.flow_model.specs.Containers.{with_return_code}
 use Rattle.flow_model.specs.Fates.{Ends, tried, ended}
-use Rattle.flow_model.specs.Rows.{by_facts, output_of, rows_below, below}
+use Rattle.flow_model.specs.Rows.{by_facts, rows_below, below}
 use Rattle.flow_model.specs.ScopeContainers.{graph_in, graph_of, base_of}
-use Rattle.flow_model.specs.Scopes.{Known, Runs, Start, at, part, gives, scope_gives, trial, tries, starts, is_fed, output}
+use Rattle.flow_model.specs.Scopes.{Known, Runs, Start, at, part, gives, scope_gives, trial, tries, tries_on, starts, is_fed, output}
 use Rattle.flow_model.specs.declared.graphs.Activity.{Activity}
 use Rattle.flow_model.specs.declared.graphs.Container.{Container}
 use Rattle.flow_model.specs.declared.graphs.Graph.{Graph, out-Graph}
@@ -21,8 +21,12 @@ use Rattle.flow_model.specs.declared.instances.Part.{Part}
 use Rattle.flow_model.specs.declared.instances.Path.{Path}
 use Rattle.flow_model.specs.declared.instances.SourceEnd.{SourceEnd}
 use Rattle.flow_model.specs.declared.names.Name.{Name}
-use Rattle.fate_eval.specs.Entries.{output_in, known_in}
+use Rattle.fate_eval.specs.Entries.{dated_in, dated_from, output_in, by_then, known_by, known_in, known_after}
+use Rattle.fate_eval.proofs.Behind.{known_from, outputs_from}
 use Rattle.fate_laws.specs.Layout.{IsLaid, OfInside, Laid, LaidBelow}
+use Rattle.fate_laws.specs.Walks.{IsWired}
+use Rattle.fate_laws.specs.WellFormed.{Well}
+use Rattle.fate_eval.specs.Readiness.{WellBelow}
 use Rattle.fate_eval.specs.Passing.{AreAttempts, IsOpen, rows_inside}
 use Rattle.fate_eval.specs.declared.accepted.Entry.{Entry}
 
@@ -31,61 +35,78 @@ pub if_ok : {T E : Type 0} {P Q : T → Type 0} (r : Result T E) → IfOk r P �
 if_ok (Ok x) holds weaker = weaker x holds
 if_ok (Err e) holds weaker = tt
 
--- every scope has begun, and these outputs are given
-abbrev known_by : ℕ → (List Part → Option Container) → Known
-known_by most given = record { most = most; begun = λ p. true; closed = λ p. true; sent = λ p a b v. v; given = given }
-
 -- the completions below an attempt tell what is known from its scope
-pub seen_below : (most : ℕ) (es inner : List Entry) (q : Part) → ((p : List Part) → output_in inner p ≡ output_in es (q ∷ p))
+pub seen_by : (most : ℕ) (given inner : List Part → Option Container) (q : Part) → ((p : List Part) → inner p ≡ given (q ∷ p))
+    → at q (known_by most given) ≡ known_by most inner
+seen_by most given inner q same = sym (ap (known_by most) (fun_ext same))
+
+pub seen_below : (most : ℕ) (es inner : List Entry) (q : Part) → ((p : List Part) → dated_in inner p ≡ dated_in es (q ∷ p))
     → at q (known_in most es) ≡ known_in most inner
-seen_below most es inner q same = sym (ap (known_by most) (fun_ext same))
+seen_below most es inner q same = seen_by most (output_in es) (output_in inner) q (λ p. ap (option_map (λ d. d.output)) (same p))
+
+pub after_below : (most : ℕ) (es inner : List Entry) (q : Part) (n : ℕ) → ((p : List Part) → dated_in inner p ≡ dated_in es (q ∷ p))
+    → at q (known_after most es n) ≡ known_after most inner n
+after_below most es inner q n same = seen_by most (λ p. by_then n (dated_in es p)) (λ p. by_then n (dated_in inner p)) q (λ p. ap (by_then n) (same p))
 
 -- the completions of a root, as its scope sees them
-pub seen_facts : (most : ℕ) (es : List Entry) (fs : List Fact) → ((p : List Part) → output_in es p ≡ output_of fs p) → known_in most es ≡ by_facts most fs
-seen_facts most es fs same = ap (known_by most) (fun_ext same)
+pub seen_facts : (most : ℕ) (es : List Entry) (fs : List Fact) → ((p : List Part) → dated_in es p ≡ dated_from 0 fs p) → known_in most es ≡ by_facts most fs
+seen_facts most es fs same = ap (known_by most) (fun_ext (λ p. ap (option_map (λ d. d.output)) (same p) ∙ outputs_from fs p 0))
 
-module _ (ts : List Template) (most : ℕ) (es named : List Entry) (name : Name)
-    (same : (j : ℕ) (p : List Part) → output_in named (part name j ∷ p) ≡ output_in es (part name j ∷ p)) where
-  at_same : (j : ℕ) → at (part name j) (known_in most named) ≡ at (part name j) (known_in most es)
+pub after_facts : (most : ℕ) (es : List Entry) (fs : List Fact) (n : ℕ) → ((p : List Part) → dated_in es p ≡ dated_from 0 fs p)
+    → known_after most es n ≡ by_facts most (take n fs)
+after_facts most es fs n same =
+    let zero_add : 0 + n ≡ n = omega arith in
+    ap (known_by most) (fun_ext (λ p. ap (by_then n) (same p) ∙ rw zero_add at (known_from fs p 0 n)))
+
+module _ (ts : List Template) (most : ℕ) (given named : List Part → Option Container) (name : Name)
+    (same : (j : ℕ) (p : List Part) → named (part name j ∷ p) ≡ given (part name j ∷ p)) where
+  at_same : (j : ℕ) → at (part name j) (known_by most named) ≡ at (part name j) (known_by most given)
   at_same j = ap (known_by most) (fun_ext (same j))
 
   scope_same : (runs : Runs) (o : Option Graph) (j : ℕ) (input : Container)
-      → scope_gives (known_in most named) runs o (part name j) input ≡ scope_gives (known_in most es) runs o (part name j) input
+      → scope_gives (known_by most named) runs o (part name j) input ≡ scope_gives (known_by most given) runs o (part name j) input
   scope_same runs None j input = refl
   scope_same runs (Some g) j input = ap (λ k. option_map with_return_code (runs k g input)) (at_same j)
 
-  gives_at : (runs : Runs) (work : Work) (j : ℕ) (input : Container) → gives ts (known_in most named) runs name work j input ≡ gives ts (known_in most es) runs name work j input
+  gives_at : (runs : Runs) (work : Work) (j : ℕ) (input : Container) → gives ts (known_by most named) runs name work j input ≡ gives ts (known_by most given) runs name work j input
   gives_at runs (Program p) j input = same j []
   gives_at runs (Block' b g) j input = scope_same runs (Some g) j input
   gives_at runs (Process t) j input = scope_same runs (graph_of ts t) j input
 
-  pub gives_same : (runs : Runs) (work : Work) → gives ts (known_in most named) runs name work ≡ gives ts (known_in most es) runs name work
+  pub gives_same : (runs : Runs) (work : Work) → gives ts (known_by most named) runs name work ≡ gives ts (known_by most given) runs name work
   gives_same runs work = fun_ext (λ j. fun_ext (λ input. gives_at runs work j input))
 
   flat_same : (rows : Known → Graph → Container → Path → List FateRow) (h : Graph) (xs : List Start) (s : Path)
-      → flat_map (λ x. rows (at (part name x.attempt) (known_in most named)) h x.input (below s (part name x.attempt))) xs
-      ≡ flat_map (λ x. rows (at (part name x.attempt) (known_in most es)) h x.input (below s (part name x.attempt))) xs
+      → flat_map (λ x. rows (at (part name x.attempt) (known_by most named)) h x.input (below s (part name x.attempt))) xs
+      ≡ flat_map (λ x. rows (at (part name x.attempt) (known_by most given)) h x.input (below s (part name x.attempt))) xs
   flat_same rows h [] s = refl
   flat_same rows h (x ∷ xs) s = rw (at_same x.attempt, flat_same rows h xs s) refl
 
--- what the attempts come to by the completions of the activity, they come to by those of the scope
-pub named_attempts : (ts : List Template) (depth most : ℕ) (es named : List Entry) (g : Graph) (s : Path) (a : ℕ) (activity : Activity) (base : Container) (f : Fate) (e : SourceEnd) (rows : List FateRow)
-    → ((j : ℕ) (p : List Part) → output_in named (part activity.name j ∷ p) ≡ output_in es (part activity.name j ∷ p))
-    → AreAttempts ts depth (known_in most named) g s a activity base f e rows → AreAttempts ts depth (known_in most es) g s a activity base f e rows
-named_attempts ts depth most es named g s a activity base f e rows same attempts =
-    let give = gives_same ts most es named activity.name same (output ts depth) activity.work in
-    let outs = ap (λ x. tries most x (trial g a activity base) 1 base) give in
-    record {
-      fate = attempts.fate ∙ ap (λ os. tried activity (length os) (last_or None os)) outs;
-      end = attempts.end ∙ ap (ended f) outs;
-      shown = attempts.shown
-          ∙ ap (λ x. rows_below (rows_inside ts depth) (known_in most named) activity (graph_in ts activity.work) (starts (suc most) x (trial g a activity base) 1 base) s) give
-          ∙ below_same (graph_in ts activity.work) (starts (suc most) (gives ts (known_in most es) (output ts depth) activity.name activity.work) (trial g a activity base) 1 base);
-    }
-  where
-    below_same : (o : Option Graph) (xs : List Start) → rows_below (rows_inside ts depth) (known_in most named) activity o xs s ≡ rows_below (rows_inside ts depth) (known_in most es) activity o xs s
-    below_same None xs = refl
-    below_same (Some h) xs = flat_same ts most es named activity.name same (rows_inside ts depth) h xs s
+module _ (ts : List Template) (depth most : ℕ) (given named : List Part → Option Container) (g : Graph) (s : Path) (a : ℕ) (activity : Activity) (base : Container)
+    (same : (j : ℕ) (p : List Part) → named (part activity.name j ∷ p) ≡ given (part activity.name j ∷ p)) where
+  below_same : (o : Option Graph) (xs : List Start) → rows_below (rows_inside ts depth) (known_by most named) activity o xs s ≡ rows_below (rows_inside ts depth) (known_by most given) activity o xs s
+  below_same None xs = refl
+  below_same (Some h) xs = flat_same ts most given named activity.name same (rows_inside ts depth) h xs s
+
+  pub outs_same : tries_on ts (known_by most named) (output ts depth) g a activity base ≡ tries_on ts (known_by most given) (output ts depth) g a activity base
+  outs_same = ap (λ x. tries most x (trial g a activity base) 1 base) (gives_same ts most given named activity.name same (output ts depth) activity.work)
+
+  pub rows_same : rows_below (rows_inside ts depth) (known_by most named) activity (graph_in ts activity.work) (starts (suc most) (gives ts (known_by most named) (output ts depth) activity.name activity.work) (trial g a activity base) 1 base) s
+      ≡ rows_below (rows_inside ts depth) (known_by most given) activity (graph_in ts activity.work) (starts (suc most) (gives ts (known_by most given) (output ts depth) activity.name activity.work) (trial g a activity base) 1 base) s
+  rows_same =
+      ap (λ x. rows_below (rows_inside ts depth) (known_by most named) activity (graph_in ts activity.work) (starts (suc most) x (trial g a activity base) 1 base) s)
+      (gives_same ts most given named activity.name same (output ts depth) activity.work)
+      ∙ below_same (graph_in ts activity.work) (starts (suc most) (gives ts (known_by most given) (output ts depth) activity.name activity.work) (trial g a activity base) 1 base)
+
+  -- what the attempts come to by the completions of the activity, they come to by those of the scope
+  pub named_attempts : (f : Fate) (e : SourceEnd) (rows : List FateRow)
+      → AreAttempts ts depth (known_by most named) g s a activity base f e rows → AreAttempts ts depth (known_by most given) g s a activity base f e rows
+  named_attempts f e rows attempts =
+      record {
+        fate = attempts.fate ∙ ap (λ os. tried activity (length os) (last_or None os)) outs_same;
+        end = attempts.end ∙ ap (ended f) outs_same;
+        shown = attempts.shown ∙ rows_same;
+      }
 
 -- an activity that is fed has these attempts
 pub fed_opens : (ts : List Template) (depth : ℕ) (k : Known) (g : Graph) (input : Container) (s : Path) (e : Ends) (a : ℕ) (activity : Activity) (f : Fate) (end : SourceEnd) (rows : List FateRow)
@@ -109,3 +130,23 @@ one_inside ts depth (Some activity) laid = λ h is d e. (let P : ℕ → Type 0 
 pub laid_inside : (ts : List Template) (depth : ℕ) (g : Graph) → Laid ts depth g → (a : ℕ) → OfInside ts (LaidBelow ts depth) (slice_get (out-Graph g).activities a)
 laid_inside ts zero g laid a = none_inside ts (slice_get (out-Graph g).activities a)
 laid_inside ts (suc depth) g laid a = one_inside ts depth (slice_get (out-Graph g).activities a) (laid.inside a)
+
+-- ---- graphs that are well
+
+pub well_wired : (ts : List Template) (depth : ℕ) (g : Graph) → Well ts depth g → IsWired g
+well_wired ts zero g well = well.wired
+well_wired ts (suc depth) g well = well.wired
+
+none_well : (ts : List Template) (o : Option Activity) → OfInside ts (WellBelow ts zero) o
+none_well ts None = tt
+none_well ts (Some activity) = λ h is d e. absurd (omega (arith, e))
+
+one_well : (ts : List Template) (depth : ℕ) (g : Graph) (a : ℕ) (o : Option Activity) → slice_get (out-Graph g).activities a ≡ o
+    → ((b : ℕ) (activity : Activity) → slice_get (out-Graph g).activities b ≡ Some activity → (h : Graph) → graph_in ts activity.work ≡ Some h → Well ts depth h) → OfInside ts (WellBelow ts (suc depth)) o
+one_well ts depth g a None is inside = tt
+one_well ts depth g a (Some activity) is inside = λ h of d e.
+    (let P : ℕ → Type 0 = λ n. Well ts n h in let same : depth ≡ d = omega (arith, e) in subst P same (inside a activity is h of))
+
+pub well_inside : (ts : List Template) (depth : ℕ) (g : Graph) → Well ts depth g → (a : ℕ) → OfInside ts (WellBelow ts depth) (slice_get (out-Graph g).activities a)
+well_inside ts zero g well a = none_well ts (slice_get (out-Graph g).activities a)
+well_inside ts (suc depth) g well a = one_well ts depth g a (slice_get (out-Graph g).activities a) refl well.inside

@@ -21,12 +21,12 @@ use Rattle.flow_model.specs.declared.instances.SourceEnd.TheVariants as end
 use Rattle.fate_eval.specs.Passing.{IsAttempt, IsLast, AreAttempts, rows_inside, turn_of}
 use Rattle.fate_eval.specs.declared.passes.Turn.TheVariants.{Stops, GoesOn}
 
-abbrev fate_then : Trial → Work → ℕ → Option Container → (Container → Fate) → Fate
+abbrev pub fate_then : Trial → Work → ℕ → Option Container → (Container → Fate) → Fate
 fate_then t work j None next = goes_on work j
 fate_then t work j (Some out) next = if holds t.exit out then Finished j else next out
 
 -- the fate from attempt j on, of which at most n count
-abbrev fate_from : ℕ → Gives → Trial → Work → ℕ → Container → Fate
+abbrev pub fate_from : ℕ → Gives → Trial → Work → ℕ → Container → Fate
 fate_from zero give t work j input = goes_on work j
 fate_from (suc n) give t work j input = fate_then t work j (give j input) (λ out. fate_from n give t work (j + 1) (t.loops out))
 
@@ -56,7 +56,7 @@ module _ (activity : Activity) (give : Gives) (t : Trial) (same : t.exit ≡ act
   tried_step j m prev later next is before rest (Some out) =
       rw same (tried_stop j m prev out (later out) (next out) is (rest out) (holds activity.exit out) refl)
 
-  tried_from : (n j m : ℕ) (input : Container) (prev : Option Container) → m + 1 ≡ j → tried activity m prev ≡ goes_on activity.work j
+  pub tried_from : (n j m : ℕ) (input : Container) (prev : Option Container) → m + 1 ≡ j → tried activity m prev ≡ goes_on activity.work j
       → tried activity (m + length (tries n give t j input)) (last_or prev (tries n give t j input)) ≡ fate_from n give t activity.work j input
   tried_from zero j m input prev is before = let e : m + zero ≡ m = omega arith in rw e before
   tried_from (suc n) j m input prev is before =

@@ -1,32 +1,32 @@
 //! The accepted completions, seen from a scope.
-ghost use Rattle.std.specs.Prelude.{◌≡◌, ℕ, ◌∷◌, [], List, IfOk, OnOk};
+ghost use Rattle.std.specs.Prelude.{◌≡◌, ◌∷◌, [], List, None, if◌then◌else◌, IfOk, OnOk};
 ghost use Rattle.std.specs.Option.{option_copied, option_map, option_or};
-ghost use Rattle.flow_model.specs.Rows.{same_parts, output_of};
+ghost use Rattle.flow_model.specs.Rows.{same_parts};
 ghost use Rattle.flow_model.specs.Scopes.{part};
 ghost use Rattle.flow_model.specs.declared.instances.Part.{Part as PartOf};
-ghost use Rattle.fate_eval.specs.Entries.{output_in, parts_behind, leads_to};
+ghost use Rattle.fate_eval.specs.Entries.{dated, dated_in, dated_from, parts_behind, leads_to};
 
 use flow_model::{Container, Fact, Part};
 use std::alloc::{AllocError, Global};
 
-/// A completion with what its item's path has below a scope, and its number from 0.
+/// A completion with what its item's path has below a scope, and the number of completions up to it.
 #[derive(Clone, Copy)]
 pub struct Entry<'a> {
     pub parts: &'a [Part],
     pub output: &'a Container,
-    pub number: u64,
+    pub after: u64,
 }
 
 /// The completions of a root.
 pub fn entries_of<'a>(alloc: Global, facts: &'a [Fact]) -> Result<Vec<Entry<'a>>, AllocError>
-    ensures { IfOk result (λ v. (p : List PartOf) → output_in v.items p ≡ output_of facts.now p) }
+    ensures { IfOk result (λ v. (p : List PartOf) → dated_in v.items p ≡ dated_from 0 facts.now p) }
 {
     let mut entries = Vec::new(alloc);
     for (i, fact) in facts.iter().enumerate() {
         entries.push(Entry {
             parts: fact.item.parts.as_slice(),
             output: &fact.output,
-            number: i as u64,
+            after: i as u64 + 1,
         })?;
     }
     Ok(entries)
@@ -61,7 +61,7 @@ fn is_attempt(parts: &[Part], name: &[u8], attempt: u64) -> bool
 
 /// The first completion of an attempt of a program activity.
 pub fn completion<'a>(entries: &[Entry<'a>], name: &[u8], attempt: u64) -> Option<Entry<'a>>
-    ensures { option_map (λ e. e.output.now) result ≡ output_in entries.now (part name.now attempt ∷ []) }
+    ensures { option_map dated result ≡ dated_in entries.now (part name.now attempt ∷ []) }
 {
     for entry in entries {
         if is_attempt(entry.parts, name, attempt) {
@@ -78,7 +78,7 @@ fn add_below<'a>(
     name: &[u8],
     attempt: u64,
 ) -> Result<(), AllocError>
-    ensures { OnOk result ((p : List PartOf) → output_in inner.new.items p ≡ option_or (output_in inner.old.items p) (output_in (entry.now ∷ []) (part name.now attempt ∷ p))) }
+    ensures { OnOk result ((p : List PartOf) → dated_in inner.new.items p ≡ option_or (dated_in inner.old.items p) (dated_in (entry.now ∷ []) (part name.now attempt ∷ p))) }
 {
     match behind(entry.parts, name, attempt) {
         None => Ok(()),
@@ -86,7 +86,7 @@ fn add_below<'a>(
             inner.push(Entry {
                 parts,
                 output: entry.output,
-                number: entry.number,
+                after: entry.after,
             })?;
             Ok(())
         }
@@ -100,7 +100,7 @@ pub fn entries_below<'a>(
     name: &[u8],
     attempt: u64,
 ) -> Result<Vec<Entry<'a>>, AllocError>
-    ensures { IfOk result (λ v. (p : List PartOf) → output_in v.items p ≡ output_in entries.now (part name.now attempt ∷ p)) }
+    ensures { IfOk result (λ v. (p : List PartOf) → dated_in v.items p ≡ dated_in entries.now (part name.now attempt ∷ p)) }
 {
     let mut inner = Vec::new(alloc);
     for entry in entries {
@@ -125,11 +125,12 @@ fn add_named<'a>(
     entry: &Entry<'a>,
     name: &[u8],
 ) -> Result<(), AllocError>
-    ensures { OnOk result ((j : ℕ) (p : List PartOf) → output_in named.new.items (part name.now j ∷ p) ≡ option_or (output_in named.old.items (part name.now j ∷ p)) (output_in (entry.now ∷ []) (part name.now j ∷ p))) }
+    ensures { OnOk result ((p : List PartOf) → dated_in named.new.items p ≡ option_or (dated_in named.old.items p) (if leads_to name.now p then dated_in (entry.now ∷ []) p else None)) }
 {
-    if is_below(entry.parts, name) {
-        named.push(*entry)?;
+    if !is_below(entry.parts, name) {
+        return Ok(());
     }
+    named.push(*entry)?;
     Ok(())
 }
 
@@ -139,7 +140,7 @@ pub fn entries_of_activity<'a>(
     entries: &[Entry<'a>],
     name: &[u8],
 ) -> Result<Vec<Entry<'a>>, AllocError>
-    ensures { IfOk result (λ v. (j : ℕ) (p : List PartOf) → output_in v.items (part name.now j ∷ p) ≡ output_in entries.now (part name.now j ∷ p)) }
+    ensures { IfOk result (λ v. (p : List PartOf) → dated_in v.items p ≡ (if leads_to name.now p then dated_in entries.now p else None)) }
 {
     let mut named = Vec::new(alloc);
     for entry in entries {

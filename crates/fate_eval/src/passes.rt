@@ -1,9 +1,9 @@
 //! The recursion over scopes.
-ghost use Rattle.std.specs.Prelude.{◌≡◌, ◌<◌, ◌+◌, ◌^◌, ◌∷◌, [], ◌++◌, ℕ, Option, List, Some, None, slice_get, slice_set, length, IfOk, IfErr, OnOk, replicate};
-ghost use Rattle.std.specs.List.{flat_map};
+ghost use Rattle.std.specs.Prelude.{◌≡◌, ◌<◌, ◌≤◌, ◌+◌, ◌^◌, ◌∷◌, [], ◌++◌, ℕ, Option, List, Some, None, true, slice_get, slice_set, length, false, unwrap_or, IfOk, IfErr, IfSome, OnOk, replicate};
+ghost use Rattle.std.specs.List.{flat_map, All, Contains};
 ghost use Rattle.std.specs.Option.{option_map};
 ghost use Rattle.flow_model.specs.Fates.{goes_on as next_try};
-ghost use Rattle.flow_model.specs.Rows.{below as path_below, rows as rows_in, deepest};
+ghost use Rattle.flow_model.specs.Rows.{below as path_below, rows as rows_in, deepest, AreReady};
 ghost use Rattle.flow_model.specs.ScopeContainers.{output_by};
 ghost use Rattle.flow_model.specs.declared.graphs.Graph.{out-Graph};
 ghost use Rattle.flow_model.specs.Containers.{with_return_code as with_code};
@@ -12,9 +12,11 @@ ghost use Rattle.flow_model.specs.declared.graphs.Template.{Template};
 ghost use Rattle.flow_model.specs.declared.instances.SourceEnd.TheVariants.{Unsettled};
 ghost use Rattle.blocks_subprocs.specs.Ends.{ends_of};
 ghost use Rattle.flow_model.specs.Wiring.{IsLooping, IsSinking};
-ghost use Rattle.fate_eval.specs.Entries.{output_in, known_in};
-ghost use Rattle.fate_eval.specs.Refusals.{IsWithin};
+ghost use Rattle.fate_eval.specs.Entries.{dated_in, output_in, known_in};
+ghost use Rattle.fate_eval.specs.Refusals.{IsWithin, IsBehindReady, IsUnready, IsFirstUnready};
+ghost use Rattle.fate_eval.specs.Readiness.{IsNested, WellBelow, IsWholeProgram, IsWholeAttempt, IsWholeScope, IsWholePass, IsWholeLast, AreWhole, IsWholeOpen, IsWholeFound, IsTimelyProgram, IsTimelyAttempt, IsTimelyScope, IsTimelyPass, IsTimelyLast, AreTimely, IsTimelyOpen, IsTimelyFound, AreOf, AreReadyIn, AreMarked};
 ghost use Rattle.fate_laws.specs.Layout.{IsLaid, OfInside, Laid, LaidBelow};
+ghost use Rattle.fate_laws.specs.WellFormed.{Well};
 ghost use Rattle.fate_eval.specs.Passing.{IsAttempt, IsScopeAttempt, IsLast, AreAttempts, IsOpen, IsFound, IsPassed, AreFates, turn_of};
 
 use crate::accepted::{Entry, completion, entries_below, entries_of, entries_of_activity};
@@ -31,37 +33,50 @@ use std::alloc::{AllocError, Global};
 /// No process nests deeper.
 const DEEPEST: u32 = 16;
 
-/// What an attempt gave, after how many completions, and the rows below it.
+/// What an attempt gave, after how many completions, the rows below it, and the completions that were ready in their turn.
 #[derive(Drop)]
 struct Attempt {
     output: Option<Container>,
     after: u64,
     rows: Vec<FateRow>,
+    ready: Vec<u64>,
 }
 
-/// What the attempts of an activity come to, after how many completions, and the rows below them.
+/// The rows below some attempts, and the completions below them that were ready in their turn.
+#[derive(Drop)]
+struct Shown {
+    rows: Vec<FateRow>,
+    ready: Vec<u64>,
+}
+
+/// What the attempts of an activity come to, after how many completions, and what an [`Attempt`] has of each.
 #[derive(Drop)]
 struct Attempts {
     fate: Fate,
     end: SourceEnd,
     after: u64,
     rows: Vec<FateRow>,
+    ready: Vec<u64>,
 }
 
-/// What a pass finds of one activity: how it has ended, after how many completions, its row and those below it.
+/// What a pass finds of one activity: how it has ended, after how many completions, its row and those below it,
+/// and the completions that were ready in their turn.
 #[derive(Drop)]
 struct Found {
     end: SourceEnd,
     after: u64,
     rows: Vec<FateRow>,
+    ready: Vec<u64>,
 }
 
-/// What a pass finds of one scope: its rows, and its output once it is complete.
+/// What a pass finds of one scope: its rows, its output once it is complete, after how many completions, and the
+/// completions that were ready in their turn.
 #[derive(Drop)]
 struct Passed {
     rows: Vec<FateRow>,
     output: Option<Container>,
     after: u64,
+    ready: Vec<u64>,
 }
 
 /// A scope: its graph, where it stands, what it reads, after how many completions it began, and its completions.
@@ -102,13 +117,16 @@ enum Turn {
     GoesOn(Container),
 }
 
-/// Marks a completion whose item could be completed after so many completions.
-fn accept(ready: &mut [bool], number: u64, since: u64) {
-    if since <= number {
-        if let Some(ready) = ready.get_mut(number as usize) {
-            *ready = true;
-        }
+/// The number of a completion, counted from 0, if its item could be completed after so many.
+fn ready_since(alloc: Global, after: u64, since: u64) -> Result<Vec<u64>, AllocError>
+    ensures sound { IfOk result (λ v. All (λ i. (since ≤ i) × (i + 1 ≡ after)) v.items) }
+    ensures whole { IfOk result (λ v. (i : ℕ) → since ≤ i → i + 1 ≡ after → Contains v.items i) }
+{
+    let mut ready = Vec::new(alloc);
+    if since < after {
+        ready.push(after - 1)?;
     }
+    Ok(ready)
 }
 
 /// Puts an element in the place of another one, if there is one.
@@ -148,6 +166,18 @@ fn goes_on(work: &Work, attempt: u64) -> Fate
     }
 }
 
+/// An attempt that gave nothing.
+fn nothing(alloc: Global, since: u64) -> Attempt
+    ensures { (result.output ≡ None) × (result.rows.items ≡ []) × (result.after ≡ since) × (result.ready.items ≡ []) }
+{
+    Attempt {
+        output: None,
+        after: since,
+        rows: Vec::new(alloc),
+        ready: Vec::new(alloc),
+    }
+}
+
 /// Attempt `attempt` of a program activity, which may be completed after `since` completions.
 fn program_attempt(
     alloc: Global,
@@ -155,36 +185,19 @@ fn program_attempt(
     activity: &Activity,
     attempt: u64,
     since: u64,
-    ready: &mut [bool],
 ) -> Result<Attempt, AllocError>
-    ensures { IfOk result (λ r. (r.output ≡ output_in entries.now (part activity.now.name attempt ∷ [])) × (r.rows.items ≡ [])) }
+    ensures exact { IfOk result (λ r. (r.output ≡ output_in entries.now (part activity.now.name attempt ∷ [])) × (r.rows.items ≡ [])) }
+    ensures timely { IfOk result (λ r. IsTimelyProgram (dated_in entries.now (part activity.now.name attempt ∷ [])) since r.output r.after r.ready.items) }
+    ensures whole { IfOk result (λ r. IsWholeProgram (dated_in entries.now (part activity.now.name attempt ∷ [])) since r.output r.after r.ready.items) }
 {
-    let rows = Vec::new(alloc);
     match completion(entries, activity.name.as_slice(), attempt) {
-        None => Ok(Attempt {
-            output: None,
-            after: since,
-            rows,
+        None => Ok(nothing(alloc, since)),
+        Some(entry) => Ok(Attempt {
+            output: Some(entry.output.copy(alloc)?),
+            after: since.max(entry.after),
+            rows: Vec::new(alloc),
+            ready: ready_since(alloc, entry.after, since)?,
         }),
-        Some(entry) => {
-            accept(ready, entry.number, since);
-            Ok(Attempt {
-                output: Some(entry.output.copy(alloc)?),
-                after: since.max(entry.number.saturating_add(1)),
-                rows,
-            })
-        }
-    }
-}
-
-/// An attempt that gave nothing.
-fn nothing(alloc: Global, since: u64) -> Attempt
-    ensures { (result.output ≡ None) × (result.rows.items ≡ []) }
-{
-    Attempt {
-        output: None,
-        after: since,
-        rows: Vec::new(alloc),
     }
 }
 
@@ -210,9 +223,10 @@ fn scope_attempt<'a>(
     attempt: u64,
     input: &Container,
     since: u64,
-    ready: &mut [bool],
 ) -> Result<Attempt, AllocError>
-    ensures { Laid root.now.library.now.templates depth graph.now → IfOk result (λ r. (r.output ≡ option_map with_code (output_of_scope root.now.library.now.templates (depth + 1) (at (part activity.now.name attempt) (known_in root.now.most entries.now)) graph.now input.now)) × (r.rows.items ≡ rows_in root.now.library.now.templates depth (at (part activity.now.name attempt) (known_in root.now.most entries.now)) graph.now input.now (path_below scope.now.path (part activity.now.name attempt)))) }
+    ensures exact { Laid root.now.library.now.templates depth graph.now → IfOk result (λ r. (r.output ≡ option_map with_code (output_of_scope root.now.library.now.templates (depth + 1) (at (part activity.now.name attempt) (known_in root.now.most entries.now)) graph.now input.now)) × (r.rows.items ≡ rows_in root.now.library.now.templates depth (at (part activity.now.name attempt) (known_in root.now.most entries.now)) graph.now input.now (path_below scope.now.path (part activity.now.name attempt)))) }
+    ensures timely { Laid root.now.library.now.templates depth graph.now → IfOk result (λ r. IsTimelyScope root.now.library.now.templates depth root.now.most entries.now scope.now.path (part activity.now.name attempt) graph.now input.now since r.output r.after r.ready.items) }
+    ensures whole { Laid root.now.library.now.templates depth graph.now → Well root.now.library.now.templates depth graph.now → IfOk result (λ r. IsWholeScope root.now.library.now.templates depth root.now.most entries.now scope.now.path (part activity.now.name attempt) graph.now input.now since r.output r.after r.ready.items) }
 {
     let below = Scope {
         graph,
@@ -225,11 +239,13 @@ fn scope_attempt<'a>(
         rows,
         output,
         after,
-    } = pass(root, depth, &below, ready)?;
+        ready,
+    } = pass(root, depth, &below)?;
     Ok(Attempt {
         output: with_code_of(root.alloc, output)?,
         after,
         rows,
+        ready,
     })
 }
 
@@ -244,9 +260,10 @@ fn nested_attempt<'a>(
     attempt: u64,
     input: &Container,
     since: u64,
-    ready: &mut [bool],
 ) -> Result<Attempt, AllocError>
-    ensures { OfInside root.now.library.now.templates (LaidBelow root.now.library.now.templates depth) (Some activity.now) → IfOk result (λ r. IsScopeAttempt root.now.library.now.templates depth (known_in root.now.most entries.now) scope.now.path activity.now attempt input.now r.output r.rows.items) }
+    ensures exact { OfInside root.now.library.now.templates (LaidBelow root.now.library.now.templates depth) (Some activity.now) → IfOk result (λ r. IsScopeAttempt root.now.library.now.templates depth (known_in root.now.most entries.now) scope.now.path activity.now attempt input.now r.output r.rows.items) }
+    ensures timely { OfInside root.now.library.now.templates (LaidBelow root.now.library.now.templates depth) (Some activity.now) → IfOk result (λ r. IsTimelyAttempt root.now.library.now.templates depth root.now.most entries.now scope.now.path activity.now attempt input.now since r.output r.after r.ready.items) }
+    ensures whole { IsNested activity.now.work → OfInside root.now.library.now.templates (LaidBelow root.now.library.now.templates depth) (Some activity.now) → OfInside root.now.library.now.templates (WellBelow root.now.library.now.templates depth) (Some activity.now) → IfOk result (λ r. IsWholeAttempt root.now.library.now.templates depth root.now.most entries.now scope.now.path activity.now attempt input.now since r.output r.after r.ready.items) }
 {
     match graph_of(root.library, &activity.work) {
         None => Ok(nothing(root.alloc, since)),
@@ -264,7 +281,6 @@ fn nested_attempt<'a>(
                 attempt,
                 input,
                 since,
-                ready,
             )
         }
     }
@@ -281,19 +297,18 @@ fn attempt_of<'a>(
     attempt: u64,
     input: &Container,
     since: u64,
-    ready: &mut [bool],
 ) -> Result<Attempt, AllocError>
-    ensures { OfInside root.now.library.now.templates (LaidBelow root.now.library.now.templates depth) (Some activity.now) → IfOk result (λ r. IsAttempt root.now.library.now.templates depth (known_in root.now.most entries.now) scope.now.path activity.now attempt input.now r.output r.rows.items) }
+    ensures exact { OfInside root.now.library.now.templates (LaidBelow root.now.library.now.templates depth) (Some activity.now) → IfOk result (λ r. IsAttempt root.now.library.now.templates depth (known_in root.now.most entries.now) scope.now.path activity.now attempt input.now r.output r.rows.items) }
+    ensures timely { OfInside root.now.library.now.templates (LaidBelow root.now.library.now.templates depth) (Some activity.now) → IfOk result (λ r. IsTimelyAttempt root.now.library.now.templates depth root.now.most entries.now scope.now.path activity.now attempt input.now since r.output r.after r.ready.items) }
+    ensures whole { OfInside root.now.library.now.templates (LaidBelow root.now.library.now.templates depth) (Some activity.now) → OfInside root.now.library.now.templates (WellBelow root.now.library.now.templates depth) (Some activity.now) → IfOk result (λ r. IsWholeAttempt root.now.library.now.templates depth root.now.most entries.now scope.now.path activity.now attempt input.now since r.output r.after r.ready.items) }
 {
     match &activity.work {
-        Work::Program(_) => {
-            program_attempt(root.alloc, entries, activity, attempt, since, ready)
-        }
+        Work::Program(_) => { program_attempt(root.alloc, entries, activity, attempt, since) }
         Work::Block(_) => nested_attempt(
-            root, depth, scope, entries, activity, attempt, input, since, ready,
+            root, depth, scope, entries, activity, attempt, input, since,
         ),
         Work::Process(_) => nested_attempt(
-            root, depth, scope, entries, activity, attempt, input, since, ready,
+            root, depth, scope, entries, activity, attempt, input, since,
         ),
     }
 }
@@ -333,27 +348,32 @@ fn last_attempt<'a>(
     activity: &'a Activity,
     input: &Container,
     since: u64,
-    ready: &mut [bool],
-    before: Vec<FateRow>,
+    before: Shown,
 ) -> Result<Attempts, AllocError>
-    ensures { OfInside root.now.library.now.templates (LaidBelow root.now.library.now.templates depth) (Some activity.now) → IfOk result (λ r. IsLast root.now.library.now.templates depth (known_in root.now.most entries.now) scope.now.path activity.now (root.now.most + 1) input.now before.items r.fate r.end r.rows.items) }
+    ensures exact { OfInside root.now.library.now.templates (LaidBelow root.now.library.now.templates depth) (Some activity.now) → IfOk result (λ r. IsLast root.now.library.now.templates depth (known_in root.now.most entries.now) scope.now.path activity.now (root.now.most + 1) input.now before.rows.items r.fate r.end r.rows.items) }
+    ensures timely { OfInside root.now.library.now.templates (LaidBelow root.now.library.now.templates depth) (Some activity.now) → IfOk result (λ r. IsTimelyLast root.now.library.now.templates depth root.now.most entries.now scope.now.path activity.now (root.now.most + 1) input.now since before.ready.items r.end r.ready.items) }
+    ensures whole { OfInside root.now.library.now.templates (LaidBelow root.now.library.now.templates depth) (Some activity.now) → OfInside root.now.library.now.templates (WellBelow root.now.library.now.templates depth) (Some activity.now) → IfOk result (λ r. IsWholeLast root.now.library.now.templates depth root.now.most entries.now scope.now.path activity.now (root.now.most + 1) input.now since before.ready.items r.ready.items) }
 {
     let number = root.most + 1;
-    let last = attempt_of(
-        root, depth, scope, entries, activity, number, input, since, ready,
-    )?;
+    let last = attempt_of(root, depth, scope, entries, activity, number, input, since)?;
     let Attempt {
         output: _,
         after: _,
         rows: mut below,
+        ready: mut found,
     } = last;
-    let mut rows = before;
+    let Shown {
+        mut rows,
+        mut ready,
+    } = before;
     rows.append(&mut below)?;
+    ready.append(&mut found)?;
     Ok(Attempts {
         fate: goes_on(&activity.work, number),
         end: SourceEnd::Unsettled,
         after: 0,
         rows,
+        ready,
     })
 }
 
@@ -368,24 +388,26 @@ fn attempts_from<'a>(
     activity: &'a Activity,
     base: &Container,
     since: u64,
-    ready: &mut [bool],
 ) -> Result<Attempts, AllocError>
-    ensures { IsLooping scope.now.graph.now → OfInside root.now.library.now.templates (LaidBelow root.now.library.now.templates depth) (Some activity.now) → IfOk result (λ r. AreAttempts root.now.library.now.templates depth (known_in root.now.most entries.now) scope.now.graph.now scope.now.path place activity.now base.now r.fate r.end r.rows.items) }
+    ensures exact { IsLooping scope.now.graph.now → OfInside root.now.library.now.templates (LaidBelow root.now.library.now.templates depth) (Some activity.now) → IfOk result (λ r. AreAttempts root.now.library.now.templates depth (known_in root.now.most entries.now) scope.now.graph.now scope.now.path place activity.now base.now r.fate r.end r.rows.items) }
+    ensures timely { IsLooping scope.now.graph.now → OfInside root.now.library.now.templates (LaidBelow root.now.library.now.templates depth) (Some activity.now) → IfOk result (λ r. AreTimely root.now.library.now.templates depth root.now.most entries.now scope.now.graph.now scope.now.path place activity.now base.now since r.end r.after r.ready.items) }
+    ensures whole { IsLooping scope.now.graph.now → OfInside root.now.library.now.templates (LaidBelow root.now.library.now.templates depth) (Some activity.now) → OfInside root.now.library.now.templates (WellBelow root.now.library.now.templates depth) (Some activity.now) → IfOk result (λ r. AreWhole root.now.library.now.templates depth root.now.most entries.now scope.now.graph.now scope.now.path place activity.now base.now since r.end r.after r.ready.items) }
 {
     let alloc = root.alloc;
     let mut input = base.copy(alloc)?;
     let mut after = since;
     let mut rows = Vec::new(alloc);
+    let mut ready = Vec::new(alloc);
     for number in 1..root.most + 1 {
-        let tried = attempt_of(
-            root, depth, scope, entries, activity, number, &input, after, ready,
-        )?;
+        let tried = attempt_of(root, depth, scope, entries, activity, number, &input, after)?;
         let Attempt {
             output,
             after: known,
             rows: mut below,
+            ready: mut found,
         } = tried;
         rows.append(&mut below)?;
+        ready.append(&mut found)?;
         after = known;
         match next_turn(alloc, scope.graph, place, activity, base, number, output)? {
             Turn::Stops(fate, end) => {
@@ -394,25 +416,26 @@ fn attempts_from<'a>(
                     end,
                     after,
                     rows,
+                    ready,
                 });
             }
             Turn::GoesOn(next) => input = next,
         }
     }
-    last_attempt(
-        root, depth, scope, entries, activity, &input, after, ready, rows,
-    )
+    let before = Shown { rows, ready };
+    last_attempt(root, depth, scope, entries, activity, &input, after, before)
 }
 
 /// An activity with this fate and end, and no attempts.
 fn untried(alloc: Global, fate: Fate, end: SourceEnd, after: u64) -> Attempts
-    ensures { (result.fate ≡ fate) × (result.end ≡ end) × (result.rows.items ≡ []) }
+    ensures { (result.fate ≡ fate) × (result.end ≡ end) × (result.rows.items ≡ []) × (result.after ≡ after) × (result.ready.items ≡ []) }
 {
     Attempts {
         fate,
         end,
         after,
         rows: Vec::new(alloc),
+        ready: Vec::new(alloc),
     }
 }
 
@@ -427,9 +450,10 @@ fn open_activity<'a>(
     place: u32,
     activity: &'a Activity,
     since: u64,
-    ready: &mut [bool],
 ) -> Result<Attempts, AllocError>
-    ensures { IsLaid scope.now.graph.now → OfInside root.now.library.now.templates (LaidBelow root.now.library.now.templates depth) (Some activity.now) → IfOk result (λ r. IsOpen root.now.library.now.templates depth (known_in root.now.most scope.now.entries.items) scope.now.graph.now scope.now.input scope.now.path (ends_of ends.now) place activity.now r.fate r.end r.rows.items) }
+    ensures exact { IsLaid scope.now.graph.now → OfInside root.now.library.now.templates (LaidBelow root.now.library.now.templates depth) (Some activity.now) → IfOk result (λ r. IsOpen root.now.library.now.templates depth (known_in root.now.most scope.now.entries.items) scope.now.graph.now scope.now.input scope.now.path (ends_of ends.now) place activity.now r.fate r.end r.rows.items) }
+    ensures timely { IsLaid scope.now.graph.now → OfInside root.now.library.now.templates (LaidBelow root.now.library.now.templates depth) (Some activity.now) → IfOk result (λ r. IsTimelyOpen root.now.library.now.templates depth root.now.most scope.now.entries.items scope.now.graph.now scope.now.input scope.now.path ends.now afters.now place activity.now since r.end r.after r.ready.items) }
+    ensures whole { IsLaid scope.now.graph.now → OfInside root.now.library.now.templates (LaidBelow root.now.library.now.templates depth) (Some activity.now) → OfInside root.now.library.now.templates (WellBelow root.now.library.now.templates depth) (Some activity.now) → IfOk result (λ r. IsWholeOpen root.now.library.now.templates depth root.now.most scope.now.entries.items scope.now.graph.now scope.now.input scope.now.path ends.now afters.now place activity.now since r.end r.after r.ready.items) }
 {
     let graph = scope.graph;
     if !is_fed(graph, ends, place) {
@@ -439,9 +463,7 @@ fn open_activity<'a>(
     let since = fed_after(graph, afters, place, since);
     let entries = entries_of_activity(root.alloc, &scope.entries, activity.name.as_slice())?;
     let base = first_input(root.alloc, graph, activity, place, &scope.input, ends)?;
-    attempts_from(
-        root, depth, scope, &entries, place, activity, &base, since, ready,
-    )
+    attempts_from(root, depth, scope, &entries, place, activity, &base, since)
 }
 
 /// What is found of an activity: its own row before those below it.
@@ -451,13 +473,14 @@ fn with_row(
     activity: &Activity,
     tried: Attempts,
 ) -> Result<Found, AllocError>
-    ensures { IfOk result (λ f. (f.end ≡ tried.end) × (f.rows.items ≡ record { scope = scope.now; name = activity.now.name; fate = tried.fate } ∷ tried.rows.items)) }
+    ensures { IfOk result (λ f. (f.end ≡ tried.end) × (f.rows.items ≡ record { scope = scope.now; name = activity.now.name; fate = tried.fate } ∷ tried.rows.items) × (f.after ≡ tried.after) × (f.ready.items ≡ tried.ready.items)) }
 {
     let Attempts {
         fate,
         end,
         after,
         rows: mut below,
+        ready,
     } = tried;
     let mut rows = Vec::new(alloc);
     rows.push(FateRow {
@@ -466,7 +489,12 @@ fn with_row(
         fate,
     })?;
     rows.append(&mut below)?;
-    Ok(Found { end, after, rows })
+    Ok(Found {
+        end,
+        after,
+        rows,
+        ready,
+    })
 }
 
 /// What follows of the activity at a place, where its sources are known.
@@ -479,9 +507,10 @@ fn activity<'a>(
     afters: &[u64],
     place: u32,
     activity: &'a Activity,
-    ready: &mut [bool],
 ) -> Result<Found, AllocError>
-    ensures { IsLaid scope.now.graph.now → OfInside root.now.library.now.templates (LaidBelow root.now.library.now.templates depth) (Some activity.now) → IfOk result (λ f. IsFound root.now.library.now.templates depth (known_in root.now.most scope.now.entries.items) scope.now.graph.now scope.now.input scope.now.path (ends_of ends.now) place (Some activity.now) f.end f.rows.items) }
+    ensures exact { IsLaid scope.now.graph.now → OfInside root.now.library.now.templates (LaidBelow root.now.library.now.templates depth) (Some activity.now) → IfOk result (λ f. IsFound root.now.library.now.templates depth (known_in root.now.most scope.now.entries.items) scope.now.graph.now scope.now.input scope.now.path (ends_of ends.now) place (Some activity.now) f.end f.rows.items) }
+    ensures timely { IsLaid scope.now.graph.now → OfInside root.now.library.now.templates (LaidBelow root.now.library.now.templates depth) (Some activity.now) → IfOk result (λ f. IsTimelyFound root.now.library.now.templates depth root.now.most scope.now.entries.items scope.now.graph.now scope.now.input scope.now.path scope.now.since ends.now afters.now place (Some activity.now) f.end f.after f.ready.items) }
+    ensures whole { IsLaid scope.now.graph.now → OfInside root.now.library.now.templates (LaidBelow root.now.library.now.templates depth) (Some activity.now) → OfInside root.now.library.now.templates (WellBelow root.now.library.now.templates depth) (Some activity.now) → IfOk result (λ f. IsWholeFound root.now.library.now.templates depth root.now.most scope.now.entries.items scope.now.graph.now scope.now.input scope.now.path scope.now.since ends.now afters.now place (Some activity.now) f.end f.after f.ready.items) }
 {
     let alloc = root.alloc;
     let values = values(alloc, scope.graph, ends, place)?;
@@ -496,9 +525,7 @@ fn activity<'a>(
             with_row(alloc, &scope.path, activity, dead)
         }
         Some(true) => {
-            let tried = open_activity(
-                root, depth, scope, ends, afters, place, activity, since, ready,
-            )?;
+            let tried = open_activity(root, depth, scope, ends, afters, place, activity, since)?;
             with_row(alloc, &scope.path, activity, tried)
         }
     }
@@ -513,17 +540,19 @@ fn found_at<'a>(
     ends: &[SourceEnd],
     afters: &[u64],
     place: u32,
-    ready: &mut [bool],
 ) -> Result<Found, AllocError>
-    ensures { Laid root.now.library.now.templates depth scope.now.graph.now → IfOk result (λ f. IsFound root.now.library.now.templates depth (known_in root.now.most scope.now.entries.items) scope.now.graph.now scope.now.input scope.now.path (ends_of ends.now) place (slice_get (out-Graph scope.now.graph.now).activities place) f.end f.rows.items) }
+    ensures exact { Laid root.now.library.now.templates depth scope.now.graph.now → IfOk result (λ f. IsFound root.now.library.now.templates depth (known_in root.now.most scope.now.entries.items) scope.now.graph.now scope.now.input scope.now.path (ends_of ends.now) place (slice_get (out-Graph scope.now.graph.now).activities place) f.end f.rows.items) }
+    ensures timely { Laid root.now.library.now.templates depth scope.now.graph.now → IfOk result (λ f. IsTimelyFound root.now.library.now.templates depth root.now.most scope.now.entries.items scope.now.graph.now scope.now.input scope.now.path scope.now.since ends.now afters.now place (slice_get (out-Graph scope.now.graph.now).activities place) f.end f.after f.ready.items) }
+    ensures whole { Laid root.now.library.now.templates depth scope.now.graph.now → Well root.now.library.now.templates depth scope.now.graph.now → IfOk result (λ f. IsWholeFound root.now.library.now.templates depth root.now.most scope.now.entries.items scope.now.graph.now scope.now.input scope.now.path scope.now.since ends.now afters.now place (slice_get (out-Graph scope.now.graph.now).activities place) f.end f.after f.ready.items) }
 {
     match scope.graph.activities.as_slice().get(place as usize) {
         None => Ok(Found {
             end: SourceEnd::Unsettled,
             after: 0,
             rows: Vec::new(root.alloc),
+            ready: Vec::new(root.alloc),
         }),
-        Some(found) => activity(root, depth, scope, ends, afters, place, found, ready),
+        Some(found) => activity(root, depth, scope, ends, afters, place, found),
     }
 }
 
@@ -578,25 +607,25 @@ fn complete_output(
 
 /// The pass over a scope in the order of its graph.
 #[cycle(scopes)]
-fn pass<'a>(
-    root: &Root<'a>,
-    depth: u32,
-    scope: &Scope<'a>,
-    ready: &mut [bool],
-) -> Result<Passed, AllocError>
-    ensures { Laid root.now.library.now.templates depth scope.now.graph.now → IfOk result (λ r. IsPassed root.now.library.now.templates depth (known_in root.now.most scope.now.entries.items) scope.now.graph.now scope.now.input scope.now.path r.output r.rows.items) }
+fn pass<'a>(root: &Root<'a>, depth: u32, scope: &Scope<'a>) -> Result<Passed, AllocError>
+    ensures exact { Laid root.now.library.now.templates depth scope.now.graph.now → IfOk result (λ r. IsPassed root.now.library.now.templates depth (known_in root.now.most scope.now.entries.items) scope.now.graph.now scope.now.input scope.now.path r.output r.rows.items) }
+    ensures timely { Laid root.now.library.now.templates depth scope.now.graph.now → IfOk result (λ r. IsTimelyPass root.now.library.now.templates depth root.now.most scope.now.entries.items scope.now.graph.now scope.now.input scope.now.path scope.now.since r.output r.after r.ready.items) }
+    ensures whole { Laid root.now.library.now.templates depth scope.now.graph.now → Well root.now.library.now.templates depth scope.now.graph.now → IfOk result (λ r. IsWholePass root.now.library.now.templates depth root.now.most scope.now.entries.items scope.now.graph.now scope.now.input scope.now.path scope.now.since r.output r.after r.ready.items) }
 {
     let alloc = root.alloc;
     let count = scope.graph.activities.len();
     let mut ends = unsettled(alloc, count)?;
     let mut afters = vec![in alloc; scope.since; count]?;
     let mut rows = unshown(alloc, count)?;
+    let mut ready = Vec::new(alloc);
     for place in scope.graph.wiring.order.as_slice() {
         let Found {
             end,
             after,
             rows: shown,
-        } = found_at(root, depth, scope, &ends, &afters, *place, ready)?;
+            ready: mut found,
+        } = found_at(root, depth, scope, &ends, &afters, *place)?;
+        ready.append(&mut found)?;
         put(&mut ends, *place, end);
         put(&mut afters, *place, after);
         put(&mut rows, *place, shown);
@@ -605,7 +634,44 @@ fn pass<'a>(
         rows: joined(alloc, rows)?,
         output: complete_output(alloc, scope.graph, &scope.input, &ends)?,
         after: complete_after(&afters, scope.since),
+        ready,
     })
+}
+
+/// Marks the completion of a number.
+fn mark(marks: &mut Vec<bool>, number: u64)
+    ensures { marks.new.items ≡ slice_set marks.old.items number true }
+{
+    if (number as usize) < marks.len() {
+        marks[number as usize] = true;
+    }
+}
+
+/// Which of so many completions were ready in their turn.
+fn marked(alloc: Global, ready: &[u64], count: usize) -> Result<Vec<bool>, AllocError>
+    ensures long { IfOk result (λ v. length v.items ≡ count) }
+    ensures ready { IfOk result (λ v. (i : ℕ) → slice_get v.items i ≡ Some true → Contains ready.now i) }
+    ensures whole { IfOk result (λ v. (i : ℕ) → i < count → Contains ready.now i → slice_get v.items i ≡ Some true) }
+{
+    let mut marks = vec![in alloc; false; count]?;
+    for number in ready {
+        mark(&mut marks, *number);
+    }
+    Ok(marks)
+}
+
+/// The number of the first completion that isn't marked.
+fn first_unmarked(marks: &[bool]) -> Option<u64>
+    ensures bound { IfSome result (λ n. n < length marks.now) }
+    ensures before { AreMarked marks.now (unwrap_or result (length marks.now)) }
+    ensures unmarked { IfSome result (λ n. slice_get marks.now n ≡ Some false) }
+{
+    for (i, marked) in marks.iter().enumerate() {
+        if !*marked {
+            return Some(i as u64);
+        }
+    }
+    None
 }
 
 /// The fates of a root of a graph that nests at most so deep.
@@ -620,6 +686,9 @@ fn root_fates(
 ) -> Result<Fates, FateFault>
     ensures exact { Laid library.now.templates depth graph.now → IfOk result (λ v. AreFates library.now.templates depth graph.now root input.now facts.now v.rows v.output) }
     ensures within { IfErr result (IsWithin (length facts.now)) }
+    ensures ready { Laid library.now.templates depth graph.now → AreOf root facts.now → IfOk result (λ v. AreReadyIn library.now.templates depth graph.now root input.now facts.now (length facts.now)) }
+    ensures refused { Laid library.now.templates depth graph.now → AreOf root facts.now → IfErr result (IsBehindReady library.now.templates depth graph.now root input.now facts.now) }
+    ensures unready { Laid library.now.templates depth graph.now → Well library.now.templates depth graph.now → AreOf root facts.now → IfErr result (IsUnready library.now.templates depth graph.now root input.now facts.now) }
 {
     let scope = Scope {
         graph,
@@ -636,19 +705,20 @@ fn root_fates(
         library,
         most: facts.len() as u64,
     };
-    let mut ready = vec![in alloc; false; facts.len()]?;
     let Passed {
         rows,
         output,
         after: _,
-    } = pass(&root, depth, &scope, &mut ready)?;
-    if let Some(number) = ready.iter().position(|ready| !*ready) {
-        return Err(FateFault::NotReady(number as u64));
+        ready,
+    } = pass(&root, depth, &scope)?;
+    let marks = marked(alloc, &ready, facts.len())?;
+    match first_unmarked(&marks) {
+        Some(number) => Err(FateFault::NotReady(number)),
+        None => Ok(Fates {
+            rows: List::from_vec(rows),
+            output,
+        }),
     }
-    Ok(Fates {
-        rows: List::from_vec(rows),
-        output,
-    })
 }
 
 /// The fates of a root of a template, from its input and the accepted completions alone.
@@ -664,6 +734,9 @@ pub fn fates(
 ) -> Result<Fates, FateFault>
     ensures exact { (t : Template) → slice_get library.now.templates template ≡ Some t → Laid library.now.templates deepest t.graph → IfOk result (λ v. AreFates library.now.templates deepest t.graph root input.now facts.now v.rows v.output) }
     ensures within { IfErr result (IsWithin (length facts.now)) }
+    ensures ready { (t : Template) → slice_get library.now.templates template ≡ Some t → Laid library.now.templates deepest t.graph → AreOf root facts.now → IfOk result (λ v. AreReady library.now.templates t.graph root input.now facts.now (length facts.now)) }
+    ensures refused { (t : Template) → slice_get library.now.templates template ≡ Some t → Laid library.now.templates deepest t.graph → AreOf root facts.now → IfErr result (IsBehindReady library.now.templates deepest t.graph root input.now facts.now) }
+    ensures first { (t : Template) → slice_get library.now.templates template ≡ Some t → Laid library.now.templates deepest t.graph → Well library.now.templates deepest t.graph → AreOf root facts.now → IfErr result (IsFirstUnready library.now.templates t.graph root input.now facts.now) }
 {
     match library.templates.as_slice().get(template as usize) {
         None => Ok(Fates {

@@ -1,12 +1,16 @@
 //! One scope, by how its activities have ended.
-ghost use Rattle.std.specs.Prelude.{◌≡◌, ◌==◌, true, map, slice_get, ◌++◌, IfOk, OnOk};
-ghost use Rattle.std.specs.List.{filter, list_all};
+ghost use Rattle.std.specs.Prelude.{◌≡◌, ◌==◌, ◌≤◌, ℕ, Some, true, map, slice_get, ◌++◌, IfOk, OnOk};
+ghost use Rattle.std.specs.List.{All, filter, list_all};
 ghost use Rattle.std.specs.Option.{option_map, option_map_or, option_to_list};
 ghost use Rattle.blocks_subprocs.specs.Ends.{ends_of};
 ghost use Rattle.flow_model.specs.Wiring.{IsFeeding, IsIncoming, IsOutgoing};
 ghost use Rattle.flow_model.specs.Fates.{connector_value as value_by, is_settled as is_settled_end};
 ghost use Rattle.flow_model.specs.Scopes.{is_fed as are_settled, is_ready_source as is_settled_source};
+ghost use Rattle.flow_model.specs.declared.graphs.Control.{Control as ControlOf};
+ghost use Rattle.flow_model.specs.declared.graphs.DataLine.{DataLine as LineOf};
 ghost use Rattle.flow_model.specs.declared.graphs.Graph.{out-Graph};
+ghost use Rattle.flow_model.specs.declared.graphs.MapEnd.TheVariants.{Activity as At};
+ghost use Rattle.fate_eval.specs.Readiness.{after_of, AfterControls, AfterLines};
 
 use dead_paths::{connector_value, row};
 use flow_model::{Control, DataLine, Graph, List, MapEnd, SourceEnd};
@@ -63,17 +67,35 @@ pub fn values(
 }
 
 /// After how many completions it is known how the activity at a place has ended.
-fn after(afters: &[u64], place: u32) -> u64 {
-    afters.get(place as usize).copied().unwrap_or(0)
+fn after(afters: &[u64], place: u32) -> u64
+    ensures { result ≡ after_of afters.now place }
+{
+    match afters.get(place as usize) {
+        Some(after) => *after,
+        None => 0,
+    }
+}
+
+/// After how many completions it is known how the source of the connector at a place has ended.
+fn control_after(controls: &[Control], afters: &[u64], place: u32) -> u64
+    ensures later { (c : ControlOf) → slice_get controls.now place ≡ Some c → after_of afters.now c.from ≤ result }
+    ensures least { (n : ℕ) → ((c : ControlOf) → slice_get controls.now place ≡ Some c → after_of afters.now c.from ≤ n) → result ≤ n }
+{
+    match controls.get(place as usize) {
+        Some(control) => after(afters, control.from),
+        None => 0,
+    }
 }
 
 /// After how many completions the values of the connectors that lead to an activity are known.
-pub fn joined_after(graph: &Graph, afters: &[u64], place: u32, since: u64) -> u64 {
+pub fn joined_after(graph: &Graph, afters: &[u64], place: u32, since: u64) -> u64
+    ensures later { since ≤ result }
+    ensures controls { IsIncoming graph.now → AfterControls (out-Graph graph.now).controls afters.now place result }
+    ensures least { IsIncoming graph.now → (n : ℕ) → since ≤ n → AfterControls (out-Graph graph.now).controls afters.now place n → result ≤ n }
+{
     let mut known = since;
     for place in row(graph.wiring.incoming.as_slice(), place) {
-        if let Some(control) = graph.controls.as_slice().get(*place as usize) {
-            known = known.max(after(afters, control.from));
-        }
+        known = known.max(control_after(graph.controls.as_slice(), afters, *place));
     }
     known
 }
@@ -129,15 +151,29 @@ pub fn is_fed(graph: &Graph, ends: &[SourceEnd], place: u32) -> bool
     are_ready_lines(graph.lines.as_slice(), places, ends)
 }
 
+/// After how many completions it is known how the activity at the beginning of the data line at a place has ended.
+fn line_after(lines: &[DataLine], afters: &[u64], place: u32) -> u64
+    ensures later { (l : LineOf) (b : ℕ) → slice_get lines.now place ≡ Some l → l.from ≡ At b → after_of afters.now b ≤ result }
+    ensures least { (n : ℕ) → ((l : LineOf) (b : ℕ) → slice_get lines.now place ≡ Some l → l.from ≡ At b → after_of afters.now b ≤ n) → result ≤ n }
+{
+    match lines.get(place as usize) {
+        Some(line) => match line.from {
+            MapEnd::Border => 0,
+            MapEnd::Activity(from) => after(afters, from),
+        },
+        None => 0,
+    }
+}
+
 /// After how many completions the activities that feed this one are settled.
-pub fn fed_after(graph: &Graph, afters: &[u64], place: u32, since: u64) -> u64 {
+pub fn fed_after(graph: &Graph, afters: &[u64], place: u32, since: u64) -> u64
+    ensures later { since ≤ result }
+    ensures lines { IsFeeding graph.now → AfterLines (out-Graph graph.now).lines afters.now place result }
+    ensures least { IsFeeding graph.now → (n : ℕ) → since ≤ n → AfterLines (out-Graph graph.now).lines afters.now place n → result ≤ n }
+{
     let mut known = since;
     for place in row(graph.wiring.feeding.as_slice(), place) {
-        if let Some(line) = graph.lines.as_slice().get(*place as usize) {
-            if let MapEnd::Activity(from) = line.from {
-                known = known.max(after(afters, from));
-            }
-        }
+        known = known.max(line_after(graph.lines.as_slice(), afters, *place));
     }
     known
 }
@@ -150,7 +186,11 @@ pub fn is_complete(ends: &[SourceEnd]) -> bool
 }
 
 /// After how many completions all activities are settled.
-pub fn complete_after(afters: &[u64], since: u64) -> u64 {
+pub fn complete_after(afters: &[u64], since: u64) -> u64
+    ensures later { since ≤ result }
+    ensures all { All (λ after. after ≤ result) afters.now }
+    ensures least { (n : ℕ) → since ≤ n → All (λ after. after ≤ n) afters.now → result ≤ n }
+{
     let mut known = since;
     for after in afters {
         known = known.max(*after);

@@ -1,0 +1,12 @@
+use Rattle.command_lang.proofs.Spoken.{says_completion, refused}
+use Rattle.command_lang.proofs.reading.read_completion.Goals as goal
+
+pub returns-in-Ok-clause-says : goal.returns-in-Ok-clause-says
+returns-in-Ok-clause-says c =
+    says_completion c.args.line.now c.in-Some.spoken.now c.in_ok-tokens.tokens.items c.in-Ok.completion c.in_ok-tokens.ensures.tokens c.in-Some.ensures.some.0 c.in-Some.ensures.some.1
+    (rw (c.new-cursor.ensures, c.as_slice.ensures) at c.in-Ok.ensures.read)
+
+pub returns-clause-refused : goal.returns-clause-refused
+returns-clause-refused c =
+    refused c.args.line.now c.in-Some.spoken.now c.in_ok-tokens.tokens.items c.in-Err.fault c.command_fault.result _ c.in_ok-tokens.ensures.tokens c.in-Some.ensures.some.0 c.in-Some.ensures.some.1
+    (rw (c.new-cursor.ensures, c.as_slice.ensures) at c.in-Err.ensures.within) c.in-Err.ensures.names c.command_fault.ensures.place c.command_fault.ensures.memory
