@@ -40,6 +40,6 @@ fn main(rt: HostRuntime) -> ExitCode {
     let disk = FileDisk::new(&rt, a, b);
     let mut source = StdSource::new(&rt);
     let mut sink = StdSink::new(&rt);
-    let status = run(rt.alloc(), &words, &mut source, &mut sink, disk);
+    let (status, _disk) = run(rt.alloc(), &words, &mut source, &mut sink, disk);
     ExitCode::from(status.number())
 }

@@ -1,2 +1,3 @@
 pub mod Summaries
 pub mod Verdicts
+pub mod Replies

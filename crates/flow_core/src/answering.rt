@@ -1,4 +1,8 @@
 //! Replies to queries and to transactions.
+ghost use Rattle.std.specs.Prelude.{◌≡◌, ◌++◌, ◌∷◌, [], OnOk};
+ghost use Rattle.std.specs.Fmt.{decimal as digits_of};
+ghost use Rattle.flow_core.specs.Replies.{note_text, applied_text};
+
 use crate::applying::{Applied, Note, transaction_root};
 use crate::paths::unquoted;
 use crate::refusals::{Refusal, Stop, write_refusal};
@@ -31,18 +35,24 @@ fn code_of(t: &Transaction) -> i64 {
     }
 }
 
-fn numbered(out: &mut Vec<u8>, words: &[u8], number: u64) -> Result<(), AllocError> {
+fn numbered(out: &mut Vec<u8>, words: &[u8], number: u64) -> Result<(), AllocError>
+    ensures { OnOk result (out.new.items ≡ out.old.items ++ (words.now ++ digits_of number)) }
+{
     out.extend_from_slice(words)?;
     decimal(out, number)
 }
 
-fn end_line(out: &mut Vec<u8>) -> Result<(), AllocError> {
+fn end_line(out: &mut Vec<u8>) -> Result<(), AllocError>
+    ensures { OnOk result (out.new.items ≡ out.old.items ++ 10 ∷ []) }
+{
     out.push(b'\n')?;
     Ok(())
 }
 
 /// Appends what the reply of a transaction says behind its number.
-fn write_note(out: &mut Vec<u8>, note: &Note) -> Result<(), AllocError> {
+fn write_note(out: &mut Vec<u8>, note: &Note) -> Result<(), AllocError>
+    ensures { OnOk result (out.new.items ≡ out.old.items ++ note_text note.now) }
+{
     match note {
         Note::Imported(count) => numbered(out, b"IMPORT ", u64::from(*count)),
         Note::Rooted(root) => numbered(out, b"ROOT ", *root),
@@ -60,7 +70,9 @@ fn write_note(out: &mut Vec<u8>, note: &Note) -> Result<(), AllocError> {
 }
 
 /// Appends the reply of a transaction.
-pub fn write_applied(out: &mut Vec<u8>, applied: &Applied) -> Result<(), AllocError> {
+pub fn write_applied(out: &mut Vec<u8>, applied: &Applied) -> Result<(), AllocError>
+    ensures { OnOk result (out.new.items ≡ out.old.items ++ applied_text applied.now) }
+{
     numbered(out, b"ok ", applied.number)?;
     out.push(b' ')?;
     write_note(out, &applied.note)?;

@@ -1,5 +1,10 @@
 //! The state after a transaction that is allowed.
-ghost use Rattle.std.specs.Prelude.{◌≡◌, ◌<◌, ◌+◌, OnOk, IfOk};
+ghost use Rattle.std.specs.Prelude.{◌≡◌, ℕ, ◌<◌, ◌+◌, OnOk, IfOk};
+ghost use Rattle.flow_model.specs.declared.instances.Fate.{Fate as FateOf};
+ghost use Rattle.flow_model.specs.declared.instances.Message.{Message as MessageOf};
+ghost use Rattle.flow_model.specs.declared.instances.Mode.TheVariants as modes;
+ghost use Rattle.flow_core.specs.Verdicts.{IsNoteOf, IsFront};
+ghost use Rattle.flow_core.specs.declared.applying.Note.TheVariants as notes;
 ghost use Rattle.flow_core.specs.Summaries.{summary, noted, next, with_transaction, with_root_of, without, kept_by, root_about, is_root, deleted, started};
 
 use crate::paths::{queue_of, rank_of, root_of};
@@ -193,7 +198,8 @@ impl Core {
     }
 
     fn import(&mut self, text: &Bytes) -> Result<Note, AllocError>
-        ensures { noted self.new ≡ noted self.old }
+        ensures kept { noted self.new ≡ noted self.old }
+        ensures note { IfOk result (λ n. (count : ℕ) × (n ≡ notes.Imported count)) }
     {
         match self.store.import(self.alloc, text.as_slice()) {
             Ok(count) => Ok(Note::Imported(count)),
@@ -239,7 +245,8 @@ impl Core {
         key: Option<&Name>,
         settings: &[Setting],
     ) -> Result<Note, AllocError>
-        ensures { noted self.new ≡ noted self.old }
+        ensures kept { noted self.new ≡ noted self.old }
+        ensures note { IfOk result (λ n. n ≡ notes.Rooted root) }
     {
         let made = self.new_instance(root, process, version, starter, settings)?;
         let Some(instance) = made else {
@@ -274,14 +281,16 @@ impl Core {
         Ok(())
     }
 
-    fn turn(&mut self, queue: u8) -> Result<Option<Note>, AllocError>
-        ensures { noted self.new ≡ noted self.old }
+    /// Takes the front message of a queue. Of an empty queue, which `judge` refuses, nothing is taken.
+    fn turn(&mut self, queue: u8) -> Result<Note, AllocError>
+        ensures kept { noted self.new ≡ noted self.old }
+        ensures note { IfOk result (λ n. (message : MessageOf) → IsFront self.old queue message → n ≡ notes.Turned queue message) }
     {
         if queue < 1 || queue > self.queues.count() {
-            return Ok(None);
+            return Ok(Note::Deleted);
         }
         let Some(message) = self.queues.take(queue) else {
-            return Ok(None);
+            return Ok(Note::Deleted);
         };
         let followed = match self.live_roots.get_mut(&root_of(&message)) {
             None => None,
@@ -293,7 +302,7 @@ impl Core {
         if let Some((messages, ready)) = followed {
             self.follow(messages, ready)?;
         }
-        Ok(Some(Note::Turned(queue, message)))
+        Ok(Note::Turned(queue, message))
     }
 
     /// The output of a completion.
@@ -311,7 +320,8 @@ impl Core {
         performer: Option<Name>,
         settings: &[Setting],
     ) -> Result<Note, AllocError>
-        ensures { noted self.new ≡ noted self.old }
+        ensures kept { noted self.new ≡ noted self.old }
+        ensures note { IfOk result (λ n. (fate : FateOf) × (n ≡ notes.Fated fate)) }
     {
         let Some(output) = self.output(item, settings)? else {
             return Ok(Note::Fated(Fate::Waiting));
@@ -359,7 +369,8 @@ impl Core {
     }
 
     fn hold_by(&mut self, item: &Path, who: &Name) -> Result<Note, AllocError>
-        ensures { noted self.new ≡ noted self.old }
+        ensures kept { noted self.new ≡ noted self.old }
+        ensures note { IfOk result (λ n. (fate : FateOf) × (n ≡ notes.Fated fate)) }
     {
         let who = who.copy(self.alloc)?;
         self.change_hold(item, HoldChange::Person(who))?;
@@ -367,14 +378,16 @@ impl Core {
     }
 
     fn give_back(&mut self, item: &Path) -> Result<Note, AllocError>
-        ensures { noted self.new ≡ noted self.old }
+        ensures kept { noted self.new ≡ noted self.old }
+        ensures note { IfOk result (λ n. (fate : FateOf) × (n ≡ notes.Fated fate)) }
     {
         self.change_hold(item, HoldChange::Nobody)?;
         Ok(Note::Fated(self.fate_of(item)))
     }
 
     fn terminate(&mut self, root: u64) -> Result<Note, AllocError>
-        ensures { noted self.new ≡ noted self.old }
+        ensures kept { noted self.new ≡ noted self.old }
+        ensures note { IfOk result (λ n. n ≡ notes.Moded modes.Terminated) }
     {
         if let Some(found) = self.live_roots.get_mut(&root) {
             found.instance.terminate();
@@ -384,7 +397,8 @@ impl Core {
     }
 
     fn suspend(&mut self, root: u64) -> Note
-        ensures { noted self.new ≡ noted self.old }
+        ensures kept { noted self.new ≡ noted self.old }
+        ensures note { result ≡ notes.Moded modes.Suspended }
     {
         if let Some(found) = self.live_roots.get_mut(&root) {
             found.instance.suspend();
@@ -393,7 +407,8 @@ impl Core {
     }
 
     fn resume_root(&mut self, root: u64) -> Note
-        ensures { noted self.new ≡ noted self.old }
+        ensures kept { noted self.new ≡ noted self.old }
+        ensures note { result ≡ notes.Moded modes.Active }
     {
         if let Some(found) = self.live_roots.get_mut(&root) {
             found.instance.resume();
@@ -403,7 +418,8 @@ impl Core {
 
     /// Removes a root.
     fn delete(&mut self, root: u64) -> Note
-        ensures { noted self.new ≡ noted self.old }
+        ensures kept { noted self.new ≡ noted self.old }
+        ensures note { result ≡ notes.Deleted }
     {
         if let Some(found) = self.live_roots.remove(&root) {
             if let Some(key) = &found.key {
@@ -413,8 +429,29 @@ impl Core {
         Note::Deleted
     }
 
+    /// Completes an item, by a person or by an agent.
+    fn done(&mut self, item: &Path, who: &Who, settings: &[Setting]) -> Result<Note, AllocError>
+        ensures kept { noted self.new ≡ noted self.old }
+        ensures note { IfOk result (λ n. (fate : FateOf) × (n ≡ notes.Fated fate)) }
+    {
+        let performer = match who {
+            Who::Person(name) => Some(name.copy(self.alloc)?),
+            Who::Agent(_) => None,
+        };
+        self.complete(item, performer, settings)
+    }
+
+    fn set_clock(&mut self, minutes: u64) -> Note
+        ensures kept { noted self.new ≡ noted self.old }
+        ensures note { result ≡ notes.Clocked minutes }
+    {
+        self.clock = minutes;
+        Note::Clocked(minutes)
+    }
+
     fn change_by(&mut self, t: &Transaction) -> Result<Note, AllocError>
-        ensures { noted self.new ≡ noted self.old }
+        ensures kept { noted self.new ≡ noted self.old }
+        ensures note { IfOk result (IsNoteOf self.old t.now) }
     {
         match t {
             Transaction::Import(text) => self.import(text),
@@ -426,48 +463,28 @@ impl Core {
                 key.as_ref(),
                 settings.as_slice(),
             ),
-            Transaction::Turn(queue, _) => match self.turn(*queue)? {
-                Some(note) => Ok(note),
-                None => Ok(Note::Deleted),
-            },
+            Transaction::Turn(queue, _) => self.turn(*queue),
             Transaction::Claim(item, who) => self.hold_by(item, who),
             Transaction::Release(item, _) => self.give_back(item),
             Transaction::Transfer(item, _, to) => self.hold_by(item, to),
             Transaction::Take(item, _) => {
                 Ok(Note::Taken(self.change_hold(item, HoldChange::Agent)?))
             }
-            Transaction::Restart(item) => self.give_back(item),
-            _ => self.complete_by(t),
-        }
-    }
-
-    fn complete_by(&mut self, t: &Transaction) -> Result<Note, AllocError>
-        ensures { noted self.new ≡ noted self.old }
-    {
-        match t {
-            Transaction::Done(item, Who::Person(name), settings) => {
-                let name = name.copy(self.alloc)?;
-                self.complete(item, Some(name), settings.as_slice())
-            }
-            Transaction::Done(item, Who::Agent(_), settings) => {
-                self.complete(item, None, settings.as_slice())
-            }
+            Transaction::Done(item, who, settings) => self.done(item, who, settings.as_slice()),
             Transaction::Force(item, settings) => self.complete(item, None, settings.as_slice()),
+            Transaction::Restart(item) => self.give_back(item),
             Transaction::Suspend(root) => Ok(self.suspend(*root)),
             Transaction::Resume(root) => Ok(self.resume_root(*root)),
             Transaction::Terminate(root) => self.terminate(*root),
             Transaction::Delete(root) => Ok(self.delete(*root)),
-            Transaction::Clock(minutes) => {
-                self.clock = *minutes;
-                Ok(Note::Clocked(*minutes))
-            }
-            _ => Ok(Note::Deleted),
+            Transaction::Clock(minutes) => Ok(self.set_clock(*minutes)),
         }
     }
 
     /// Counts the root of a Start.
     fn count_root(&mut self, t: &Transaction)
-        ensures { noted self.new ≡ (self.old.kept, with_root_of t.now (summary self.old)) }
+        ensures counted { noted self.new ≡ (self.old.kept, with_root_of t.now (summary self.old)) }
+        ensures queues { self.new.queues ≡ self.old.queues }
     {
         if let Some(root) = started_root(t) {
             self.roots = self.roots.max(root);
@@ -498,6 +515,7 @@ impl Core {
     /// Applies a transaction under a number, and keeps it where it is live.
     pub(crate) fn apply_as(&mut self, number: u64, t: Transaction) -> Result<Applied, AllocError>
         ensures numbered { IfOk result (λ applied. applied.number ≡ number) }
+        ensures note { IfOk result (λ applied. IsNoteOf self.old t applied.note) }
         ensures applied { OnOk result (noted self.new ≡ (self.old.kept, with_transaction self.old.number number t (summary self.old))) }
     {
         self.count_root(&t);
@@ -511,6 +529,7 @@ impl Core {
         requires { self.old.number < self.old.limit }
         ensures next { OnOk result (summary self.new ≡ next t (summary self.old)) }
         ensures number { IfOk result (λ applied. applied.number ≡ self.old.number + 1) }
+        ensures note { IfOk result (λ applied. IsNoteOf self.old t applied.note) }
     {
         self.number += 1;
         self.apply_as(self.number, t)

@@ -1,6 +1,9 @@
 //! Whether a command is allowed now: the first refusal in the order of its tests, or its transaction.
-ghost use Rattle.std.specs.Prelude.{◌<◌, IfOk, OnOk};
-ghost use Rattle.flow_core.specs.Verdicts.{HasRoom};
+ghost use Rattle.std.specs.Prelude.{◌≡◌, ℕ, ◌<◌, List as ListOf, option_copied, IfOk, OnOk};
+ghost use Rattle.flow_model.specs.declared.commands.Command.TheVariants as asked;
+ghost use Rattle.flow_model.specs.declared.transactions.Setting.{Setting as SettingOf};
+ghost use Rattle.flow_model.specs.declared.transactions.Transaction.TheVariants as made;
+ghost use Rattle.flow_core.specs.Verdicts.{IsFor, IsVerdict, next_root};
 
 use crate::items::Known;
 use crate::paths::{copy_message, unquoted};
@@ -87,7 +90,8 @@ impl Core {
     }
 
     fn judge_import(&self, text: &Bytes) -> Result<Transaction, Stop>
-        ensures { OnOk result (self.now.number < self.now.limit) }
+        ensures room { OnOk result (self.now.number < self.now.limit) }
+        ensures made { IfOk result (IsFor self.now (asked.Import text.now)) }
     {
         match self.store.check(self.alloc, text.as_slice()) {
             Ok(_) => {}
@@ -100,7 +104,9 @@ impl Core {
         Ok(Transaction::Import(text.copy(self.alloc)?))
     }
 
-    fn copied_key(&self, key: Option<&Name>) -> Result<Option<Name>, AllocError> {
+    fn copied_key(&self, key: Option<&Name>) -> Result<Option<Name>, AllocError>
+        ensures { IfOk result (λ copy. copy ≡ option_copied key.entry) }
+    {
         match key {
             None => Ok(None),
             Some(key) => Ok(Some(key.copy(self.alloc)?)),
@@ -114,7 +120,8 @@ impl Core {
         key: Option<&Name>,
         written: &[RawSetting],
     ) -> Result<Transaction, Stop>
-        ensures { OnOk result (self.now.number < self.now.limit) }
+        ensures room { OnOk result (self.now.number < self.now.limit) }
+        ensures made { IfOk result (λ t. (version : ℕ) × (settings : ListOf SettingOf) × (t ≡ made.Start (next_root self.now) process.now version starter.now (option_copied key.entry) settings)) }
     {
         self.needs_person(starter)?;
         let Some(place) = self.store.newest(process) else {
@@ -136,7 +143,8 @@ impl Core {
     }
 
     fn judge_turn(&self, number: u64) -> Result<Transaction, Stop>
-        ensures { OnOk result (self.now.number < self.now.limit) }
+        ensures room { OnOk result (self.now.number < self.now.limit) }
+        ensures made { IfOk result (IsFor self.now (asked.Turn number)) }
     {
         let count = self.queues.count();
         let queue = u8::try_from(number).unwrap_or(0);
@@ -151,7 +159,8 @@ impl Core {
     }
 
     fn judge_claim(&self, token: &Bytes, name: &Name) -> Result<Transaction, Stop>
-        ensures { OnOk result (self.now.number < self.now.limit) }
+        ensures room { OnOk result (self.now.number < self.now.limit) }
+        ensures made { IfOk result (IsFor self.now (asked.Claim token.now name.now)) }
     {
         let person = self.needs_person(name)?;
         let path = self.needs_path(token)?;
@@ -162,7 +171,8 @@ impl Core {
     }
 
     fn judge_release(&self, token: &Bytes, name: &Name) -> Result<Transaction, Stop>
-        ensures { OnOk result (self.now.number < self.now.limit) }
+        ensures room { OnOk result (self.now.number < self.now.limit) }
+        ensures made { IfOk result (IsFor self.now (asked.Release token.now name.now)) }
     {
         self.needs_person(name)?;
         let path = self.needs_path(token)?;
@@ -173,7 +183,8 @@ impl Core {
     }
 
     fn judge_transfer(&self, token: &Bytes, from: &Name, to: &Name) -> Result<Transaction, Stop>
-        ensures { OnOk result (self.now.number < self.now.limit) }
+        ensures room { OnOk result (self.now.number < self.now.limit) }
+        ensures made { IfOk result (IsFor self.now (asked.Transfer token.now from.now to.now)) }
     {
         self.needs_person(from)?;
         let person = self.needs_person(to)?;
@@ -186,7 +197,8 @@ impl Core {
     }
 
     fn judge_take(&self, token: &Bytes) -> Result<Transaction, Stop>
-        ensures { OnOk result (self.now.number < self.now.limit) }
+        ensures room { OnOk result (self.now.number < self.now.limit) }
+        ensures made { IfOk result (IsFor self.now (asked.Take token.now)) }
     {
         let path = self.needs_path(token)?;
         let known = self.needs_item(token, &path)?;
@@ -197,7 +209,8 @@ impl Core {
     }
 
     fn judge_done(&self, token: &Bytes, who: &Who, outcome: &Outcome) -> Result<Transaction, Stop>
-        ensures { OnOk result (self.now.number < self.now.limit) }
+        ensures room { OnOk result (self.now.number < self.now.limit) }
+        ensures made { IfOk result (IsFor self.now (asked.Done token.now who.now outcome.now)) }
     {
         if let Who::Person(name) = who {
             self.needs_person(name)?;
@@ -215,7 +228,8 @@ impl Core {
     }
 
     fn judge_force(&self, token: &Bytes, outcome: &Outcome) -> Result<Transaction, Stop>
-        ensures { OnOk result (self.now.number < self.now.limit) }
+        ensures room { OnOk result (self.now.number < self.now.limit) }
+        ensures made { IfOk result (IsFor self.now (asked.Force token.now outcome.now)) }
     {
         let path = self.needs_path(token)?;
         let known = self.needs_item(token, &path)?;
@@ -226,7 +240,8 @@ impl Core {
     }
 
     fn judge_restart(&self, token: &Bytes) -> Result<Transaction, Stop>
-        ensures { OnOk result (self.now.number < self.now.limit) }
+        ensures room { OnOk result (self.now.number < self.now.limit) }
+        ensures made { IfOk result (IsFor self.now (asked.Restart token.now)) }
     {
         let path = self.needs_path(token)?;
         let known = self.needs_item(token, &path)?;
@@ -285,7 +300,8 @@ impl Core {
     }
 
     fn clock_to(&self, number: &NumberAt) -> Result<Transaction, Stop>
-        ensures { OnOk result (self.now.number < self.now.limit) }
+        ensures room { OnOk result (self.now.number < self.now.limit) }
+        ensures made { IfOk result (IsFor self.now (asked.Clock number.now)) }
     {
         if number.size > MOST_MINUTES {
             let place = number.place.saturating_add(1);
@@ -297,7 +313,8 @@ impl Core {
     }
 
     fn on_root(&self, command: &Command) -> Result<Transaction, Stop>
-        ensures { OnOk result (self.now.number < self.now.limit) }
+        ensures room { OnOk result (self.now.number < self.now.limit) }
+        ensures made { IfOk result (IsFor self.now command.now) }
     {
         let transaction = match command {
             Command::Suspend(root) => {
@@ -324,7 +341,8 @@ impl Core {
 
     /// The transaction of a command other than START, or why it is refused.
     fn transaction(&self, command: &Command) -> Result<Transaction, Stop>
-        ensures { OnOk result (self.now.number < self.now.limit) }
+        ensures room { OnOk result (self.now.number < self.now.limit) }
+        ensures made { IfOk result (IsFor self.now command.now) }
     {
         match command {
             Command::Import(text) => self.judge_import(text),
@@ -354,7 +372,7 @@ impl Core {
 
     /// What becomes of a command that may make a transaction; nothing is changed.
     pub fn judge(&self, command: &Command) -> Result<Verdict, AllocError>
-        ensures { IfOk result (HasRoom self.now) }
+        ensures { IfOk result (IsVerdict self.now command.now) }
     {
         if let Some(root) = self.same_root(command) {
             return Ok(Verdict::Same(root));

@@ -1,5 +1,5 @@
 //! Paths: the queue of a message, the rank of an item, and equal messages.
-ghost use Rattle.std.specs.Prelude.{◌≡◌};
+ghost use Rattle.std.specs.Prelude.{◌≡◌, IfOk};
 ghost use Rattle.recover_queue.specs.Queues.{root_of as root_in};
 
 use blocks_subprocs::graph_of;
@@ -89,7 +89,8 @@ fn same_part(first: &Part, second: &Part) -> bool {
     first.attempt == second.attempt && first.name.as_slice() == second.name.as_slice()
 }
 
-fn same_path(first: &Path, second: &Path) -> bool {
+/// Whether two paths are one.
+pub fn same_path(first: &Path, second: &Path) -> bool {
     let (a, b) = (first.parts.as_slice(), second.parts.as_slice());
     first.root == second.root
         && a.len() == b.len()
@@ -112,7 +113,9 @@ pub fn same_message(first: &Message, second: &Message) -> bool {
 }
 
 /// An equal message.
-pub fn copy_message(alloc: Global, message: &Message) -> Result<Message, AllocError> {
+pub fn copy_message(alloc: Global, message: &Message) -> Result<Message, AllocError>
+    ensures { IfOk result (λ copy. copy ≡ message.now) }
+{
     match message {
         Message::Begin(path) => Ok(Message::Begin(path.copy(alloc)?)),
         Message::End(path) => Ok(Message::End(path.copy(alloc)?)),

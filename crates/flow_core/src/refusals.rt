@@ -1,5 +1,6 @@
 //! Why a command is refused, and how that is written.
-ghost use Rattle.std.specs.Prelude.{◌≡◌};
+ghost use Rattle.std.specs.Prelude.{◌≡◌, ◌++◌, IfOk, OnOk};
+ghost use Rattle.flow_core.specs.Replies.{with_number, with_name, owner_text, code_text, refusal_text};
 ghost use Rattle.flow_core.specs.declared.refusals.Stop.TheVariants.{NoMemory};
 
 use flow_model::{Bytes, Hold, Mode, Name, Phase};
@@ -63,19 +64,25 @@ impl From<Refusal> for Stop {
     }
 }
 
-fn numbered(out: &mut Vec<u8>, code: &[u8], number: u64) -> Result<(), AllocError> {
+fn numbered(out: &mut Vec<u8>, code: &[u8], number: u64) -> Result<(), AllocError>
+    ensures { OnOk result (out.new.items ≡ out.old.items ++ with_number code.now number) }
+{
     out.extend_from_slice(code)?;
     out.push(b' ')?;
     decimal(out, number)
 }
 
-fn named(out: &mut Vec<u8>, code: &[u8], name: &Name) -> Result<(), AllocError> {
+fn named(out: &mut Vec<u8>, code: &[u8], name: &Name) -> Result<(), AllocError>
+    ensures { OnOk result (out.new.items ≡ out.old.items ++ with_name code.now name.now) }
+{
     out.extend_from_slice(code)?;
     out.push(b' ')?;
     quoted_name(out, name.as_slice())
 }
 
-fn owner(out: &mut Vec<u8>, hold: &Hold) -> Result<(), AllocError> {
+fn owner(out: &mut Vec<u8>, hold: &Hold) -> Result<(), AllocError>
+    ensures { OnOk result (out.new.items ≡ out.old.items ++ owner_text hold.now) }
+{
     match hold {
         Hold::Person(name) => named(out, b"OWNER", name),
         Hold::Agent(_) => out.extend_from_slice(b"OWNER NOBODY"),
@@ -84,7 +91,9 @@ fn owner(out: &mut Vec<u8>, hold: &Hold) -> Result<(), AllocError> {
 }
 
 /// Appends the code of a refusal and what it keeps, without a line feed.
-fn write_code(out: &mut Vec<u8>, refusal: &Refusal) -> Result<(), AllocError> {
+fn write_code(out: &mut Vec<u8>, refusal: &Refusal) -> Result<(), AllocError>
+    ensures { OnOk result (out.new.items ≡ out.old.items ++ code_text refusal.now) }
+{
     match refusal {
         Refusal::Rule(rule, line) => {
             numbered(out, b"RULE", u64::from(*rule))?;
@@ -119,7 +128,9 @@ fn write_code(out: &mut Vec<u8>, refusal: &Refusal) -> Result<(), AllocError> {
 }
 
 /// Appends the reply of a refusal.
-pub fn write_refusal(out: &mut Vec<u8>, refusal: &Refusal) -> Result<(), AllocError> {
+pub fn write_refusal(out: &mut Vec<u8>, refusal: &Refusal) -> Result<(), AllocError>
+    ensures { OnOk result (out.new.items ≡ out.old.items ++ refusal_text refusal.now) }
+{
     out.extend_from_slice(b"no ")?;
     write_code(out, refusal)?;
     out.push(b'\n')?;
@@ -127,7 +138,9 @@ pub fn write_refusal(out: &mut Vec<u8>, refusal: &Refusal) -> Result<(), AllocEr
 }
 
 /// An equal hold.
-pub fn copy_hold(alloc: Global, hold: &Hold) -> Result<Hold, AllocError> {
+pub fn copy_hold(alloc: Global, hold: &Hold) -> Result<Hold, AllocError>
+    ensures { IfOk result (λ copy. copy ≡ hold.now) }
+{
     match hold {
         Hold::Nobody => Ok(Hold::Nobody),
         Hold::Person(name) => Ok(Hold::Person(name.copy(alloc)?)),

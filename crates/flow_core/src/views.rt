@@ -1,5 +1,6 @@
 //! What the state shows to those who read it: the fates of a root, and what they follow from.
 use crate::applying::transaction_root;
+use crate::paths::same_path;
 use crate::state::Core;
 use containers::{fresh, with_settings};
 use flow_model::{Container, Fact, Fate, FateRow, List, Name, Path, Setting, Transaction};
@@ -12,15 +13,6 @@ pub struct RootFacts {
     pub template: u32,
     pub input: Container,
     pub facts: List<Fact>,
-}
-
-fn same_path(first: &Path, second: &Path) -> bool {
-    let (a, b) = (first.parts.as_slice(), second.parts.as_slice());
-    first.root == second.root
-        && a.len() == b.len()
-        && a.iter().zip(b.iter()).all(|(x, y)| {
-            x.attempt == y.attempt && x.name.as_slice() == y.name.as_slice()
-        })
 }
 
 /// Whether a root has begun, by the rows of its view: an activity without connectors waits no longer then.

@@ -1,12 +1,15 @@
 -- A run over a store: it is opened, and then served.
-use Rattle.std.proofs.Common.{◌≡◌, ℕ, subst, sym, refl}
+use Rattle.std.proofs.Common.{◌≡◌, ◌⊎◌, inl, inr, ⊎_elim, ℕ, Result, Ok, Err, OnOk, IsOk, subst, sym, refl}
 use Rattle.flow_disk.specs.Images.{Image}
 use Rattle.flow_disk.specs.Moments.{LeavesOnly, Only}
 use Rattle.flow_disk.proofs.Runs.{weaker}
 use Rattle.flow_core.specs.Summaries.{Summary}
+use Rattle.txn_log.specs.declared.log.Log.{Log}
 use Rattle.flow_session.specs.Histories.{StandsFor}
-use Rattle.flow_session.specs.Runs.{KeepsStore, ServesStore}
+use Rattle.flow_session.specs.Keeping.{IsOpen, rests}
+use Rattle.flow_session.specs.Runs.{KeepsStore, ServesStore, KeepsOrServes}
 use Rattle.flow_session.specs.Serving.{Makes}
+use Rattle.flow_session.proofs.Keeping.{nothing_done}
 use Rattle.flow_session.proofs.Calls.{makes_none, makes_more}
 
 -- what a journal leaves, its disk leaves
@@ -18,6 +21,18 @@ makes_on_disk disk_of tells moment left_since old new s IsEnd IsLast makes leads
   transactions = makes.transactions;
   any_moment = λ told. on_disk disk_of moment left_since old new _ (makes.any_moment told);
   ended = leads _ makes.ended;
+}
+
+on_ok : {T E : Type 0} (r : Result T E) (P : Type 0) → IsOk r → OnOk r P → P
+on_ok (Ok v) P ok p = p
+on_ok (Err e) P ok p = absurd (cc)
+
+-- what was served to the end: every image stands for the summary after all that was made
+pub served_to_end : {D T E : Type 0} (tells : Type 0) (moment : D → ℕ) (left_since : D → ℕ → Image → Type 0) (seen : D → Image) (images : D → Image → Type 0) (log : Log) (old new : D) (s now : Summary) (r : Result T E) → OnOk r (tells → IsOpen seen images log new now) → Makes tells moment left_since old new s (λ x. OnOk r (now ≡ x)) → Makes tells moment left_since old new s (λ x. IsOk r → tells → (c : Image) → images new c → StandsFor x c)
+served_to_end tells moment left_since seen images log old new s now r is makes = record {
+  transactions = makes.transactions;
+  any_moment = makes.any_moment;
+  ended = λ ok told c left. subst (λ x. StandsFor x c) (on_ok r _ ok makes.ended) (rests seen images log new now c (on_ok r _ ok is told) left);
 }
 
 module _ {D : Type 0} (tells : Type 0) (moment : D → ℕ) (left_since : D → ℕ → Image → Type 0) (seen : D → Image) (images : D → Image → Type 0) where
@@ -36,3 +51,20 @@ module _ {D : Type 0} (tells : Type 0) (moment : D → ℕ) (left_since : D → 
             (makes_none tells moment left_since old mid s (λ x. s ≡ x) (λ told. weaker moment left_since images old mid (λ image. image ≡ seen old) (StandsFor s) keeps (λ c is. subst (StandsFor s) (sym is) stood)) refl)
             makes;
       }
+
+  -- a store that is left alone
+  pub kept_alone : ((disk : D) (c : Image) → left_since disk (moment disk) c → images disk c) → (disk : D) → Only (seen disk) (images disk) → KeepsStore moment left_since seen disk disk
+  kept_alone only_now disk only = nothing_done moment left_since disk (λ image. image ≡ seen disk) (λ c left. only c (only_now disk c left))
+
+  -- a run that is done only where another one is
+  pub done_where : (old new : D) (IsDone IsLast : Type 0) → KeepsOrServes tells moment left_since seen images old new IsDone → (IsLast → IsDone) → KeepsOrServes tells moment left_since seen images old new IsLast
+  done_where old new IsDone IsLast (inl keeps) leads = inl keeps
+  done_where old new IsDone IsLast (inr serves) leads = inr (record {
+    before = serves.before;
+    stood = serves.stood;
+    makes = record {
+      transactions = serves.makes.transactions;
+      any_moment = serves.makes.any_moment;
+      ended = λ last image left. serves.makes.ended (leads last) image left;
+    };
+  })

@@ -29,11 +29,13 @@ pub trait Journal {
     /// What a crash at some moment from that one on might have left.
     ghost left_since: { Self → ℕ → Image → Type 0 };
 
-    /// The payload of a transaction under a number; a journal that keeps nothing needs none.
+    /// The payload of a transaction under a number; a journal that keeps nothing needs none. `NoMemory` comes
+    /// where there is no memory.
     fn payload(&self, number: u64, t: &Transaction) -> Result<Vec<u8>, Stop>
         ensures { IfOk result (λ bytes. tells → bytes.items ≡ record_bytes number t.now) };
 
-    /// Keeps a payload: that of the next transaction.
+    /// Keeps a payload: that of the next transaction. `StoreFault` comes where it may not be kept; then a crash
+    /// leaves the history with or without it.
     fn keep(&mut self, payload: &[u8]) -> Result<(), Stop>
         requires open { tells → (s : Summary) × holds self.old s }
         ensures kept { (s : Summary) (t : TransactionOf) → tells → holds self.old s → payload.now ≡ record_bytes (s.transactions + 1) t
@@ -41,7 +43,8 @@ pub trait Journal {
         ensures any_moment { (s : Summary) (t : TransactionOf) → tells → holds self.old s → payload.now ≡ record_bytes (s.transactions + 1) t
             → LeavesOnly moment left_since self.old self.new (WithOrWithout t s) };
 
-    /// Keeps the live transactions alone from now on.
+    /// Keeps the live transactions alone from now on. `StoreFault` and `NoMemory` come as above; then a crash
+    /// leaves the same history.
     fn checkpoint(&mut self, core: &Core) -> Result<(), Stop>
         requires open { tells → holds self.old (summary core.now) }
         ensures kept { tells → OnOk result (holds self.new (summary core.now)) }

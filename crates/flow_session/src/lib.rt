@@ -12,4 +12,4 @@ mod store;
 pub use journal::{Journal, NoJournal};
 pub use opening::{open, reopen};
 pub use serving::{Input, Session, Stop};
-pub use store::{Stored, append};
+pub use store::Stored;

@@ -1,12 +1,9 @@
 //! How a store is opened: the state that its records give.
-ghost use Rattle.std.specs.Prelude.{◌≡◌, false, IfOk, OnOk};
-ghost use Rattle.flow_disk.specs.Moments.{LeavesOnly, Only};
+ghost use Rattle.std.specs.Prelude.{◌≡◌, IfOk, OnOk};
+ghost use Rattle.flow_disk.specs.Moments.{LeavesOnly};
 ghost use Rattle.flow_model.specs.declared.transactions.Numbered.{Numbered as NumberedOf};
-ghost use Rattle.txn_log.specs.Opening.{IsOpened, HasRecords};
-ghost use Rattle.txn_log.specs.Standing.{StandsOn};
 ghost use Rattle.flow_txn.specs.Records.{record_bytes};
 ghost use Rattle.flow_core.specs.Summaries.{summary, taken_up, Follows};
-ghost use Rattle.flow_session.specs.Histories.{StandsFor};
 ghost use Rattle.flow_session.specs.Keeping.{IsOpen, ComesTo};
 
 use crate::serving::Session;

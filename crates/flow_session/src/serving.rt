@@ -1,7 +1,13 @@
 //! A session: the state, and the text of an IMPORT that isn't ended yet.
-ghost use Rattle.std.specs.Prelude.{◌≡◌, ◌<◌, [], IfOk, OnOk};
+ghost use Rattle.std.specs.Prelude.{◌≡◌, ◌⊎◌, ◌<◌, ◌+◌, ◌++◌, ◌∷◌, [], if◌then◌else◌, IfOk, OnOk};
+ghost use Rattle.std.specs.Fmt.{decimal as digits_of};
 ghost use Rattle.flow_disk.specs.Moments.{LeavesOnly};
+ghost use Rattle.flow_model.specs.declared.transactions.Transaction.{Transaction as TransactionOf};
+ghost use Rattle.flow_core.specs.declared.applying.Note.{Note as NoteOf};
+ghost use Rattle.flow_core.specs.Replies.{applied_text, refusal_text};
 ghost use Rattle.flow_core.specs.Summaries.{summary, next};
+ghost use Rattle.flow_core.specs.Verdicts.{IsNoteOf};
+ghost use Rattle.flow_session.specs.Replying.{IsObeyed, IsReplied, IsDrained, IsTurn, turns_text, full_text};
 ghost use Rattle.flow_session.specs.Serving.{Makes, WithOrWithout};
 ghost use Rattle.flow_session.specs.declared.serving.Stop.TheVariants.{NoMemory};
 
@@ -69,12 +75,16 @@ pub struct Session {
 }
 
 /// A reply of words alone.
-fn words(alloc: Global, text: &[u8]) -> Result<Vec<u8>, Stop> {
+fn words(alloc: Global, text: &[u8]) -> Result<Vec<u8>, Stop>
+    ensures { IfOk result (λ out. out.items ≡ text.now) }
+{
     Ok(Vec::from_slice(alloc, text)?)
 }
 
 /// A reply of words, a number and a line feed.
-fn numbered(alloc: Global, text: &[u8], number: u64) -> Result<Vec<u8>, Stop> {
+fn numbered(alloc: Global, text: &[u8], number: u64) -> Result<Vec<u8>, Stop>
+    ensures { IfOk result (λ out. out.items ≡ text.now ++ digits_of number ++ 10 ∷ []) }
+{
     let mut out = Vec::from_slice(alloc, text)?;
     decimal(&mut out, number)?;
     out.push(b'\n')?;
@@ -82,7 +92,9 @@ fn numbered(alloc: Global, text: &[u8], number: u64) -> Result<Vec<u8>, Stop> {
 }
 
 /// The reply of a refusal.
-fn refused(alloc: Global, refusal: &Refusal) -> Result<Vec<u8>, Stop> {
+fn refused(alloc: Global, refusal: &Refusal) -> Result<Vec<u8>, Stop>
+    ensures { IfOk result (λ out. out.items ≡ refusal_text refusal.now) }
+{
     let mut out = Vec::new(alloc);
     write_refusal(&mut out, refusal)?;
     Ok(out)
@@ -145,6 +157,8 @@ impl Session {
         requires room { self.old.core.number < self.old.core.limit }
         requires open { J.tells → J.holds journal.old (summary self.old.core) }
         ensures made { OnOk result (summary self.new.core ≡ next t (summary self.old.core)) }
+        ensures told { OnOk result ((note : NoteOf) × IsNoteOf self.old.core t note
+            × (out.new.items ≡ out.old.items ++ applied_text (record { number = self.old.core.number + 1; note = note }))) }
         ensures kept { J.tells → OnOk result (J.holds journal.new (summary self.new.core)) }
         ensures any_moment { J.tells → LeavesOnly J.moment J.left_since journal.old journal.new (WithOrWithout t (summary self.old.core)) }
     {
@@ -159,6 +173,7 @@ impl Session {
         requires { J.tells → J.holds journal.old (summary self.old.core) }
         ensures kept { J.tells → OnOk result (J.holds journal.new (summary self.new.core)) }
         ensures makes { Makes J.tells J.moment J.left_since journal.old journal.new (summary self.old.core) (λ s. OnOk result (summary self.new.core ≡ s)) }
+        ensures replied { IfOk result (λ reply. IsObeyed self.old.core self.new.core command.now reply.items) }
     {
         match self.core.judge(command) {
             Ok(Verdict::Do(t)) => {
@@ -177,6 +192,7 @@ impl Session {
         requires { J.tells → J.holds journal.old (summary self.old.core) }
         ensures kept { J.tells → OnOk result (J.holds journal.new (summary self.new.core)) }
         ensures makes { Makes J.tells J.moment J.left_since journal.old journal.new (summary self.old.core) (λ s. OnOk result (summary self.new.core ≡ s)) }
+        ensures turned { IfOk result (λ is_taken. if is_taken then ((t : TransactionOf) × IsTurn t × (summary self.new.core ≡ next t (summary self.old.core))) else (self.new.core ≡ self.old.core)) }
     {
         if !self.core.has_message(queue) {
             return Ok(false);
@@ -193,7 +209,9 @@ impl Session {
     }
 
     /// The reply of a DRAIN that made so many turns.
-    fn drained(&self, turns: u64) -> Result<Vec<u8>, Stop> {
+    fn drained(&self, turns: u64) -> Result<Vec<u8>, Stop>
+        ensures { IfOk result (λ reply. (reply.items ≡ turns_text turns) ⊎ (reply.items ≡ full_text self.now.core.limit turns)) }
+    {
         if self.core.is_quiet() {
             return numbered(self.alloc, b"ok TURNS ", turns);
         }
@@ -210,6 +228,7 @@ impl Session {
         requires { J.tells → J.holds journal.old (summary self.old.core) }
         ensures kept { J.tells → OnOk result (J.holds journal.new (summary self.new.core)) }
         ensures makes { Makes J.tells J.moment J.left_since journal.old journal.new (summary self.old.core) (λ s. OnOk result (summary self.new.core ≡ s)) }
+        ensures replied { IfOk result (λ reply. IsDrained self.old.core self.new.core reply.items) }
     {
         let mut turns = 0u64;
         let mut queue = 1u8;
@@ -233,6 +252,7 @@ impl Session {
         requires { J.tells → J.holds journal.old (summary self.old.core) }
         ensures kept { J.tells → OnOk result (J.holds journal.new (summary self.new.core)) }
         ensures makes { Makes J.tells J.moment J.left_since journal.old journal.new (summary self.old.core) (λ s. OnOk result (summary self.new.core ≡ s)) }
+        ensures same { self.new.core ≡ self.old.core }
     {
         journal.checkpoint(&self.core)?;
         numbered(self.alloc, b"ok CHECKPOINT ", self.core.live().len() as u64)
@@ -248,6 +268,7 @@ impl Session {
         requires { J.tells → J.holds journal.old (summary self.old.core) }
         ensures kept { J.tells → OnOk result (J.holds journal.new (summary self.new.core)) }
         ensures makes { Makes J.tells J.moment J.left_since journal.old journal.new (summary self.old.core) (λ s. OnOk result (summary self.new.core ≡ s)) }
+        ensures replied { IfOk result (λ reply. IsReplied self.old.core self.new.core reply.items) }
     {
         match command {
             Command::Import(_) => {
@@ -269,6 +290,7 @@ impl Session {
         requires { J.tells → J.holds journal.old (summary self.old.core) }
         ensures kept { J.tells → OnOk result (J.holds journal.new (summary self.new.core)) }
         ensures makes { Makes J.tells J.moment J.left_since journal.old journal.new (summary self.old.core) (λ s. OnOk result (summary self.new.core ≡ s)) }
+        ensures replied { IfOk result (λ reply. IsReplied self.old.core self.new.core reply.items) }
     {
         if line.len() > MOST_LINE {
             return words(self.alloc, b"no LINE\n");
@@ -288,6 +310,7 @@ impl Session {
         requires { J.tells → J.holds journal.old (summary self.old.core) }
         ensures kept { J.tells → OnOk result (J.holds journal.new (summary self.new.core)) }
         ensures makes { Makes J.tells J.moment J.left_since journal.old journal.new (summary self.old.core) (λ s. OnOk result (summary self.new.core ≡ s)) }
+        ensures replied { IfOk result (λ reply. IsReplied self.old.core self.new.core reply.items) }
     {
         let Gathered { text, has_long } = gathered;
         if has_long {
@@ -307,6 +330,7 @@ impl Session {
         requires { J.tells → J.holds journal.old (summary self.old.core) }
         ensures kept { J.tells → OnOk result (J.holds journal.new (summary self.new.core)) }
         ensures makes { Makes J.tells J.moment J.left_since journal.old journal.new (summary self.old.core) (λ s. OnOk result (summary self.new.core ≡ s)) }
+        ensures replied { IfOk result (λ reply. IsReplied self.old.core self.new.core reply.items) }
     {
         let mut gathered = gathered;
         match input {
@@ -326,10 +350,15 @@ impl Session {
     }
 
     /// The reply to an input: empty for a line of blanks and comments, inside an IMPORT, and at the end.
+    ///
+    /// A line that can't be read and a command that isn't allowed have their refusal as the reply. `NoMemory` comes
+    /// where there is no memory, `StoreFault` where the journal may not have kept a transaction or a checkpoint;
+    /// then nothing is replied.
     pub fn serve<J: Journal>(&mut self, journal: &mut J, input: Input<'_>) -> Result<Vec<u8>, Stop>
         requires { J.tells → J.holds journal.old (summary self.old.core) }
         ensures kept { J.tells → OnOk result (J.holds journal.new (summary self.new.core)) }
         ensures makes { Makes J.tells J.moment J.left_since journal.old journal.new (summary self.old.core) (λ s. OnOk result (summary self.new.core ≡ s)) }
+        ensures replied { IfOk result (λ reply. IsReplied self.old.core self.new.core reply.items) }
     {
         if let Some(gathered) = self.gathered.take() {
             return self.gather(journal, gathered, input);

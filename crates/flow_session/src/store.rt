@@ -105,7 +105,7 @@ impl<D: Disk + Drop> Stored<D> {
 ///
 /// `StoreFault` comes where the disk failed, or has failed before, and where the payload is longer than a
 /// record or the log is full, which no store of the program is.
-pub fn append<D: Disk>(log: &mut Log, disk: &mut D, payload: &[u8]) -> Result<(), Stop>
+fn append<D: Disk>(log: &mut Log, disk: &mut D, payload: &[u8]) -> Result<(), Stop>
     requires stands { D.tells → StandsOn log.old (D.seen disk.old) }
     ensures stands { OnOk result (D.tells → StandsOn log.new (D.seen disk.new)) }
     ensures added { OnOk result (D.tells → HasRecord payload.now (D.seen disk.old) (D.seen disk.new)) }

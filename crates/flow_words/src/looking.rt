@@ -1,4 +1,10 @@
 //! The words that only look into a store: `explain`, `verify` and `overdue`.
+ghost use Rattle.std.specs.Prelude.{◌≡◌, true, false, IfErr, MatchResult, if◌then◌else◌};
+ghost use Rattle.flow_disk.specs.Moments.{Only};
+ghost use Rattle.flow_session.specs.Runs.{KeepsStore};
+ghost use Rattle.flow_words.specs.Crashes.{IsFailing};
+ghost use Rattle.flow_words.specs.declared.status.Status.TheVariants.{Done as DoneStatus, Refused as RefusedStatus};
+
 use crate::input::all_lines;
 use crate::script::{line_status, print};
 use crate::status::Status;
@@ -12,7 +18,9 @@ use flow_session::reopen;
 use std::alloc::Global;
 
 /// Prints an answer, and says whether it is a refusal.
-pub fn print_answer<K: Sink>(out: &mut K, text: &[u8], is_refused: bool) -> Result<Status, Status> {
+pub fn print_answer<K: Sink>(out: &mut K, text: &[u8], is_refused: bool) -> Result<Status, Status>
+    ensures { MatchResult result (λ status. status ≡ (if is_refused then RefusedStatus else DoneStatus)) IsFailing }
+{
     print(out, text)?;
     Ok(if is_refused {
         Status::Refused
@@ -33,7 +41,9 @@ pub fn explain_in<K: Sink, D: Disk>(
     activity: &[u8],
     out: &mut K,
     disk: &mut D,
-) -> Result<Status, Status> {
+) -> Result<Status, Status>
+    ensures { D.tells → Only (D.seen disk.old) (D.images disk.old) → KeepsStore D.moment D.left_since D.seen disk.old disk.new }
+{
     if activity_in(alloc, activity)?.is_none() {
         return print_usage(out);
     }
@@ -68,7 +78,9 @@ pub fn verify_in<S: Source, K: Sink, D: Disk>(
     src: &mut S,
     out: &mut K,
     disk: &mut D,
-) -> Result<Status, Status> {
+) -> Result<Status, Status>
+    ensures { D.tells → Only (D.seen disk.old) (D.images disk.old) → KeepsStore D.moment D.left_since D.seen disk.old disk.new }
+{
     match reopen(alloc, disk) {
         Err(stop) => refuse(alloc, out, &stop),
         Ok((session, _log)) => verify_over(alloc, session.core(), src, out),
@@ -80,7 +92,9 @@ pub fn overdue_in<K: Sink, D: Disk>(
     alloc: Global,
     out: &mut K,
     disk: &mut D,
-) -> Result<Status, Status> {
+) -> Result<Status, Status>
+    ensures { D.tells → Only (D.seen disk.old) (D.images disk.old) → KeepsStore D.moment D.left_since D.seen disk.old disk.new }
+{
     match reopen(alloc, disk) {
         Err(stop) => refuse(alloc, out, &stop),
         Ok((session, _log)) => {

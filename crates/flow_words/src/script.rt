@@ -1,6 +1,8 @@
 //! A script served line by line, each reply printed before the next line is read.
 ghost use Rattle.std.specs.Prelude.{◌≡◌, ℕ, MatchResult, IfErr, OnOk};
 ghost use Rattle.flow_core.specs.Summaries.{summary};
+ghost use Rattle.flow_session.specs.Serving.{Makes};
+ghost use Rattle.flow_words.specs.Crashes.{IsFailing};
 ghost use Rattle.flow_words.specs.Endings.{PrintCause, RunCause, status_of};
 
 use crate::input::MOST_BYTES;
@@ -12,7 +14,8 @@ use std::alloc::Global;
 
 /// Prints a text.
 pub fn print<K: Sink>(out: &mut K, text: &[u8]) -> Result<(), Status>
-    ensures { MatchResult result (λ _. K.faults out.new ≡ K.faults out.old) (PrintCause (K.faults out.old) (K.faults out.new)) }
+    ensures cause { MatchResult result (λ _. K.faults out.new ≡ K.faults out.old) (PrintCause (K.faults out.old) (K.faults out.new)) }
+    ensures fails { IfErr result IsFailing }
 {
     match put_all(out, text) {
         Ok(()) => Ok(()),
@@ -22,7 +25,8 @@ pub fn print<K: Sink>(out: &mut K, text: &[u8]) -> Result<(), Status>
 
 /// The status of a session that stops.
 pub fn stop_status(stop: Stop) -> Status
-    ensures { (before now : ℕ) → PrintCause before now result }
+    ensures cause { (before now : ℕ) → PrintCause before now result }
+    ensures fails { IsFailing result }
 {
     match stop {
         Stop::StoreFault => Status::StoreFault,
@@ -32,7 +36,8 @@ pub fn stop_status(stop: Stop) -> Status
 
 /// The status of a reader of lines that stops.
 pub fn line_status(stop: IoStop) -> Status
-    ensures { result ≡ status_of stop }
+    ensures status { result ≡ status_of stop }
+    ensures fails { IsFailing result }
 {
     match stop {
         IoStop::ReadFault => Status::ReadFault,
@@ -50,6 +55,8 @@ fn serve_one<J: Journal, K: Sink>(
 ) -> Result<(), Status>
     requires open { J.tells → J.holds journal.old (summary session.old.core) }
     ensures kept { J.tells → OnOk result (J.holds journal.new (summary session.new.core)) }
+    ensures makes { Makes J.tells J.moment J.left_since journal.old journal.new (summary session.old.core) (λ s. OnOk result (summary session.new.core ≡ s)) }
+    ensures fails { IfErr result IsFailing }
     ensures cause { MatchResult result (λ _. K.faults out.new ≡ K.faults out.old) (PrintCause (K.faults out.old) (K.faults out.new)) }
 {
     match session.serve(journal, input) {
@@ -74,6 +81,8 @@ pub fn serve_all<S: Source, K: Sink, J: Journal>(
 ) -> Result<(), Status>
     requires open { J.tells → J.holds journal.old (summary session.old.core) }
     ensures kept { J.tells → OnOk result (J.holds journal.new (summary session.new.core)) }
+    ensures makes { Makes J.tells J.moment J.left_since journal.old journal.new (summary session.old.core) (λ s. OnOk result (summary session.new.core ≡ s)) }
+    ensures fails { IfErr result IsFailing }
     ensures cause { IfErr result (RunCause (S.faults src.old) (S.faults src.new) (K.faults out.old) (K.faults out.new)) }
 {
     let mut lines = match Lines::new(alloc, MOST_BYTES) {

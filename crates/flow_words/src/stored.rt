@@ -1,6 +1,14 @@
 //! The words over a store in two files, and the two that make and serve one: `new` and `run`.
+ghost use Rattle.std.specs.Prelude.{◌≡◌, IfErr, IsOk, MatchResult};
+ghost use Rattle.flow_disk.specs.Images.{Image};
+ghost use Rattle.flow_disk.specs.Moments.{Only};
 ghost use Rattle.flow_core.specs.Summaries.{summary};
+ghost use Rattle.flow_session.specs.Histories.{StandsFor};
 ghost use Rattle.flow_session.specs.Keeping.{IsOpen};
+ghost use Rattle.flow_session.specs.Runs.{KeepsStore, KeepsOrServes};
+ghost use Rattle.flow_session.specs.Serving.{Makes};
+ghost use Rattle.flow_words.specs.Crashes.{IsFailing, EndsDone, MakesStore, MakesKeepsOrServes};
+ghost use Rattle.flow_words.specs.declared.status.Status.TheVariants.{Done as DoneStatus};
 
 use crate::following::{follow_into, ship_from};
 use crate::looking::{explain_in, overdue_in, verify_in};
@@ -18,26 +26,32 @@ use txn_log::{Log, LogStop};
 /// The greatest number that a stream is shipped from: the greatest limit of a store.
 const MOST_NUMBER: u64 = 10_000_000;
 
-/// A word over a store.
+/// A word that only looks into a store.
 #[derive(Clone, Copy)]
-enum Word {
-    New(Settings),
-    Run,
+enum Look {
     /// With the activity as the last word.
     Explain,
     Verify,
     Overdue,
     Ship(u64),
+}
+
+/// A word over a store.
+#[derive(Clone, Copy)]
+enum Word {
+    New(Settings),
+    Run,
     Follow,
+    Look(Look),
 }
 
 /// The word over a store that has no words behind its two files.
 fn short_word(word: &str) -> Option<Word> {
     match word {
         "run" => Some(Word::Run),
-        "verify" => Some(Word::Verify),
-        "overdue" => Some(Word::Overdue),
         "follow" => Some(Word::Follow),
+        "verify" => Some(Word::Look(Look::Verify)),
+        "overdue" => Some(Word::Look(Look::Overdue)),
         _ => None,
     }
 }
@@ -49,8 +63,11 @@ fn store_word(word: &str, rest: &[String]) -> Option<Word> {
     }
     match rest {
         [] => short_word(word),
-        [from] if word == "ship" => Some(Word::Ship(number_in(from.as_str(), 0, MOST_NUMBER)?)),
-        [_] if word == "explain" => Some(Word::Explain),
+        [from] if word == "ship" => {
+            let from = number_in(from.as_str(), 0, MOST_NUMBER)?;
+            Some(Word::Look(Look::Ship(from)))
+        }
+        [_] if word == "explain" => Some(Word::Look(Look::Explain)),
         _ => None,
     }
 }
@@ -102,7 +119,9 @@ fn stop_text(alloc: Global, stop: &LogStop) -> Result<Option<Vec<u8>>, AllocErro
 }
 
 /// Prints why a store isn't opened.
-pub fn refuse<K: Sink>(alloc: Global, out: &mut K, stop: &LogStop) -> Result<Status, Status> {
+pub fn refuse<K: Sink>(alloc: Global, out: &mut K, stop: &LogStop) -> Result<Status, Status>
+    ensures { MatchResult result IsFailing IsFailing }
+{
     match stop_text(alloc, stop) {
         Err(_) => Err(Status::NoMemory),
         Ok(Some(text)) => {
@@ -122,7 +141,9 @@ fn make<K: Sink, D: Disk>(
     settings: Settings,
     out: &mut K,
     disk: &mut D,
-) -> Result<Status, Status> {
+) -> Result<Status, Status>
+    ensures { D.tells → Only (D.seen disk.old) (D.images disk.old) → MakesStore D.moment D.left_since D.seen D.images disk.old disk.new (EndsDone result) }
+{
     let (queues, limit) = (settings.queues, settings.limit);
     if queues < 1 || queues > 16 || limit < 1 || limit > 10_000_000 {
         return Err(Status::Usage);
@@ -136,7 +157,7 @@ fn make<K: Sink, D: Disk>(
     }
 }
 
-/// Serves a script over an opened store.
+/// Serves a script over an opened store, and gives the disk back.
 fn serve_store<S: Source, K: Sink, D: Disk + Drop>(
     alloc: Global,
     session: Session,
@@ -144,50 +165,95 @@ fn serve_store<S: Source, K: Sink, D: Disk + Drop>(
     src: &mut S,
     out: &mut K,
     disk: D,
-) -> Result<Status, Status>
+) -> (Result<(), Status>, D)
     requires open { D.tells → IsOpen D.seen D.images log disk (summary session.core) }
+    ensures makes { Makes D.tells D.moment D.left_since disk result.1 (summary session.core) (λ s. IsOk result.0 → D.tells → (c : Image) → D.images result.1 c → StandsFor s c) }
+    ensures fails { IfErr result.0 IsFailing }
 {
     let mut session = session;
     let mut journal = Stored::new(alloc, log, disk);
-    serve_all(alloc, &mut session, &mut journal, src, out)?;
-    Ok(Status::Done)
+    let served = serve_all(alloc, &mut session, &mut journal, src, out);
+    (served, journal.into_disk())
 }
 
-/// Opens a store and serves a script over it.
+/// Opens a store, serves a script over it, and gives the disk back.
 fn run_script<S: Source, K: Sink, D: Disk + Drop>(
     alloc: Global,
     src: &mut S,
     out: &mut K,
     disk: D,
-) -> Result<Status, Status> {
+) -> (Result<Status, Status>, D)
+    ensures { D.tells → Only (D.seen disk) (D.images disk) → KeepsOrServes D.tells D.moment D.left_since D.seen D.images disk result.1 (EndsDone result.0) }
+{
     let mut disk = disk;
     match reopen(alloc, &mut disk) {
-        Err(stop) => refuse(alloc, out, &stop),
-        Ok((session, log)) => serve_store(alloc, session, log, src, out, disk),
+        Err(stop) => (refuse(alloc, out, &stop), disk),
+        Ok((session, log)) => match serve_store(alloc, session, log, src, out, disk) {
+            (Ok(()), disk) => (Ok(Status::Done), disk),
+            (Err(status), disk) => (Err(status), disk),
+        },
     }
 }
 
-/// Does what the words say: all that the program does.
+/// Looks into a store.
+fn look_into<S: Source, K: Sink, D: Disk>(
+    alloc: Global,
+    look: Look,
+    words: &[String],
+    src: &mut S,
+    out: &mut K,
+    disk: &mut D,
+) -> Result<Status, Status>
+    ensures { D.tells → Only (D.seen disk.old) (D.images disk.old) → KeepsStore D.moment D.left_since D.seen disk.old disk.new }
+{
+    match look {
+        Look::Explain => explain_in(alloc, last_word(words), out, disk),
+        Look::Verify => verify_in(alloc, src, out, disk),
+        Look::Overdue => overdue_in(alloc, out, disk),
+        Look::Ship(from) => ship_from(alloc, from, out, disk),
+    }
+}
+
+/// Does what a word over a store says, and gives the disk back.
+fn obey<S: Source, K: Sink, D: Disk + Drop>(
+    alloc: Global,
+    word: Word,
+    words: &[String],
+    src: &mut S,
+    out: &mut K,
+    disk: D,
+) -> (Result<Status, Status>, D)
+    ensures { D.tells → Only (D.seen disk) (D.images disk) → MakesKeepsOrServes D.tells D.moment D.left_since D.seen D.images disk result.1 (EndsDone result.0) }
+{
+    let mut disk = disk;
+    match word {
+        Word::New(settings) => (make(alloc, settings, out, &mut disk), disk),
+        Word::Run => run_script(alloc, src, out, disk),
+        Word::Follow => follow_into(alloc, src, out, disk),
+        Word::Look(look) => (look_into(alloc, look, words, src, out, &mut disk), disk),
+    }
+}
+
+/// Does what the words say: all that the program does. The disk is given back.
+///
+/// Of a disk on which nothing is unsynced, a crash at any moment of the call leaves what was there; or, under
+/// `new`, where no store was there, none or the new one; or, under `run` and `follow`, a store that stands for
+/// the history before with some of the transactions that the call makes, from the first on. Where the
+/// status is `Done`, it leaves the new store, or the history with all of them.
 pub fn run<S: Source, K: Sink, D: Disk + Drop>(
     alloc: Global,
     words: &[String],
     src: &mut S,
     out: &mut K,
     disk: D,
-) -> Status {
-    let mut disk = disk;
-    let done = match word_of(words) {
-        None => return run_pure(alloc, words, src, out),
-        Some(Word::New(settings)) => make(alloc, settings, out, &mut disk),
-        Some(Word::Run) => run_script(alloc, src, out, disk),
-        Some(Word::Explain) => explain_in(alloc, last_word(words), out, &mut disk),
-        Some(Word::Verify) => verify_in(alloc, src, out, &mut disk),
-        Some(Word::Overdue) => overdue_in(alloc, out, &mut disk),
-        Some(Word::Ship(from)) => ship_from(alloc, from, out, &mut disk),
-        Some(Word::Follow) => follow_into(alloc, src, out, disk),
+) -> (Status, D)
+    ensures { D.tells → Only (D.seen disk) (D.images disk) → MakesKeepsOrServes D.tells D.moment D.left_since D.seen D.images disk result.1 (result.0 ≡ DoneStatus) }
+{
+    let Some(word) = word_of(words) else {
+        return (run_pure(alloc, words, src, out), disk);
     };
-    match done {
-        Ok(status) => status,
-        Err(status) => status,
+    match obey(alloc, word, words, src, out, disk) {
+        (Ok(status), disk) => (status, disk),
+        (Err(status), disk) => (status, disk),
     }
 }

@@ -1,5 +1,5 @@
 -- What a store that follows does to its disk.
-use Rattle.std.proofs.Common.{◌≡◌, ◌⊎◌, inl, inr, ℕ, ◌+◌, ◌<◌, Result, Ok, Err, OnOk, IsOk, ap, subst, ◌∙◌, sym, arith}
+use Rattle.std.proofs.Common.{◌≡◌, ◌⊎◌, inl, inr, ℕ, ◌+◌, ◌<◌, ap, arith}
 use Rattle.std.proofs.lemmas.Bool.{lt-leb}
 use Rattle.flow_disk.specs.Images.{Image}
 use Rattle.flow_model.specs.declared.transactions.Numbered.{Numbered}
@@ -20,15 +20,3 @@ untouched tells moment left_since seen images only_now log disk s IsEnd is ended
 pub next_one : (kept : ℕ) (s : Summary) (n : Numbered) → s.transactions < n.number → Follows kept s n → (n.number ≡ s.transactions + 1) × (taken_up kept n s ≡ next n.transaction s)
 next_one kept s n lt (inl f) = absurd (omega (arith, lt, f.0, f.1))
 next_one kept s n lt (inr f) = (f.1, rw (lt-leb n.number kept f.0) (ap (λ k. with_transaction k k n.transaction s) f.1))
-
-on_ok : {T E : Type 0} (r : Result T E) (P : Type 0) → IsOk r → OnOk r P → P
-on_ok (Ok v) P ok p = p
-on_ok (Err e) P ok p = absurd (cc)
-
--- a store that has followed to the end: every image stands for the summary after all that was taken
-pub followed_to_end : {D T E : Type 0} (tells : Type 0) (moment : D → ℕ) (left_since : D → ℕ → Image → Type 0) (seen : D → Image) (images : D → Image → Type 0) (log : Log) (old new : D) (s now : Summary) (r : Result T E) → OnOk r (tells → IsOpen seen images log new now) → Makes tells moment left_since old new s (λ x. OnOk r (now ≡ x)) → Makes tells moment left_since old new s (λ x. IsOk r → tells → (c : Image) → images new c → StandsFor x c)
-followed_to_end tells moment left_since seen images log old new s now r is makes = record {
-  transactions = makes.transactions;
-  any_moment = makes.any_moment;
-  ended = λ ok told c left. subst (λ x. StandsFor x c) (on_ok r _ ok makes.ended) (rests seen images log new now c (on_ok r _ ok is told) left);
-}
