@@ -33,7 +33,7 @@ pub record IsDrawn (elements : List ElementTree) (line : DataLine) : Type 0 wher
 abbrev pub IsLaidAlone : Graph → Type 0
 IsLaidAlone g = (depth : ℕ) → Laid [] depth g
 
--- what is run inside a block is laid
+-- the graph of a block is laid
 abbrev pub IsLaidInside : Work → Type 0
 IsLaidInside work = (g : Graph) → graph_in [] work ≡ Some g → IsLaidAlone g
 
@@ -45,6 +45,7 @@ AreLaidAlone ts = All (λ t. IsLaidAlone t.graph) ts
 abbrev pub IsSound : List ElementTree → Type 0
 IsSound elements = (depth : ℕ) → JudgedTo depth elements
 
+-- if an activity is a block, its graph is sound, and so are those inside
 abbrev pub IsSoundInside : ActivityTree → Type 0
 IsSoundInside a = (inner : List ElementTree) → IsBlockOf a inner → IsSound inner
 

@@ -20,40 +20,49 @@ use Rattle.template_check.specs.ClosedWalks.{IsAcyclic}
 
 -- ---- the elements by kind
 
+-- the activity that an element is
 abbrev pub activity_of : ElementTree → Option ActivityTree
 activity_of (Activity' place work name input output attrs end) = Some (record { place = place; work = work; name = name; input = input; output = output; attrs = attrs; end = end })
 activity_of (Control c) = None
 activity_of (Line l) = None
 
+-- the connector that an element is
 abbrev pub control_of : ElementTree → Option ControlTree
 control_of (Activity' place work name input output attrs end) = None
 control_of (Control c) = Some c
 control_of (Line l) = None
 
+-- the data line that an element is
 abbrev pub line_of : ElementTree → Option DataTree
 line_of (Activity' place work name input output attrs end) = None
 line_of (Control c) = None
 line_of (Line l) = Some l
 
+-- the activities of a graph, in the order of the text
 abbrev pub activities_in : List ElementTree → List ActivityTree
 activities_in = filter_map activity_of
 
+-- its connectors, in the order of the text
 abbrev pub controls_in : List ElementTree → List ControlTree
 controls_in = filter_map control_of
 
+-- its data lines, in the order of the text
 abbrev pub lines_in : List ElementTree → List DataTree
 lines_in = filter_map line_of
 
+-- the process that an item is
 abbrev pub process_of : ItemTree → Option ProcessTree
 process_of (item.Structure s) = None
 process_of (item.Person p) = None
 process_of (item.Process p) = Some p
 
+-- the processes of a text, in order
 abbrev pub processes_in : List ItemTree → List ProcessTree
 processes_in = filter_map process_of
 
 -- ---- what names stand for
 
+-- the place of the first element that passes
 abbrev pub first_place : {X : Type 0} → (X → Bool) → List X → Option ℕ
 first_place test [] = None
 first_place test (x ∷ xs) = if test x then Some 0 else option_map (λ place. place + 1) (first_place test xs)
@@ -66,6 +75,7 @@ AreNumbered activities numbers = (key : List ℕ) → hash.get_by (λ k. bytes_e
 abbrev pub number_in : List ElementTree → List ℕ → Option ℕ
 number_in elements name = first_place (λ a. bytes_eq a.name.name name) (activities_in elements)
 
+-- two numbers, where both are there
 abbrev pub pair_of : Option ℕ → Option ℕ → Option (ℕ × ℕ)
 pair_of None to = None
 pair_of (Some a) None = None
