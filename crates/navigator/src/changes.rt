@@ -15,7 +15,7 @@ ghost use Rattle.flow_model.specs.declared.graphs.Graph.{Graph as Process, out-G
 ghost use Rattle.flow_model.specs.declared.instances.Message.TheVariants.{Begin};
 ghost use Rattle.flow_model.specs.declared.instances.SourceEnd.TheVariants.{Dead, Finished};
 ghost use Rattle.navigator.specs.Steps.{fields, told, with_state, settled, end_after, tell_settled, changed_at, ready_state, completed_state, dead_state, finished_state, dies, finishes, ready_item, given_by, Begins, Opens, Decides, AreTallied, BeginsAll, TakesValue, TakesSignal, Completes, EndsAttempt};
-ghost use Rattle.navigator.specs.Events.{IsUsable, Receives, ChangesScope, ChangesState, ChangesAt};
+ghost use Rattle.navigator.specs.Events.{happening, nothing, IsUsable, Receives, ChangesScope, ChangesState, ChangesAt};
 ghost use Rattle.navigator.specs.Reading.{inner_of};
 ghost use Rattle.navigator.specs.declared.scopes.NestedState.{NestedState as Nest, out-NestedState};
 ghost use Rattle.navigator.specs.declared.scopes.ActivityState.{ActivityState as Stands, Program, Nested};
@@ -40,7 +40,9 @@ pub struct Effects {
 }
 
 impl Effects {
-    pub fn new(alloc: Global) -> Effects {
+    pub fn new(alloc: Global) -> Effects
+        ensures { told result ≡ nothing }
+    {
         Effects {
             signals: Vec::new(alloc),
             begins: Vec::new(alloc),
@@ -571,7 +573,7 @@ impl ScopeState {
         event: Event<'_>,
         effects: &mut Effects,
     ) -> Result<(), AllocError>
-        ensures { OnOk result (IsUsable graph.now → Receives with.entry.library.now.templates path.now with.entry.clock event.entry (told effects.old) (told effects.new) graph.now self.old self.new) }
+        ensures { OnOk result (IsUsable graph.now → Receives with.entry.library.now.templates path.now with.entry.clock (happening event.entry) (told effects.old) (told effects.new) graph.now self.old self.new) }
     {
         match event {
             Event::Begin => {
@@ -613,7 +615,7 @@ impl ScopeState {
         event: Event<'_>,
         effects: &mut Effects,
     ) -> Result<(), AllocError>
-        ensures { OnOk result (ChangesAt with.entry.library.now.templates (λ g s t. IsUsable g → Receives with.entry.library.now.templates path.now with.entry.clock event.entry (told effects.old) (told effects.new) g s t) parts.now graph.now self.old self.new) }
+        ensures { OnOk result (ChangesAt with.entry.library.now.templates (λ g s t. IsUsable g → Receives with.entry.library.now.templates path.now with.entry.clock (happening event.entry) (told effects.old) (told effects.new) g s t) parts.now graph.now self.old self.new) }
     {
         match parts {
             [] => {
@@ -639,7 +641,7 @@ impl ScopeState {
         event: Event<'_>,
         effects: &mut Effects,
     ) -> Result<(), AllocError>
-        ensures { OnOk result (ChangesAt with.entry.library.now.templates (λ g s t. IsUsable g → Receives with.entry.library.now.templates path.now with.entry.clock event.entry (told effects.old) (told effects.new) g s t) (part.now ∷ rest.now) graph.now self.old self.new) }
+        ensures { OnOk result (ChangesAt with.entry.library.now.templates (λ g s t. IsUsable g → Receives with.entry.library.now.templates path.now with.entry.clock (happening event.entry) (told effects.old) (told effects.new) g s t) (part.now ∷ rest.now) graph.now self.old self.new) }
     {
         let Some(place) = place_of(graph, &part.name) else {
             return Ok(());
@@ -676,7 +678,7 @@ impl ActivityState {
         event: Event<'_>,
         effects: &mut Effects,
     ) -> Result<(), AllocError>
-        ensures { (n : Nest) → self.old ≡ Nested n → (inner : Scope) → slice_get (out-NestedState n).scopes.items attempt ≡ Some inner → OnOk result (ChangesState (ChangesAt with.entry.library.now.templates (λ g s t. IsUsable g → Receives with.entry.library.now.templates path.now with.entry.clock event.entry (told effects.old) (told effects.new) g s t) rest.now graph.now) attempt inner n self.new) }
+        ensures { (n : Nest) → self.old ≡ Nested n → (inner : Scope) → slice_get (out-NestedState n).scopes.items attempt ≡ Some inner → OnOk result (ChangesState (ChangesAt with.entry.library.now.templates (λ g s t. IsUsable g → Receives with.entry.library.now.templates path.now with.entry.clock (happening event.entry) (told effects.old) (told effects.new) g s t) rest.now graph.now) attempt inner n self.new) }
     {
         match self {
             ActivityState::Program(_) => Ok(()),
@@ -700,7 +702,7 @@ impl NestedState {
         event: Event<'_>,
         effects: &mut Effects,
     ) -> Result<(), AllocError>
-        ensures { (inner : Scope) → slice_get (out-NestedState self.old).scopes.items attempt ≡ Some inner → OnOk result (ChangesScope (ChangesAt with.entry.library.now.templates (λ g s t. IsUsable g → Receives with.entry.library.now.templates path.now with.entry.clock event.entry (told effects.old) (told effects.new) g s t) rest.now graph.now) attempt inner self.old self.new) }
+        ensures { (inner : Scope) → slice_get (out-NestedState self.old).scopes.items attempt ≡ Some inner → OnOk result (ChangesScope (ChangesAt with.entry.library.now.templates (λ g s t. IsUsable g → Receives with.entry.library.now.templates path.now with.entry.clock (happening event.entry) (told effects.old) (told effects.new) g s t) rest.now graph.now) attempt inner self.old self.new) }
     {
         match self.scopes.get_mut(attempt) {
             None => Ok(()),

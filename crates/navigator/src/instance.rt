@@ -1,11 +1,13 @@
 //! A root instance.
-ghost use Rattle.std.specs.Prelude.{◌≡◌, true, false, ◌==◌, ◌&&◌, ℕ, List as Seq, [], slice_get, IfOk, option_copied, option_map, option_and_then};
+ghost use Rattle.std.specs.Prelude.{◌∷◌, ◌++◌, ◌≡◌, true, false, ◌==◌, ◌&&◌, ℕ, List as Seq, [], slice_get, IfOk, option_copied, option_map, option_and_then, Some};
 ghost use Rattle.activity_states.specs.States.{fate_of, hold_of};
 ghost use Rattle.flow_model.specs.Scopes.{Known, tree_ends};
 ghost use Rattle.flow_model.specs.ScopeContainers.{graph_of as template_graph, is_complete as all_settled};
 ghost use Rattle.flow_model.specs.declared.graphs.Container.{Container as Values};
 ghost use Rattle.flow_model.specs.declared.graphs.Graph.{Graph as Process, out-Graph};
 ghost use Rattle.flow_model.specs.declared.graphs.Template.{Template};
+ghost use Rattle.flow_model.specs.declared.instances.Part.{Part as Step};
+ghost use Rattle.navigator.specs.Events.{Completes, happening, Happens, Takes};
 ghost use Rattle.navigator.specs.Instances.{mode_of, Starts};
 ghost use Rattle.navigator.specs.Items.{stand, entry_of, attempts_in as attempts_of_fate, entry_of_state, entry_here, entry_at, phase_of};
 ghost use Rattle.navigator.specs.Views.{Shows};
@@ -210,14 +212,18 @@ impl Instance {
         with: Context<'x>,
         path: &Path,
         event: Event<'_>,
-    ) -> Result<(List<Message>, Vec<Path>), AllocError> {
+    ) -> Result<(List<Message>, Vec<Path>), AllocError>
+        ensures { IfOk result (λ given. (g : Process) → template_graph with.entry.library.now.templates self.old.template ≡ Some g → Happens with.entry.library.now.templates path.now with.entry.clock (happening event.entry) g self.old.scope self.new.scope given.0 given.1.items) }
+    {
         let mut effects = Effects::new(with.alloc);
-        if let Some(graph) = self.graph(with.library) {
-            let parts = path.parts.as_slice();
-            self.scope
-                .change(with, graph, path, parts, event, &mut effects)?;
-        }
-        messages_of(with.alloc, effects)
+        let Some(graph) = self.graph(with.library) else {
+            return messages_of(with.alloc, effects);
+        };
+        let parts = path.parts.as_slice();
+        self.scope
+            .change(with, graph, path, parts, event, &mut effects)?;
+        let given = messages_of(with.alloc, effects)?;
+        Ok(given)
     }
 
     /// Takes a message: the messages that the turn puts, and the items that came to be ready.
@@ -227,7 +233,9 @@ impl Instance {
         library: &Library,
         clock: u64,
         message: &Message,
-    ) -> Result<(List<Message>, Vec<Path>), AllocError> {
+    ) -> Result<(List<Message>, Vec<Path>), AllocError>
+        ensures { self.old.terminated ≡ false → IfOk result (λ given. (g : Process) → template_graph library.now.templates self.old.template ≡ Some g → Takes library.now.templates clock message.now g self.old.scope self.new.scope given.0 given.1.items) }
+    {
         if self.terminated {
             return Ok((List::new(alloc), Vec::new(alloc)));
         }
@@ -260,7 +268,9 @@ impl Instance {
         item: &Path,
         output: Container,
         performer: Option<Name>,
-    ) -> Result<(List<Message>, Vec<Path>), AllocError> {
+    ) -> Result<(List<Message>, Vec<Path>), AllocError>
+        ensures { IfOk result (λ given. (g : Process) → template_graph library.now.templates self.old.template ≡ Some g → (parts : Seq Step) → (q : Step) → item.now.parts ≡ parts ++ q ∷ [] → Happens library.now.templates (record { root = item.now.root; parts = parts }) clock (Completes q.name (record { output = output; performer = performer })) g self.old.scope self.new.scope given.0 given.1.items) }
+    {
         let with = Context {
             alloc,
             library,
@@ -303,7 +313,9 @@ impl Instance {
 }
 
 /// The path of a scope.
-fn path_of_parts(alloc: Global, root: u64, parts: &[Part]) -> Result<Path, AllocError> {
+fn path_of_parts(alloc: Global, root: u64, parts: &[Part]) -> Result<Path, AllocError>
+    ensures { IfOk result (λ p. p ≡ record { root = root; parts = parts.now }) }
+{
     let mut copies = List::new(alloc);
     for part in parts {
         copies.push(part.copy(alloc)?)?;

@@ -2,7 +2,7 @@ use Rattle.std.proofs.Common.{◌≡◌, List, Some, refl, subst}
 use Rattle.std.specs.Prelude.{slice_get}
 use Rattle.flow_model.specs.declared.graphs.Graph.{Graph}
 use Rattle.flow_model.specs.declared.instances.Part.{Part}
-use Rattle.navigator.specs.Events.{IsUsable, Receives, ChangesAt}
+use Rattle.navigator.specs.Events.{happening, IsUsable, Receives, ChangesAt}
 use Rattle.navigator.specs.Steps.{told}
 use Rattle.navigator.specs.declared.scopes.ActivityState.{Nested}
 use Rattle.navigator.specs.declared.scopes.NestedState.{out-NestedState, out-roll-NestedState}
@@ -31,7 +31,7 @@ ScopeState::change-returns-in_ok-change_inside-in-len1-up t c =
     let parts = first_and_rest c.args.parts.now c.part-item.result c.in-len1-up.len_at_least c.part-item.is in
     let ts = c.args.with.library.now.templates in
     let change = λ (g : Graph) (s s' : ScopeState). IsUsable g
-    → Receives ts c.args.path.now c.args.with.clock c.args.event (told c.args.effects.now) (told c.change_inside.new.effects) g s s' in
+    → Receives ts c.args.path.now c.args.with.clock (happening c.args.event) (told c.args.effects.now) (told c.change_inside.new.effects) g s s' in
     subst (λ (ps : List Part). ChangesAt ts change ps c.args.graph.now c.args.self.now c.change_inside.new.self) parts c.in_ok-change_inside-in-len1-up.ensures
 
 pub ScopeState::change_inside-returns-in_ok-change_inner-in-Some-get_mut : goal.ScopeState::change_inside-returns-in_ok-change_inner-in-Some-get_mut
