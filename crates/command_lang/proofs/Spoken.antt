@@ -1,11 +1,11 @@
 -- The tokens of a line up to the end of its last token are those of the line.
-use Rattle.std.proofs.Common.{◌≡◌, ℕ, zero, suc, ◌+◌, ◌-◌, ◌≤◌, ◌<◌, List, [], ◌∷◌, length, take, drop, map, Option, Some, None, refl, ap, sym, subst, ◌∙◌, ◌^◌, min, inl, inr, arith}
+use Rattle.std.proofs.Common.{◌≡◌, ℕ, suc, ◌+◌, ◌-◌, ◌≤◌, ◌<◌, List, [], ◌∷◌, length, take, drop, Some, refl, ap, sym, subst, ◌∙◌, ◌^◌, min, inl, inr, arith}
 use Rattle.std.specs.Prelude.{slice_range, slice_get}
 use Rattle.std.specs.Option.{option_map_or}
 use Rattle.std.proofs.lemmas.List.{take-take, drop-take}
 use Rattle.fdl_lexer.specs.declared.kinds.Token.{Token}
 use Rattle.fdl_lexer.specs.Tokens.{AreTokens, Scans}
-use Rattle.fdl_parser.specs.Tokens.{Tokens, Spelled, spelled, spell, Reading, reading, IsRest, Unread, StaysWithin, place_in}
+use Rattle.fdl_parser.specs.Tokens.{Tokens, Spelled, spelled, spell, Reading, reading, Unread, StaysWithin}
 use Rattle.fdl_parser.specs.Faults.{Names, NamesOne}
 use Rattle.fdl_parser.specs.declared.cursor.SyntaxFault.{SyntaxFault}
 use Rattle.fdl_parser.specs.declared.cursor.SyntaxFault.TheVariants.{At, NoMemory}

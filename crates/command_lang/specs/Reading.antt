@@ -63,6 +63,16 @@ abbrev pub SaysCompletion : List ℕ → Option Completion → Type 0
 SaysCompletion line None = Unit {0}
 SaysCompletion line (Some completion) = (tokens : List Token) × AreLineTokens line tokens × IsCompletion completion (spell line tokens)
 
+-- the line says no other command, and none where this is none
+abbrev pub IsOnlyCommand : List ℕ → Option Command → Type 0
+IsOnlyCommand line None = (other : Command) → SaysCommand line (Some other) → ⊥
+IsOnlyCommand line (Some command) = (other : Command) → SaysCommand line (Some other) → other ≡ command
+
+-- nor completion
+abbrev pub IsOnlyCompletion : List ℕ → Option Completion → Type 0
+IsOnlyCompletion line None = (other : Completion) → SaysCompletion line (Some other) → ⊥
+IsOnlyCompletion line (Some completion) = (other : Completion) → SaysCompletion line (Some other) → other ≡ completion
+
 -- the fault names the place of one of the tokens, or the place behind the last one
 abbrev pub NamesToken : List ℕ → CommandFault → Type 0
 NamesToken line (Word place) =

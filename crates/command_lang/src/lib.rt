@@ -1,7 +1,7 @@
 //! Which command, or which completion, does a line say?
 //!
 //! Knows the words of commands and the tokens of lines, not whether a command is allowed. Begin with
-//! [`read_command`] and `specs/Reading.antt`; `grammar` has the commands one by one.
+//! [`read_command`] and `specs/Reading.antt`; `specs/Grammar.antt` has the commands one by one.
 #![tactic(auto)]
 
 mod grammar;

@@ -1,7 +1,7 @@
 //! From the bytes of a line to what it says. Places are counted from 1.
 ghost use Rattle.std.specs.Prelude.{◌≡◌, ◌≤◌, ◌<◌, ◌+◌, ◌-◌, ◌^◌, ℕ, [], Some, None, Err, length, min, IfOk, IfErr, IfSome};
 ghost use Rattle.command_lang.specs.declared.reading.CommandFault.TheVariants.{Word};
-ghost use Rattle.command_lang.specs.Reading.{may_stand as may_stand_test, wrong_byte as wrong_byte_of, spoken_in, AreLineTokens, HasNoTokens, IsReading, SaysCommand, SaysCompletion, IsRefusal};
+ghost use Rattle.command_lang.specs.Reading.{may_stand as may_stand_test, wrong_byte as wrong_byte_of, spoken_in, AreLineTokens, HasNoTokens, IsReading, SaysCommand, SaysCompletion, IsOnlyCommand, IsOnlyCompletion, IsRefusal};
 ghost use Rattle.command_lang.specs.declared.reading.CommandFault.TheVariants.{NoMemory};
 
 use crate::grammar::{command, completion};
@@ -110,6 +110,7 @@ pub fn read_command(alloc: Global, line: &[u8]) -> Result<Option<Command>, Comma
     ensures read { IsReading line.now result }
     ensures byte { (p : ℕ) → wrong_byte_of line.now ≡ Some p → result ≡ Err (Word (p + 1)) }
     ensures says { IfOk result (SaysCommand line.now) }
+    ensures one { IfOk result (IsOnlyCommand line.now) }
     ensures refused { IfErr result (IsRefusal line.now) }
 {
     let tokens = tokens_of(alloc, line)?;
@@ -129,6 +130,7 @@ pub fn read_completion(alloc: Global, line: &[u8]) -> Result<Option<Completion>,
     ensures read { IsReading line.now result }
     ensures byte { (p : ℕ) → wrong_byte_of line.now ≡ Some p → result ≡ Err (Word (p + 1)) }
     ensures says { IfOk result (SaysCompletion line.now) }
+    ensures one { IfOk result (IsOnlyCompletion line.now) }
     ensures refused { IfErr result (IsRefusal line.now) }
 {
     let tokens = tokens_of(alloc, line)?;

@@ -1,19 +1,15 @@
--- An attempt, by the first so many completions, from what is found of its item or of the scope that it runs.
-use Rattle.std.proofs.Common.{◌≡◌, ℕ, suc, ◌+◌, ◌≤◌, ◌<◌, true, false, List, [], ◌∷◌, Option, Some, None, refl, ap, sym, subst, ◌∙◌, ◌⊎◌, inl, inr, arith, append_assoc}
-use Rattle.std.specs.Prelude.{nat_le}
+-- An attempt, by the first so many completions, from what is found of the scope that it runs.
+use Rattle.std.proofs.Common.{◌≡◌, ℕ, suc, ◌≤◌, List, [], ◌∷◌, Option, Some, None, refl, ap, sym, subst, ◌∙◌, inr, append_assoc}
 use Rattle.std.specs.List.{Contains}
 use Rattle.std.specs.Option.{option_map}
-use Rattle.std.proofs.lemmas.Bool.Decides.{leb_tells}
-use Rattle.std.proofs.lemmas.List.Elements.{All-nil, Contains-append_left}
+use Rattle.std.proofs.lemmas.List.Elements.{Contains-append_left}
 use Rattle.flow_model.specs.Containers.{with_return_code}
-use Rattle.flow_model.specs.Fates.{goes_on}
 use Rattle.flow_model.specs.Rows.{rows, rows_below, below}
 use Rattle.flow_model.specs.ScopeContainers.{graph_in}
 use Rattle.flow_model.specs.Scopes.{Runs, at, part, gives, output}
 use Rattle.flow_model.specs.declared.graphs.Activity.{Activity}
 use Rattle.flow_model.specs.declared.graphs.Container.{Container}
 use Rattle.flow_model.specs.declared.graphs.Graph.{Graph}
-use Rattle.flow_model.specs.declared.graphs.Program.{Program as TheProgram}
 use Rattle.flow_model.specs.declared.graphs.Template.{Template}
 use Rattle.flow_model.specs.declared.graphs.Work.{Work, Program, Block', Process}
 use Rattle.flow_model.specs.declared.instances.FateRow.{FateRow}
@@ -22,56 +18,10 @@ use Rattle.flow_model.specs.declared.instances.Path.{Path}
 use Rattle.flow_model.specs.declared.names.Name.{Name}
 use Rattle.fate_eval.specs.Entries.{dated_in, by_then, known_by, known_after}
 use Rattle.fate_eval.specs.Passing.{rows_inside}
-use Rattle.fate_eval.specs.Readiness.{IsShownReady, IsReadyAttempt, IsTimelyProgram, IsTimelyAttempt, IsTimelyScope, IsTimelyPass}
+use Rattle.fate_eval.specs.Timely.{IsShownReady, IsTimelyAttempt, IsTimelyScope, IsTimelyPass}
 use Rattle.fate_eval.specs.declared.accepted.Entry.{Entry}
 use Rattle.fate_eval.proofs.InTurn.{shown_more}
 use Rattle.fate_eval.proofs.Seen.{after_below}
-
-none_some : {X : Type 0} (x : X) → None ≡ Some x → ⊥
-none_some x h = cc
-
--- nothing was given
-pub nothing_timely : (ts : List Template) (depth most : ℕ) (es : List Entry) (s : Path) (activity : Activity) (j : ℕ) (input : Container) (since : ℕ) (out : Option Container) (after : ℕ) (ready : List ℕ)
-    → out ≡ None → after ≡ since → ready ≡ [] → IsTimelyAttempt ts depth most es s activity j input since out after ready
-nothing_timely ts depth most es s activity j input since out after ready none same nil = record {
-  later = omega (arith, same);
-  gave = λ n o is less. absurd (none_some o (sym none ∙ is));
-  each = rw nil (All-nil (λ i. (since ≤ i) × IsReadyAttempt ts depth most es s activity j input i));
-}
-
--- ---- a program
-
-before_it : (i : ℕ) (o : Container) → by_then i (Some (record { after = i + 1; output = o })) ≡ None
-before_it i o = go (leb_tells (i + 1) i)
-  where
-    go : ((nat_le (i + 1) i ≡ true) × (i + 1 ≤ i)) ⊎ ((nat_le (i + 1) i ≡ false) × (i < i + 1)) → by_then i (Some (record { after = i + 1; output = o })) ≡ None
-    go (inl u) = absurd (omega (arith, u.1))
-    go (inr u) = rw u.0 refl
-
-pub gives_own : (ts : List Template) (most : ℕ) (given : List Part → Option Container) (runs : Runs) (name : Name) (work : Work) (p : TheProgram) (j : ℕ) (input : Container)
-    → work ≡ Program p → gives ts (known_by most given) runs name work j input ≡ given (part name j ∷ [])
-gives_own ts most given runs name work p j input is = rw is refl
-
-pub program_timely : (ts : List Template) (depth most : ℕ) (es : List Entry) (s : Path) (activity : Activity) (p : TheProgram) (j : ℕ) (input : Container) (since : ℕ) (out : Option Container) (after : ℕ) (ready : List ℕ)
-    → activity.work ≡ Program p → IsTimelyProgram (dated_in es (part activity.name j ∷ [])) since out after ready
-    → IsTimelyAttempt ts depth most es s activity j input since out after ready
-program_timely ts depth most es s activity p j input since out after ready is found = record {
-  later = found.later;
-  gave = λ n o given less. own n ∙ found.gave n o given less;
-  each = λ x d less.
-      (let here = found.each x d less in (
-        here.0,
-        inl (record {
-          open_ = ap (λ w. goes_on w j) is;
-          none = own _ ∙ ap (by_then _) here.1.1 ∙ before_it _ here.1.0;
-          output = here.1.0;
-          dated = here.1.1;
-        }),
-      ));
-}
-  where
-    own : (n : ℕ) → gives ts (known_after most es n) (output ts depth) activity.name activity.work j input ≡ by_then n (dated_in es (part activity.name j ∷ []))
-    own n = gives_own ts most (λ q. by_then n (dated_in es q)) (output ts depth) activity.name activity.work p j input is
 
 -- ---- a scope
 

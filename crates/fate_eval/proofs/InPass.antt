@@ -25,7 +25,7 @@ use Rattle.flow_model.specs.declared.instances.SourceEnd.TheVariants.{Unsettled}
 use Rattle.blocks_subprocs.specs.Ends.{ends_of}
 use Rattle.fate_laws.specs.Layout.{IsLaid}
 use Rattle.fate_eval.specs.Entries.{dated_in, by_then, known_after}
-use Rattle.fate_eval.specs.Readiness.{IsShownReady, IsTimelyFound, IsTimelyPass, Knows, after_of}
+use Rattle.fate_eval.specs.Timely.{IsShownReady, IsTimelyFound, IsTimelyPass, Knows, after_of}
 use Rattle.fate_eval.specs.declared.accepted.Entry.{Entry}
 use Rattle.fate_eval.proofs.InOrder.{at_other, at_same, rows_at, rows_same, rows_are}
 use Rattle.fate_eval.proofs.InTurn.{shown_more}

@@ -32,7 +32,7 @@ use Rattle.fate_laws.proofs.Lines.{fed_same}
 use Rattle.fate_laws.proofs.Steps.{fed_true}
 use Rattle.fate_eval.specs.Entries.{dated_in, by_then, leads_to, output_in, known_in, known_after}
 use Rattle.fate_eval.specs.Passing.{AreAttempts, rows_inside, rows_by_ends}
-use Rattle.fate_eval.specs.Readiness.{IsShownReady, AreTimely, IsTimelyOpen, IsTimelyFound, Knows, AfterControls, AfterLines, tried_rows}
+use Rattle.fate_eval.specs.Timely.{IsShownReady, AreTimely, IsTimelyOpen, IsTimelyFound, Knows, AfterControls, AfterLines, tried_rows}
 use Rattle.fate_eval.specs.declared.accepted.Entry.{Entry}
 use Rattle.fate_eval.proofs.Behind.{named_same, named_kept}
 use Rattle.fate_eval.proofs.Seen.{named_attempts, outs_same, rows_same}
@@ -83,23 +83,9 @@ module _ (ts : List Template) (depth most : ℕ) (es named : List Entry) (g : Gr
 
 -- ---- what feeds it
 
-no_end : false ≡ true → ⊥
-no_end h = cc
-
 module _ (ts : List Template) (depth most : ℕ) (es : List Entry) (g : Graph) (input : Container) (s : Path) (ends : List SourceEnd) (afters : List ℕ) (a : ℕ) (activity : Activity) where
   abbrev pub known : ℕ → Known
   known n = known_after most es n
-
-  -- nothing comes of an activity that is unsettled, and has no attempts
-  pub unsettled_timely : (since after : ℕ) (e : SourceEnd) (ready : List ℕ) → e ≡ end.Unsettled → ready ≡ []
-      → IsTimelyOpen ts depth most es g input s ends afters a activity since e after ready
-  unsettled_timely since after e ready is none =
-      let never : is_settled e ≡ true → ⊥ = λ settled. no_end (rw is at settled) in
-      record {
-        later = λ settled. absurd (never settled);
-        ending = λ n f knows settled less. absurd (never settled);
-        each = rw none (λ x d less. absurd (omega arith));
-      }
 
   lines_same : (n fed : ℕ) (e : Ends) → is_fed (out-Graph g).lines a (ends_of ends) ≡ true → AfterLines (out-Graph g).lines afters a fed → fed ≤ n → Knows n ends afters e
       → SameLines (out-Graph g).lines a e (ends_of ends)
@@ -167,15 +153,6 @@ module _ (ts : List Template) (depth most : ℕ) (es : List Entry) (g : Graph) (
       ap (joined activity.join) (values_same (known n) (out-Graph g).controls e (ends_of ends) a (out-Graph g).controls same) ∙ is
 
   -- ---- the activity
-
-  pub waiting_timely : (since after : ℕ) (e : SourceEnd) (ready : List ℕ) → e ≡ end.Unsettled → ready ≡ []
-      → IsTimelyFound ts depth most es g input s since ends afters a (Some activity) e after ready
-  waiting_timely since after e ready is none =
-      let never : is_settled e ≡ true → ⊥ = λ settled. no_end (rw is at settled) in
-      record {
-        ending = λ n f knows settled less. absurd (never settled);
-        each = rw none (λ x d less. absurd (omega arith));
-      }
 
   pub dead_timely : (since join after : ℕ) (e : SourceEnd) (ready : List ℕ) → joined activity.join (values (ends_of ends)) ≡ Some false → AfterControls (out-Graph g).controls afters a join
       → after ≡ join → e ≡ end.Dead → ready ≡ [] → IsTimelyFound ts depth most es g input s since ends afters a (Some activity) e after ready

@@ -19,7 +19,7 @@ use Rattle.flow_model.specs.declared.instances.SourceEnd.{SourceEnd}
 use Rattle.flow_model.specs.declared.instances.SourceEnd.TheVariants as end
 use Rattle.fate_eval.specs.Entries.{known_after}
 use Rattle.fate_eval.specs.Passing.{IsAttempt, rows_inside, turn_of}
-use Rattle.fate_eval.specs.Readiness.{IsShownReady, IsReadyAttempt, IsTimelyAttempt, IsTimelyLast, AreTimely, tried_rows}
+use Rattle.fate_eval.specs.Timely.{IsShownReady, IsReadyAttempt, IsTimelyAttempt, IsTimelyLast, AreTimely, tried_rows}
 use Rattle.fate_eval.specs.declared.accepted.Entry.{Entry}
 use Rattle.fate_eval.specs.declared.passes.Turn.TheVariants.{Stops, GoesOn}
 use Rattle.fate_eval.proofs.Turns.{Goes, goes_first, goes_more, goes_stop, rows_cons, tried_from, fate_from}

@@ -14,8 +14,8 @@ use Rattle.flow_model.specs.declared.instances.Part.{Part}
 use Rattle.flow_model.specs.declared.instances.Path.{Path}
 use Rattle.fate_laws.proofs.Items.{parts_one}
 use Rattle.fate_eval.specs.Entries.{dated_in, dated_from, known_after}
-use Rattle.fate_eval.specs.Readiness.{IsShownReady, AreOf, AreReadyIn, IsUnreadyIn, AreMarked}
-use Rattle.fate_eval.specs.Refusals.{IsWithin, IsBehindReady, IsUnready, IsFirstUnready}
+use Rattle.fate_eval.specs.Timely.{IsShownReady}
+use Rattle.fate_eval.specs.Refusals.{AreOf, AreReadyIn, IsUnreadyIn, AreMarked, IsWithin, IsBehindReady, IsUnready, IsFirstUnready}
 use Rattle.fate_eval.specs.declared.results.FateFault.{FateFault}
 use Rattle.fate_eval.specs.declared.results.FateFault.TheVariants.{NotReady, NoMemory}
 use Rattle.fate_laws.proofs.ReadyItems.{ready_is_new}

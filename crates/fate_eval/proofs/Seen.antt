@@ -26,7 +26,7 @@ use Rattle.fate_eval.proofs.Behind.{known_from, outputs_from}
 use Rattle.fate_laws.specs.Layout.{IsLaid, OfInside, Laid, LaidBelow}
 use Rattle.fate_laws.specs.Walks.{IsWired}
 use Rattle.fate_laws.specs.WellFormed.{Well}
-use Rattle.fate_eval.specs.Readiness.{WellBelow}
+use Rattle.fate_eval.specs.Whole.{WellBelow}
 use Rattle.fate_eval.specs.Passing.{AreAttempts, IsOpen, rows_inside}
 use Rattle.fate_eval.specs.declared.accepted.Entry.{Entry}
 

@@ -15,7 +15,7 @@ use Rattle.flow_model.specs.declared.graphs.Control.{Control}
 use Rattle.flow_model.specs.declared.graphs.DataLine.{DataLine}
 use Rattle.flow_model.specs.declared.graphs.MapEnd.{MapEnd}
 use Rattle.flow_model.specs.declared.graphs.MapEnd.TheVariants.{Activity as At}
-use Rattle.fate_eval.specs.Readiness.{after_of, AfterControls, AfterLines}
+use Rattle.fate_eval.specs.Timely.{after_of, AfterControls, AfterLines}
 
 -- one more element
 pub all_more : {X : Type 0} (P Q : X → Type 0) (xs : List X) (i : ℕ) (d : X) → i < length xs → ((y : X) → P y → Q y) → All P (take i xs) → Q (get_or xs i d) → All Q (take (i + 1) xs)

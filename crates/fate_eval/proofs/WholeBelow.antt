@@ -1,4 +1,4 @@
--- An attempt: all that is so after so many completions is found, of its item or of the scope that it runs.
+-- An attempt: all that is so after so many completions is found of the scope that it runs.
 use Rattle.std.proofs.Common.{◌≡◌, ℕ, suc, ◌≤◌, List, [], ◌∷◌, ◌++◌, Option, Some, None, refl, ap, sym, subst, ◌∙◌, ◌⊎◌, inl, inr, append-nil, append_assoc}
 use Rattle.std.specs.Option.{option_map}
 use Rattle.flow_model.specs.Containers.{with_return_code}
@@ -9,7 +9,6 @@ use Rattle.flow_model.specs.Scopes.{Known, at, part, gives, scope_gives, output}
 use Rattle.flow_model.specs.declared.graphs.Activity.{Activity}
 use Rattle.flow_model.specs.declared.graphs.Container.{Container}
 use Rattle.flow_model.specs.declared.graphs.Graph.{Graph}
-use Rattle.flow_model.specs.declared.graphs.Program.{Program as TheProgram}
 use Rattle.flow_model.specs.declared.graphs.Template.{Template}
 use Rattle.flow_model.specs.declared.graphs.Work.{Work, Program, Block', Process}
 use Rattle.flow_model.specs.declared.instances.Fate.TheVariants.{Ready}
@@ -19,9 +18,10 @@ use Rattle.flow_model.specs.declared.instances.Path.{Path}
 use Rattle.flow_model.specs.declared.names.Name.{Name}
 use Rattle.fate_eval.specs.Entries.{dated_in, by_then, known_by, known_after}
 use Rattle.fate_eval.specs.Passing.{rows_inside}
-use Rattle.fate_eval.specs.Readiness.{IsShownReady, IsNested, IsWholeProgram, IsWholeAttempt, IsWholeScope, IsWholePass, IsWholeLast}
+use Rattle.fate_eval.specs.Timely.{IsShownReady}
+use Rattle.fate_eval.specs.Whole.{IsNested, IsWholeAttempt, IsWholeScope, IsWholePass, IsWholeLast}
 use Rattle.fate_eval.specs.declared.accepted.Entry.{Entry}
-use Rattle.fate_eval.proofs.Below.{gives_own, gives_scope}
+use Rattle.fate_eval.proofs.Below.{gives_scope}
 use Rattle.fate_eval.proofs.RowScopes.{rows_under, rest_begins}
 use Rattle.fate_eval.proofs.Seen.{after_below}
 use Rattle.fate_eval.proofs.WholeTurn.{shown_none}
@@ -63,19 +63,6 @@ nothing_whole ts depth most es s activity j input since out after ready nested n
   inside = λ i low shown.
       (let P : List FateRow → Type 0 = λ rows. IsShownReady es s rows i in
       absurd (shown_none es s i (subst P (nothing_below ts depth (known_after most es i) activity j input s (graph_in ts activity.work) none) shown)));
-}
-
--- ---- a program
-
-pub program_whole : (ts : List Template) (depth most : ℕ) (es : List Entry) (s : Path) (activity : Activity) (p : TheProgram) (j : ℕ) (input : Container) (since : ℕ) (out : Option Container) (after : ℕ) (ready : List ℕ)
-    → activity.work ≡ Program p → IsWholeProgram (dated_in es (part activity.name j ∷ [])) since out after ready
-    → IsWholeAttempt ts depth most es s activity j input since out after ready
-program_whole ts depth most es s activity p j input since out after ready is found = record {
-  gave = λ n o low given. found.gave n o low (sym (gives_own ts most (λ q. by_then n (dated_in es q)) (output ts depth) activity.name activity.work p j input is) ∙ given);
-  own = λ i o low ready_ dated. found.own i o low dated;
-  inside = λ i low shown.
-      (let P : List FateRow → Type 0 = λ rows. IsShownReady es s rows i in
-      absurd (shown_none es s i (subst P (nothing_below ts depth (known_after most es i) activity j input s (graph_in ts activity.work) (inl (ap (graph_in ts) is))) shown)));
 }
 
 -- ---- a scope

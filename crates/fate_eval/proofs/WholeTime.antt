@@ -31,7 +31,8 @@ use Rattle.fate_laws.proofs.Lines.{fed_same}
 use Rattle.fate_laws.proofs.Steps.{fed_true}
 use Rattle.fate_eval.specs.Entries.{dated_in, leads_to, known_after}
 use Rattle.fate_eval.specs.Passing.{rows_inside, rows_by_ends, end_by_ends}
-use Rattle.fate_eval.specs.Readiness.{IsShownReady, AreWhole, IsWholeOpen, IsWholeFound, TellsControls, TellsLines, AfterControls, AfterLines}
+use Rattle.fate_eval.specs.Timely.{IsShownReady, AfterControls, AfterLines}
+use Rattle.fate_eval.specs.Whole.{AreWhole, IsWholeOpen, IsWholeFound, TellsControls, TellsLines}
 use Rattle.fate_eval.specs.declared.accepted.Entry.{Entry}
 use Rattle.fate_eval.proofs.Behind.{named_same}
 use Rattle.fate_eval.proofs.InTime.{of_entries, outs_at, rows_at, rows_open}

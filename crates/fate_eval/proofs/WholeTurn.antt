@@ -23,7 +23,8 @@ use Rattle.flow_model.specs.declared.instances.SourceEnd.{SourceEnd}
 use Rattle.flow_model.specs.declared.instances.SourceEnd.TheVariants as end
 use Rattle.fate_eval.specs.Entries.{dated_in, known_after}
 use Rattle.fate_eval.specs.Passing.{AreAttempts, rows_inside, turn_of}
-use Rattle.fate_eval.specs.Readiness.{IsShownReady, IsWholeAttempt, IsWholeLast, IsTimelyAttempt, AreWhole, tried_rows}
+use Rattle.fate_eval.specs.Timely.{IsShownReady, IsTimelyAttempt, tried_rows}
+use Rattle.fate_eval.specs.Whole.{IsWholeAttempt, IsWholeLast, AreWhole}
 use Rattle.fate_eval.specs.declared.accepted.Entry.{Entry}
 use Rattle.fate_eval.specs.declared.passes.Turn.TheVariants.{Stops, GoesOn}
 use Rattle.fate_eval.proofs.Turns.{Goes, goes_first, goes_more, goes_stop, tried_from, fate_from}

@@ -1,4 +1,5 @@
 pub mod Entries
 pub mod Passing
-pub mod Readiness
 pub mod Refusals
+pub mod Timely
+pub mod Whole

@@ -13,8 +13,9 @@ ghost use Rattle.flow_model.specs.declared.instances.SourceEnd.TheVariants.{Unse
 ghost use Rattle.blocks_subprocs.specs.Ends.{ends_of};
 ghost use Rattle.flow_model.specs.Wiring.{IsLooping, IsSinking};
 ghost use Rattle.fate_eval.specs.Entries.{dated_in, output_in, known_in};
-ghost use Rattle.fate_eval.specs.Refusals.{IsWithin, IsBehindReady, IsUnready, IsFirstUnready};
-ghost use Rattle.fate_eval.specs.Readiness.{IsNested, WellBelow, IsWholeProgram, IsWholeAttempt, IsWholeScope, IsWholePass, IsWholeLast, AreWhole, IsWholeOpen, IsWholeFound, IsTimelyProgram, IsTimelyAttempt, IsTimelyScope, IsTimelyPass, IsTimelyLast, AreTimely, IsTimelyOpen, IsTimelyFound, AreOf, AreReadyIn, AreMarked};
+ghost use Rattle.fate_eval.specs.Refusals.{IsWithin, IsBehindReady, IsUnready, IsFirstUnready, AreOf, AreReadyIn, AreMarked};
+ghost use Rattle.fate_eval.specs.Whole.{IsNested, WellBelow, IsWholeProgram, IsWholeAttempt, IsWholeScope, IsWholePass, IsWholeLast, AreWhole, IsWholeOpen, IsWholeFound};
+ghost use Rattle.fate_eval.specs.Timely.{IsTimelyProgram, IsTimelyAttempt, IsTimelyScope, IsTimelyPass, IsTimelyLast, AreTimely, IsTimelyOpen, IsTimelyFound};
 ghost use Rattle.fate_laws.specs.Layout.{IsLaid, OfInside, Laid, LaidBelow};
 ghost use Rattle.fate_laws.specs.WellFormed.{Well};
 ghost use Rattle.fate_eval.specs.Passing.{IsAttempt, IsScopeAttempt, IsLast, AreAttempts, IsOpen, IsFound, IsPassed, AreFates, turn_of};

@@ -10,7 +10,7 @@ ghost use Rattle.flow_model.specs.declared.graphs.Control.{Control as ControlOf}
 ghost use Rattle.flow_model.specs.declared.graphs.DataLine.{DataLine as LineOf};
 ghost use Rattle.flow_model.specs.declared.graphs.Graph.{out-Graph};
 ghost use Rattle.flow_model.specs.declared.graphs.MapEnd.TheVariants.{Activity as At};
-ghost use Rattle.fate_eval.specs.Readiness.{after_of, AfterControls, AfterLines};
+ghost use Rattle.fate_eval.specs.Timely.{after_of, AfterControls, AfterLines};
 
 use dead_paths::{connector_value, row};
 use flow_model::{Control, DataLine, Graph, List, MapEnd, SourceEnd};

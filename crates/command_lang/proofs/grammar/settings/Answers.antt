@@ -1,4 +1,3 @@
-use Rattle.std.proofs.Common.{arith}
 use Rattle.command_lang.specs.Grammar.{FirstSetting, MoreSettings, NoSettings, Settings}
 use Rattle.command_lang.proofs.grammar.settings.Goals as goal
 

@@ -1,3 +1,4 @@
+use Rattle.command_lang.proofs.SameCommands.{one_completion, no_completion, none_of}
 use Rattle.command_lang.proofs.Spoken.{says_completion, refused}
 use Rattle.command_lang.proofs.reading.read_completion.Goals as goal
 
@@ -10,3 +11,13 @@ pub returns-clause-refused : goal.returns-clause-refused
 returns-clause-refused c =
     refused c.args.line.now c.in-Some.spoken.now c.in_ok-tokens.tokens.items c.in-Err.fault c.command_fault.result _ c.in_ok-tokens.ensures.tokens c.in-Some.ensures.some.0 c.in-Some.ensures.some.1
     (rw (c.new-cursor.ensures, c.as_slice.ensures) at c.in-Err.ensures.within) c.in-Err.ensures.names c.command_fault.ensures.place c.command_fault.ensures.memory
+
+pub returns-in-Ok-clause-one : goal.returns-in-Ok-clause-one
+returns-in-Ok-clause-one c =
+    one_completion c.args.line.now c.in-Ok.completion
+    (says_completion c.args.line.now c.in-Some.spoken.now c.in_ok-tokens.tokens.items c.in-Ok.completion c.in_ok-tokens.ensures.tokens c.in-Some.ensures.some.0 c.in-Some.ensures.some.1
+    (rw (c.new-cursor.ensures, c.as_slice.ensures) at c.in-Ok.ensures.read))
+
+pub returns-in_default-clause-one : goal.returns-in_default-clause-one
+returns-in_default-clause-one c =
+    no_completion c.args.line.now (rw (c.spoken.ensures.none (none_of c.spoken.result c.in_default.not-Some)) at c.in_ok-tokens.ensures.tokens)

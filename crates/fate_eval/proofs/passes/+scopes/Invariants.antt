@@ -5,7 +5,7 @@ use Rattle.fate_eval.proofs.InPass.{InPass}
 use Rattle.fate_eval.proofs.InTurn.{InTurn}
 use Rattle.fate_eval.proofs.WholeTurn.{IsTold}
 use Rattle.fate_eval.proofs.WholePass.{IsToldTo}
-use Rattle.fate_eval.specs.Readiness.{WellBelow}
+use Rattle.fate_eval.specs.Whole.{WellBelow}
 use Rattle.fate_laws.specs.WellFormed.{Well}
 use Rattle.fate_eval.proofs.Turns.{Goes}
 use Rattle.fate_eval.specs.Entries.{known_in, output_in}

@@ -1,4 +1,4 @@
-use Rattle.fate_eval.specs.Readiness.{AreMarked}
+use Rattle.fate_eval.specs.Refusals.{AreMarked}
 use Rattle.fate_eval.proofs.passes.first_unmarked.Given as goal
 
 abbrev pub invariant-loop-i : goal.invariant-loop-i

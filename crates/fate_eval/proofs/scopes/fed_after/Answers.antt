@@ -4,7 +4,7 @@ use Rattle.flow_model.specs.declared.graphs.DataLine.{DataLine}
 use Rattle.flow_model.specs.declared.graphs.Graph.{out-Graph}
 use Rattle.flow_model.specs.declared.graphs.MapEnd.TheVariants.{Activity as At}
 use Rattle.flow_model.specs.Wiring.{row_at}
-use Rattle.fate_eval.specs.Readiness.{after_of}
+use Rattle.fate_eval.specs.Timely.{after_of}
 use Rattle.fate_eval.proofs.Sources.{lines_after, lines_back, all_more, all_taken}
 use Rattle.fate_eval.proofs.scopes.fed_after.Goals as goal
 

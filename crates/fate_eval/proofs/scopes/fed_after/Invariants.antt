@@ -4,7 +4,7 @@ use Rattle.std.specs.List.{All}
 use Rattle.flow_model.specs.declared.graphs.DataLine.{DataLine}
 use Rattle.flow_model.specs.declared.graphs.Graph.{out-Graph}
 use Rattle.flow_model.specs.declared.graphs.MapEnd.TheVariants.{Activity as At}
-use Rattle.fate_eval.specs.Readiness.{after_of}
+use Rattle.fate_eval.specs.Timely.{after_of}
 use Rattle.fate_eval.proofs.scopes.fed_after.Given as goal
 
 abbrev pub invariant-loop-place : goal.invariant-loop-place

@@ -3,7 +3,7 @@ use Rattle.std.specs.Prelude.{slice_get}
 use Rattle.flow_model.specs.declared.graphs.Control.{Control}
 use Rattle.flow_model.specs.declared.graphs.Graph.{out-Graph}
 use Rattle.flow_model.specs.Wiring.{row_at}
-use Rattle.fate_eval.specs.Readiness.{after_of}
+use Rattle.fate_eval.specs.Timely.{after_of}
 use Rattle.fate_eval.proofs.Sources.{controls_after, controls_back, all_more, all_taken}
 use Rattle.fate_eval.proofs.scopes.joined_after.Goals as goal
 

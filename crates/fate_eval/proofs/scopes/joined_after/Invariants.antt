@@ -3,7 +3,7 @@ use Rattle.std.specs.Prelude.{slice_get}
 use Rattle.std.specs.List.{All}
 use Rattle.flow_model.specs.declared.graphs.Control.{Control}
 use Rattle.flow_model.specs.declared.graphs.Graph.{out-Graph}
-use Rattle.fate_eval.specs.Readiness.{after_of}
+use Rattle.fate_eval.specs.Timely.{after_of}
 use Rattle.fate_eval.proofs.scopes.joined_after.Given as goal
 
 abbrev pub invariant-loop-place : goal.invariant-loop-place
