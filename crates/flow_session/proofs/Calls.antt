@@ -9,7 +9,7 @@ use Rattle.flow_session.specs.Histories.{StandsFor, StandsAfterSome, after}
 use Rattle.flow_session.specs.Serving.{Makes, WithOrWithout}
 use Rattle.flow_session.proofs.Keeping.{nothing_done}
 
-after_append : (s : Summary) (ts us : List Transaction) → after s (ts ++ us) ≡ after (after s ts) us
+pub after_append : (s : Summary) (ts us : List Transaction) → after s (ts ++ us) ≡ after (after s ts) us
 after_append s [] us = refl
 after_append s (t ∷ ts) us = after_append (next t s) ts us
 

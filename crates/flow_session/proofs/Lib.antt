@@ -4,3 +4,4 @@ pub mod Histories
 pub mod Keeping
 pub mod Calls
 pub mod Runs
+pub mod Turns

@@ -1,5 +1,5 @@
 -- What a reply tells of the state.
-use Rattle.std.specs.Prelude.{◌≡◌, ◌⊎◌, ℕ, ◌+◌, ◌-◌, ◌^◌, min, List, [], ◌∷◌, ◌++◌, length, codes}
+use Rattle.std.specs.Prelude.{◌≡◌, ◌⊎◌, ℕ, ◌+◌, ◌-◌, ◌^◌, min, Bool, true, false, List, [], ◌∷◌, ◌++◌, length, codes}
 use Rattle.std.specs.Fmt.{decimal}
 use Rattle.std.specs.List.{All}
 use Rattle.flow_model.specs.declared.commands.Command.{Command}
@@ -38,6 +38,11 @@ IsObeyed old new command reply = IsMade old new command reply ⊎ ((new ≡ old)
 -- a transaction that takes a message
 abbrev pub IsTurn : Transaction → Type 0
 IsTurn t = (queue : ℕ) × (message : Message) × (t ≡ Turn queue message)
+
+-- a message is taken, or nothing changes
+abbrev pub IsTakenOrKept : Bool → Core → Core → Type 0
+IsTakenOrKept true old new = (t : Transaction) × IsTurn t × (summary new ≡ next t (summary old))
+IsTakenOrKept false old new = new ≡ old
 
 -- the reply of a DRAIN that took so many messages: all, or until the limit was met
 abbrev pub turns_text : ℕ → List ℕ

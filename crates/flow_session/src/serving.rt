@@ -1,13 +1,12 @@
 //! A session: the state, and the text of an IMPORT that isn't ended yet.
-ghost use Rattle.std.specs.Prelude.{◌≡◌, ◌⊎◌, ◌<◌, ◌+◌, ◌++◌, ◌∷◌, [], if◌then◌else◌, IfOk, OnOk};
+ghost use Rattle.std.specs.Prelude.{◌≡◌, ◌⊎◌, ◌<◌, ◌+◌, ◌++◌, ◌∷◌, [], IfOk, OnOk};
 ghost use Rattle.std.specs.Fmt.{decimal as digits_of};
 ghost use Rattle.flow_disk.specs.Moments.{LeavesOnly};
-ghost use Rattle.flow_model.specs.declared.transactions.Transaction.{Transaction as TransactionOf};
 ghost use Rattle.flow_core.specs.declared.applying.Note.{Note as NoteOf};
 ghost use Rattle.flow_core.specs.Replies.{applied_text, refusal_text};
 ghost use Rattle.flow_core.specs.Summaries.{summary, next};
 ghost use Rattle.flow_core.specs.Verdicts.{IsNoteOf};
-ghost use Rattle.flow_session.specs.Replying.{IsObeyed, IsReplied, IsDrained, IsTurn, turns_text, full_text};
+ghost use Rattle.flow_session.specs.Replying.{IsObeyed, IsReplied, IsDrained, IsTakenOrKept, turns_text, full_text};
 ghost use Rattle.flow_session.specs.Serving.{Makes, WithOrWithout};
 ghost use Rattle.flow_session.specs.declared.serving.Stop.TheVariants.{NoMemory};
 
@@ -192,7 +191,7 @@ impl Session {
         requires { J.tells → J.holds journal.old (summary self.old.core) }
         ensures kept { J.tells → OnOk result (J.holds journal.new (summary self.new.core)) }
         ensures makes { Makes J.tells J.moment J.left_since journal.old journal.new (summary self.old.core) (λ s. OnOk result (summary self.new.core ≡ s)) }
-        ensures turned { IfOk result (λ is_taken. if is_taken then ((t : TransactionOf) × IsTurn t × (summary self.new.core ≡ next t (summary self.old.core))) else (self.new.core ≡ self.old.core)) }
+        ensures turned { IfOk result (λ is_taken. IsTakenOrKept is_taken self.old.core self.new.core) }
     {
         if !self.core.has_message(queue) {
             return Ok(false);
