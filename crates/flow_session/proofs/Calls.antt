@@ -1,5 +1,5 @@
 -- Calls of a session, one after the other.
-use Rattle.std.proofs.Common.{◌≡◌, ◌⊎◌, inl, inr, ⊎_elim, ℕ, zero, suc, ◌+◌, List, [], ◌∷◌, ◌++◌, length, take, refl, sym, ap, subst, ◌∙◌, arith}
+use Rattle.std.proofs.Common.{◌≡◌, ⊎_elim, ℕ, zero, suc, List, [], ◌∷◌, ◌++◌, take, refl, sym, ap, subst, ◌∙◌}
 use Rattle.flow_disk.specs.Images.{Image}
 use Rattle.flow_disk.specs.Moments.{LeavesOnly}
 use Rattle.flow_disk.proofs.Runs.{weaker, joined}

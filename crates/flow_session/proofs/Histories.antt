@@ -1,19 +1,17 @@
 -- What an image stands for after one step of a log.
-use Rattle.std.proofs.Common.{◌≡◌, ◌⊎◌, inl, inr, ⊎_elim, ℕ, zero, suc, ◌+◌, ◌≤◌, List, [], ◌∷◌, ◌++◌, length, map, take, refl, sym, ap, subst, ◌∙◌, arith}
-use Rattle.std.specs.List.{All}
+use Rattle.std.proofs.Common.{◌≡◌, inl, inr, ⊎_elim, ◌+◌, [], ◌∷◌, ◌++◌, length, sym, ap, ◌∙◌, arith}
 use Rattle.std.proofs.lemmas.List.{map-append}
 use Rattle.flow_disk.specs.declared.disk.Slot.{Slot}
 use Rattle.flow_disk.specs.Images.{Image}
 use Rattle.flow_model.specs.declared.transactions.Transaction.{Transaction}
-use Rattle.flow_model.specs.declared.transactions.Numbered.{Numbered}
 use Rattle.txn_log.specs.declared.header.Header.{Header}
 use Rattle.txn_log.specs.Records.{reach}
 use Rattle.txn_log.specs.Standing.{HasRecord, MayHaveRecord}
 use Rattle.txn_log.specs.Stores.{Counts, store_of, with_record}
 use Rattle.checkpoint.specs.Compacting.{IsCompacted, MayBeCompacted}
 use Rattle.flow_txn.specs.Records.{record_bytes}
-use Rattle.flow_core.specs.Summaries.{Summary, next, taken_up, all_taken_up}
-use Rattle.flow_session.specs.Histories.{StandsFor, StandsAfterSome, IsHeaderOf, IsLive, after, payloads, under}
+use Rattle.flow_core.specs.Summaries.{Summary, next, taken_up}
+use Rattle.flow_session.specs.Histories.{StandsFor, IsHeaderOf, payloads, under}
 use Rattle.flow_session.specs.Serving.{WithOrWithout}
 use Rattle.flow_session.proofs.Summaries.{live_with, all_append, taken_next, all_kept}
 

@@ -1,5 +1,5 @@
 -- An open journal at rest, and a store whose records are taken up one after the other.
-use Rattle.std.proofs.Common.{◌≡◌, ◌⊎◌, inl, inr, ℕ, ◌+◌, ◌≤◌, ◌<◌, false, List, [], ◌∷◌, ◌++◌, subst, sym, ap, refl, ◌∙◌, arith}
+use Rattle.std.proofs.Common.{◌≡◌, inl, inr, ℕ, ◌≤◌, List, [], ◌∷◌, ◌++◌, subst, sym, ap, refl, ◌∙◌, arith}
 use Rattle.std.specs.List.{All}
 use Rattle.std.proofs.lemmas.List.{map-append}
 use Rattle.std.proofs.lemmas.List.Elements.{All-nil}
@@ -10,10 +10,9 @@ use Rattle.txn_log.specs.Stores.{Counts, store_of}
 use Rattle.flow_disk.specs.declared.disk.Slot.{Slot}
 use Rattle.flow_txn.specs.Records.{record_bytes}
 use Rattle.flow_disk.specs.Images.{Image}
-use Rattle.flow_disk.specs.Moments.{LeavesOnly, Only}
-use Rattle.txn_log.specs.declared.log.Log.{Log}
+use Rattle.flow_disk.specs.Moments.{LeavesOnly}
 use Rattle.flow_core.specs.Summaries.{Summary, Follows, taken_up}
-use Rattle.flow_session.specs.Histories.{StandsFor, IsLive, payloads, under}
+use Rattle.flow_session.specs.Histories.{StandsFor, IsLive, under}
 use Rattle.flow_session.specs.Keeping.{Brings}
 use Rattle.flow_session.proofs.Summaries.{live_with, all_append}
 

@@ -1,5 +1,5 @@
 -- A run over a store: it is opened, and then served.
-use Rattle.std.proofs.Common.{◌≡◌, ◌⊎◌, inl, inr, ⊎_elim, ℕ, Result, Ok, Err, OnOk, IsOk, subst, sym, refl}
+use Rattle.std.proofs.Common.{◌≡◌, inl, inr, ℕ, Result, Ok, Err, OnOk, IsOk, subst, sym, refl}
 use Rattle.flow_disk.specs.Images.{Image}
 use Rattle.flow_disk.specs.Moments.{LeavesOnly, Only}
 use Rattle.flow_disk.proofs.Runs.{weaker}

@@ -1,11 +1,11 @@
 -- Live transactions stay live in what follows.
-use Rattle.std.proofs.Common.{◌≡◌, ◌⊎◌, inl, inr, ℕ, ◌+◌, ◌≤◌, ◌<◌, max, nat_le, Bool, true, false, not, List, [], ◌∷◌, ◌++◌, Option, Some, None, refl, sym, ap, subst, ◌∙◌, arith, append-nil, append_assoc}
+use Rattle.std.proofs.Common.{◌≡◌, ℕ, ◌+◌, ◌≤◌, not, List, [], ◌∷◌, ◌++◌, Option, Some, None, refl, sym, ap, ◌∙◌, arith, append-nil, append_assoc}
 use Rattle.std.specs.List.{All}
 use Rattle.std.proofs.lemmas.List.Elements.{All-append, All-filter, All-cons, All-nil, All-head, All-tail, All-weaker}
 use Rattle.std.proofs.lemmas.Bool.{lt-leb, le-leb}
 use Rattle.flow_model.specs.declared.transactions.Transaction.{Transaction}
 use Rattle.flow_model.specs.declared.transactions.Numbered.{Numbered}
-use Rattle.flow_core.specs.Summaries.{Summary, next, deleted, started, roots_by, roots_after, live_by, with_transaction, taken_up, all_taken_up, is_root, root_about}
+use Rattle.flow_core.specs.Summaries.{Summary, next, deleted, started, roots_by, live_by, with_transaction, taken_up, all_taken_up, is_root, root_about}
 use Rattle.flow_session.specs.Histories.{IsLive}
 
 roots_rise : (t : Option ℕ) (roots : ℕ) → roots_by t roots ≡ roots_by t (roots_by t roots)

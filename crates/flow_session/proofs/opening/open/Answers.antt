@@ -1,6 +1,4 @@
 use Rattle.flow_session.proofs.Keeping.{stands_for}
-use Rattle.txn_log.specs.Records.{payloads_of}
-use Rattle.flow_core.specs.Summaries.{summary}
 use Rattle.flow_session.proofs.opening.open.Goals as goal
 
 pub returns-clause-open : goal.returns-clause-open

@@ -1,4 +1,4 @@
-use Rattle.std.proofs.Common.{◌≡◌, ◌∙◌, ◌+◌, ◌++◌, ◌∷◌, [], ap, subst, sym, take, map}
+use Rattle.std.proofs.Common.{◌≡◌, ◌∙◌, ◌+◌, ◌++◌, ◌∷◌, [], ap, subst, sym, take}
 use Rattle.std.proofs.lemmas.List.{take_more, map-append}
 use Rattle.txn_log.specs.declared.judged.Record.{Record}
 use Rattle.txn_log.specs.Records.{payloads_of}

@@ -1,6 +1,6 @@
-use Rattle.std.proofs.Common.{◌≡◌, ◌∙◌, ap}
+use Rattle.std.proofs.Common.{◌∙◌, ap}
 use Rattle.flow_txn.specs.Records.{record_bytes}
-use Rattle.flow_core.specs.Summaries.{summary, next}
+use Rattle.flow_core.specs.Summaries.{summary}
 use Rattle.flow_session.proofs.serving.Session.make.Goals as goal
 
 pub returns-clause-kept : goal.returns-clause-kept

@@ -1,4 +1,4 @@
-use Rattle.std.proofs.Common.{◌≡◌, ◌∙◌, ap, subst}
+use Rattle.std.proofs.Common.{◌∙◌, ap, subst}
 use Rattle.flow_disk.specs.Images.{opposite}
 use Rattle.flow_disk.proofs.Runs.{weaker}
 use Rattle.checkpoint.specs.Compacting.{IsCompacted, MayBeCompacted}

@@ -1,5 +1,4 @@
-use Rattle.std.proofs.Common.{◌≡◌, subst}
-use Rattle.flow_disk.specs.Moments.{LeavesOnly}
+use Rattle.std.proofs.Common.{subst}
 use Rattle.flow_disk.proofs.Runs.{weaker}
 use Rattle.txn_log.specs.Standing.{HasRecord, MayHaveRecord}
 use Rattle.flow_session.specs.Serving.{WithOrWithout}
