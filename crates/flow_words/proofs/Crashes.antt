@@ -1,17 +1,28 @@
 -- What the words leave of a store.
-use Rattle.std.proofs.Common.{◌≡◌, ◌⊎◌, inl, inr, ℕ, Result, Ok, Err, MatchResult, [], refl, arith}
+use Rattle.std.proofs.Common.{◌≡◌, ◌⊎◌, inl, inr, ℕ, Result, Ok, Err, OnOk, MatchResult, [], refl, arith}
 use Rattle.std.proofs.lemmas.List.Elements.{All-nil}
 use Rattle.flow_disk.specs.declared.disk.Slot.TheVariants.{A}
 use Rattle.flow_disk.specs.Images.{Image}
 use Rattle.flow_disk.specs.Moments.{LeavesOnly, Only}
 use Rattle.txn_log.specs.Opening.{MayBeMade, first_header}
 use Rattle.txn_log.specs.Stores.{Counts, store_of}
+use Rattle.flow_core.specs.Summaries.{Summary}
 use Rattle.flow_session.specs.Histories.{StandsFor, IsLive}
+use Rattle.flow_session.specs.Serving.{Makes}
 use Rattle.flow_session.specs.Runs.{KeepsOrServes}
 use Rattle.flow_session.proofs.Keeping.{nothing_done}
 use Rattle.flow_session.proofs.Runs.{done_where}
 use Rattle.flow_words.specs.declared.status.Status.{Status}
 use Rattle.flow_words.specs.Crashes.{IsFailing, EndsDone, empty_history, MakesStore}
+
+-- a call that ends otherwise
+pub makes_so : {J : Type 0} (tells : Type 0) (moment : J → ℕ) (left_since : J → ℕ → Image → Type 0) (old new : J) (s : Summary) (IsEnd IsLast : Summary → Type 0) → Makes tells moment left_since old new s IsEnd → ((x : Summary) → IsEnd x → IsLast x) → Makes tells moment left_since old new s IsLast
+makes_so tells moment left_since old new s IsEnd IsLast makes leads = record { transactions = makes.transactions; any_moment = makes.any_moment; ended = leads _ makes.ended }
+
+-- what is so under Ok, and later
+pub later_ok : {T E : Type 0} (r : Result T E) (T' P : Type 0) → (T' → OnOk r P) → OnOk r (T' → P)
+later_ok (Ok x) T' P f = f
+later_ok (Err e) T' P f = tt
 
 -- a word that fails isn't done
 pub never_done : (r : Result Status Status) → MatchResult r IsFailing IsFailing → EndsDone r → ⊥

@@ -1,4 +1,7 @@
 //! How a run ends.
+ghost use Rattle.std.specs.Prelude.{◌≡◌};
+ghost use Rattle.flow_words.specs.declared.status.Status.TheVariants.{NoMemory as NoMemoryStatus};
+
 use std::alloc::AllocError;
 
 /// How a run ends. Its number is the exit status of the program.
@@ -42,6 +45,8 @@ impl Status {
 }
 
 impl From<AllocError> for Status {
+    ghost from_gives = { λ _ e. e ≡ NoMemoryStatus };
+
     fn from(_fault: AllocError) -> Status {
         Status::NoMemory
     }

@@ -1,10 +1,12 @@
 use Rattle.std.proofs.Common.{◌≡◌}
 use Rattle.flow_core.specs.Summaries.{summary}
+use Rattle.flow_session.specs.Serving.{Makes}
 use Rattle.flow_words.proofs.script.serve_all.Given as goal
 
 abbrev pub invariant-inputs : goal.invariant-inputs
 invariant-inputs g l = record {
   open' : g.J.Journal.tells → g.J.Journal.holds l.journal (summary l.session.core);
+  makes : Makes g.J.Journal.tells g.J.Journal.moment g.J.Journal.left_since l.initial.journal l.journal (summary l.initial.session.core) (λ s. summary l.session.core ≡ s);
   read : g.S.Source.faults l.src ≡ g.S.Source.faults l.initial.src;
   put : g.K.Sink.faults l.out ≡ g.K.Sink.faults l.initial.out;
 }
