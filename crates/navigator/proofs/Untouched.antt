@@ -20,10 +20,11 @@ use Rattle.flow_model.specs.declared.instances.Fate.{Fate}
 use Rattle.flow_model.specs.declared.instances.Fate.TheVariants.{Waiting}
 use Rattle.flow_model.specs.declared.instances.SourceEnd.TheVariants.{Unsettled}
 use Rattle.navigator.specs.Fresh.{incoming_count, IsFresh, IsFreshNested, IsFreshWork}
-use Rattle.navigator.specs.Views.{ShowsStart, ShowsNested, ShowsWork, Shows, IsUntouched}
+use Rattle.navigator.specs.Views.{ShowsStart, ShowsNested, ShowsWork, Shows}
 use Rattle.navigator.specs.declared.scopes.ActivityState.{ActivityState, Program, Nested}
 use Rattle.navigator.specs.declared.scopes.NestedState.{NestedState}
 use Rattle.navigator.specs.declared.scopes.ScopeState.{ScopeState}
+use Rattle.view_laws.specs.Coming.{IsUntouched}
 
 chosen : {X : Type 0} (b : Bool) (n : ℕ) (ps : List ℕ) (x : X) (xs : List X) → length ps ≡ length xs → length (cond b (n ∷ ps) ps) ≡ length (cond b (x ∷ xs) xs)
 chosen true n ps x xs same = ap suc same

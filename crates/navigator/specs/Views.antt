@@ -97,8 +97,3 @@ ShowsWithin ts (suc depth) k g input s =
 -- the state of a scope shows its view, with at most so many levels below it
 abbrev pub Shows : List Template → ℕ → Known → Graph → Container → ScopeState → Type 0
 Shows ts depth k g input s = ShowsWithin ts (suc depth) k g input s
-
--- nothing counts of a scope itself: it hasn't begun, and no value of its connectors counts
-pub record IsUntouched (k : Known) : Type 0 where
-  pub unbegun : k.begun [] ≡ false
-  pub unsent : (a b : ℕ) → k.sent [] a b None ≡ None

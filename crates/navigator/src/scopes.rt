@@ -10,7 +10,8 @@ ghost use Rattle.navigator.specs.Fresh.{incoming_count as connectors_to, IsFresh
 ghost use Rattle.navigator.specs.Items.{stand, both, into};
 ghost use Rattle.navigator.specs.Reading.{place_of as place_in, attempt_place as place_before, nested_fate, state_fate, fate_in, hold_in, with_hold, inner_of};
 ghost use Rattle.navigator.specs.Steps.{Grows, GrowsState, next_of};
-ghost use Rattle.navigator.specs.Views.{IsUntouched, Shows};
+ghost use Rattle.navigator.specs.Views.{Shows};
+ghost use Rattle.view_laws.specs.Coming.{IsUntouched};
 ghost use Rattle.navigator.specs.declared.scopes.NestedState.{out-NestedState};
 ghost use Rattle.navigator.specs.declared.scopes.ScopeState.{out-ScopeState};
 

@@ -4,3 +4,5 @@ pub mod Runs
 pub mod ScopeFacts
 pub mod Laws
 pub mod TurnBound
+pub mod Learning
+pub mod Coming
