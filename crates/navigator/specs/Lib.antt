@@ -6,3 +6,4 @@ pub mod Instances
 pub mod Steps
 pub mod ViewRows
 pub mod Events
+pub mod Serving
