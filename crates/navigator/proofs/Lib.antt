@@ -4,3 +4,7 @@ pub mod Untouched
 pub mod ReadScopes
 pub mod Beginning
 pub mod RowLists
+pub mod SameActivities
+pub mod ShownAgain
+pub mod Leading
+pub mod MoreLooked

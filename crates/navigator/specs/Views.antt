@@ -1,6 +1,6 @@
 -- What it means that the state of a scope shows the view of it: by what counts there and below, its input, what is known of its connectors, how
 -- its activities have ended and what has become of each.
-use Rattle.std.specs.Prelude.{◌≡◌, ℕ, zero, suc, true, false, not, Option, Some, None, List, [], map, length, slice_get, count_by}
+use Rattle.std.specs.Prelude.{◌≡◌, ℕ, zero, suc, true, not, Option, Some, None, List, [], map, length, slice_get, count_by}
 use Rattle.activity_states.specs.States.{State, fate_of, held, completions}
 use Rattle.blocks_subprocs.specs.Ends.{ends_of}
 use Rattle.dead_paths.specs.Tallies.{Counts}
