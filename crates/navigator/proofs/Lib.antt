@@ -8,3 +8,4 @@ pub mod SameActivities
 pub mod ShownAgain
 pub mod Leading
 pub mod MoreLooked
+pub mod Stepping
