@@ -8,3 +8,6 @@ pub mod SameActivities
 pub mod ShownAgain
 pub mod Leading
 pub mod MoreLooked
+pub mod MoreAttempts
+pub mod NextAttempt
+pub mod OneActivity
