@@ -11,3 +11,4 @@ pub mod MoreLooked
 pub mod MoreAttempts
 pub mod NextAttempt
 pub mod OneActivity
+pub mod Completing
