@@ -12,3 +12,5 @@ pub mod MoreAttempts
 pub mod NextAttempt
 pub mod OneActivity
 pub mod Completing
+pub mod EndedScopes
+pub mod Ending
