@@ -1,5 +1,5 @@
 -- The completion of an item keeps what a scope shows.
-use Rattle.std.proofs.Common.{◌≡◌, ℕ, suc, ◌+◌, ◌<◌, ◌≤◌, Bool, true, false, List, [], ◌∷◌, ◌++◌, map, length, Option, Some, cond, refl, ap, sym, ◌∙◌, subst, arith, length-append}
+use Rattle.std.proofs.Common.{◌≡◌, ℕ, suc, ◌+◌, ◌≤◌, Bool, true, false, List, [], ◌∷◌, ◌++◌, map, length, Option, Some, cond, refl, ap, sym, ◌∙◌, subst, arith, length-append}
 use Rattle.std.specs.Prelude.{◌≢◌, slice_get}
 use Rattle.std.proofs.Math.Path.{fun_ext}
 use Rattle.std.proofs.lemmas.List.{map-append}
@@ -13,8 +13,8 @@ use Rattle.fate_laws.specs.WellFormed.{Well}
 use Rattle.flow_model.specs.Conditions.{holds}
 use Rattle.flow_model.specs.Fates.{Ends, goes_on, is_open}
 use Rattle.flow_model.specs.Rows.{same_part}
-use Rattle.flow_model.specs.ScopeContainers.{base_of}
-use Rattle.flow_model.specs.Scopes.{Known, part, Runs, Start, tries, gives, is_fed, trial, output, tree_ends}
+use Rattle.flow_model.specs.ScopeContainers.{base_of, graph_in}
+use Rattle.flow_model.specs.Scopes.{Known, part, Runs, Start, tries, gives, is_fed, trial, attempts, fate_given, started_at, output, tree_ends}
 use Rattle.flow_model.specs.declared.graphs.Activity.{Activity}
 use Rattle.flow_model.specs.declared.graphs.Container.{Container}
 use Rattle.flow_model.specs.declared.graphs.Graph.{Graph, out-Graph}
@@ -23,6 +23,7 @@ use Rattle.flow_model.specs.declared.graphs.Template.{Template}
 use Rattle.flow_model.specs.declared.graphs.Work.{Work, Program as RunsProgram, Block', Process}
 use Rattle.flow_model.specs.declared.instances.Fate.{Fate}
 use Rattle.flow_model.specs.declared.instances.Fate.TheVariants.{Waiting, Ready, Finished, Dead}
+use Rattle.flow_model.specs.declared.instances.Hold.{Hold}
 use Rattle.flow_model.specs.declared.instances.Part.{Part}
 use Rattle.flow_model.specs.declared.instances.Path.{Path}
 use Rattle.flow_model.specs.declared.instances.SourceEnd.{SourceEnd}
@@ -36,7 +37,7 @@ use Rattle.navigator.specs.Events.{Receives, Completes as Completion}
 use Rattle.navigator.specs.Reading.{place_of}
 use Rattle.navigator.specs.Serving.{Served}
 use Rattle.navigator.specs.Steps.{Told, Fields, fields, CompletesBy}
-use Rattle.navigator.specs.Views.{ShowsProgram, ShowsStart, ShowsWork, Shows}
+use Rattle.navigator.specs.Views.{ShowsProgram, ShowsStart, ShowsWork, ShowsWithin, shows_attempt, Shows}
 use Rattle.navigator.specs.declared.scopes.ActivityState.{ActivityState, Program, Nested}
 use Rattle.navigator.specs.declared.scopes.ScopeState.{ScopeState, out-ScopeState}
 use Rattle.view_laws.specs.Coming.{IsByMessages, MayComplete}
@@ -44,6 +45,7 @@ use Rattle.view_laws.specs.Learning.{given_here, with_output}
 
 -- ---- what is known
 
+-- the test tells different parts apart
 pub parts_apart : (q r : Part) → r ≢ q → same_part q r ≡ false
 parts_apart q r apart = go (same_part q r) refl
   where
@@ -51,7 +53,7 @@ parts_apart q r apart = go (same_part q r) refl
     go true is = absurd (apart (sym (part_one q r is)))
     go false is = is
 
-pub near_output : (q : Part) (out : Container) (k : Known) → IsNear k (with_output q out k) q
+near_output : (q : Part) (out : Container) (k : Known) → IsNear k (with_output q out k) q
 near_output q out k = record {
   most = refl;
   begun = refl;
@@ -68,9 +70,9 @@ near_output q out k = record {
 -- ---- the state of a program activity
 
 -- its next attempt is ready: whoever holds it, this many were completed before
-pub record IsAwaiting (outs : List Container) (c : ℕ) (p : State) : Type 0 where
+record IsAwaiting (outs : List Container) (c : ℕ) (p : State) : Type 0 where
   pub done : List Completed
-  pub hold : _
+  pub hold : Hold
   pub takes : ℕ
   pub since : ℕ
   pub is : p ≡ opened done hold takes since
@@ -109,6 +111,10 @@ program_state (RunsProgram w) program fate outs starts shows (Program p) runs is
 program_state (RunsProgram w) program fate outs starts shows (Nested n) runs is = absurd is
 program_state (Block' b g) program fate outs starts shows state runs is = let never : ⊥ = cc in absurd never
 program_state (Process t) program fate outs starts shows state runs is = let never : ⊥ = cc in absurd never
+
+program_work : (w : Work) (program : ProgramOf) (fate : Fate) (outs : List Container) (starts : List Start) (shows : ShowsStart) (p : State) → w ≡ RunsProgram program
+    → ShowsProgram fate outs p → ShowsWork w fate outs starts shows (Program p)
+program_work w program fate outs starts shows p runs shown = subst (λ v. ShowsWork v fate outs starts shows (Program p)) (sym runs) shown
 
 program_gives : (ts : List Template) (k : Known) (runs : Runs) (a : Activity) (program : ProgramOf) (q : Part) (i : Container) → a.work ≡ RunsProgram program → part a.name q.attempt ≡ q
     → gives ts k runs a.name a.work q.attempt i ≡ k.given (q ∷ [])
@@ -204,26 +210,40 @@ module _ (ts : List Template) (depth : ℕ) (k : Known) (g : Graph) (input : Con
       (extends_now ts depth k k' g input q well near messages may.fed a activity may.is may.name was now)
       (values_near k k' q near messages (out-Graph g).controls e E a)
 
-  pub complete_keeps : Receives ts path clock (Completion q.name by) before after g s s' → Shows ts depth k' g input s'
-  complete_keeps receives =
-      let long : a < length (out-ScopeState s).states.items = let l = shows.stated in let i = slice_get_within (out-Graph g).activities a activity may.is in omega (arith, l, i) in
-      let stands = present (out-ScopeState s).states.items a long in
-      let state = program_state activity.work may.program _ _ _ _ stands.0 may.runs (shows.states a activity stands.0 may.is stands.1) in
-      let at : slice_get (out-ScopeState s).states.items a ≡ Some (Program state.0) = stands.1 ∙ ap Some state.1 in
-      let place : place_of g q.name ≡ Some a = ap (place_of g) (sym may.name) ∙ place_found g a activity (named_of ts depth g well) may.is in
-      let unsettled : ends_of (out-ScopeState s).ends.items a ≡ end.Unsettled = shows.ends a ∙ was in
-      let changes = completes_one (holds activity.exit by.output) g path clock a activity state.0 by (fields s) (fields s') before after unsettled (receives a activity state.0 place may.is at) in
-      let shown = completed_shows activity _ q.attempt state.0 by clock may.program may.runs (awaiting _ _ q.attempt state.0 may.ready state.2) in
-      one_changes ts depth k k' g input q well near messages may.fed a activity may.is may.name was now next.end_next s s'
-      (Program (completed state.0 by (holds activity.exit by.output) clock)) changes shows
-      (program_shows activity.work may.program _ _ _ _ _ may.runs (shown_at _ _ _ _ _ next.fate_next next.outputs shown))
-    where
-      program_shows : (w : Work) (program : ProgramOf) (fate : Fate) (outs : List Container) (starts : List Start) (shows : ShowsStart) (p : State) → w ≡ RunsProgram program
-          → ShowsProgram fate outs p → ShowsWork w fate outs starts shows (Program p)
-      program_shows w program fate outs starts shows p is shown = subst (λ v. ShowsWork v fate outs starts shows (Program p)) (sym is) shown
+  abbrev outs : List Container
+  outs = attempts ts k runs g input e a
 
-      shown_at : (fate fate' : Fate) (outs outs' : List Container) (p : State) → fate' ≡ fate → outs' ≡ outs → ShowsProgram fate outs p → ShowsProgram fate' outs' p
-      shown_at fate fate' outs outs' p same given shown = subst (λ f. ShowsProgram f outs' p) (sym same) (subst (λ os. ShowsProgram fate os p) (sym given) shown)
+  -- the state of the activity before
+  stands : (state : ActivityState) × (slice_get (out-ScopeState s).states.items a ≡ Some state)
+  stands =
+      let l = shows.stated in
+      let i = slice_get_within (out-Graph g).activities a activity may.is in
+      present (out-ScopeState s).states.items a (omega (arith, l, i))
+
+  program_before : (p : State) × (stands.0 ≡ Program p) × ShowsProgram (fate_given ts k runs g input e a) outs p
+  program_before =
+      program_state activity.work may.program (fate_given ts k runs g input e a) outs (started_at ts k runs g input e a activity)
+      (shows_attempt (ShowsWithin ts depth) k activity.name (graph_in ts activity.work)) stands.0 may.runs (shows.states a activity stands.0 may.is stands.1)
+
+  -- and after
+  abbrev program_after : State
+  program_after = completed program_before.0 by (holds activity.exit by.output) clock
+
+  shows_after : ShowsProgram (fate_given ts k' runs g input E a) (attempts ts k' runs g input E a) program_after
+  shows_after =
+      subst (λ f. ShowsProgram f (attempts ts k' runs g input E a) program_after) (sym next.fate_next)
+      (subst (λ os. ShowsProgram (fate_then activity q.attempt by.output) os program_after) (sym next.outputs)
+      (completed_shows activity outs q.attempt program_before.0 by clock may.program may.runs
+      (awaiting (fate_given ts k runs g input e a) outs q.attempt program_before.0 may.ready program_before.2)))
+
+  complete_keeps : Receives ts path clock (Completion q.name by) before after g s s' → Shows ts depth k' g input s'
+  complete_keeps receives =
+      let place : place_of g q.name ≡ Some a = ap (place_of g) (sym may.name) ∙ place_found g a activity (named_of ts depth g well) may.is in
+      let completes = receives a activity program_before.0 place may.is (stands.1 ∙ ap Some program_before.1) in
+      one_changes ts depth k k' g input q well near messages may.fed a activity may.is may.name was now next.end_next s s' (Program program_after)
+      (completes_one (holds activity.exit by.output) g path clock a activity program_before.0 by (fields s) (fields s') before after (shows.ends a ∙ was) completes) shows
+      (program_work activity.work may.program (fate_given ts k' runs g input E a) (attempts ts k' runs g input E a) (started_at ts k' runs g input E a activity)
+      (shows_attempt (ShowsWithin ts depth) k' activity.name (graph_in ts activity.work)) program_after may.runs shows_after)
 
 -- where a state shows what is known, and an item is completed that is ready, the state after it shows what is known then
 pub complete_shows : (ts : List Template) (depth : ℕ) (k : Known) (g : Graph) (input : Container) (s s' : ScopeState) (path : Path) (clock : ℕ) (before after : Told) (q : Part) (c : Completed)

@@ -1,11 +1,11 @@
--- The state of a block or process activity when the scope of its last attempt has ended, and what that scope gives.
+-- A block or process activity when the scope of its last attempt ends: what that scope gives, what the END does, and what the state shows then.
 use Rattle.std.proofs.Common.{◌≡◌, ℕ, zero, suc, ◌+◌, ◌^◌, ◌<◌, Bool, true, false, List, [], ◌∷◌, ◌++◌, length, Some, None, cond, refl, ap, sym, ◌∙◌, subst, arith, append-nil, length-append}
-use Rattle.std.specs.Prelude.{slice_get}
+use Rattle.std.specs.Prelude.{slice_get, slice_set}
 use Rattle.std.proofs.Math.Path.{fun_ext}
 use Rattle.blocks_subprocs.specs.Ends.{ends_of}
 use Rattle.flow_model.specs.Containers.{fresh, with_return_code}
 use Rattle.flow_model.specs.Fates.{Ends, goes_on}
-use Rattle.flow_model.specs.ScopeContainers.{fed, graph_in, is_complete, output_by}
+use Rattle.flow_model.specs.ScopeContainers.{base_of, fed, graph_in, is_complete, looped, output_by}
 use Rattle.flow_model.specs.Scopes.{Known, at, part, Runs, Start, scope_gives, gives, scope_ends, output}
 use Rattle.flow_model.specs.Wiring.{IsIncoming, IsSinking}
 use Rattle.flow_model.specs.declared.graphs.Activity.{Activity}
@@ -16,16 +16,19 @@ use Rattle.flow_model.specs.declared.graphs.Template.{Template}
 use Rattle.flow_model.specs.declared.graphs.Work.{Work, Program as RunsProgram, Block', Process}
 use Rattle.flow_model.specs.declared.instances.Fate.{Fate}
 use Rattle.flow_model.specs.declared.instances.Fate.TheVariants.{Running, Finished}
+use Rattle.flow_model.specs.declared.instances.Path.{Path}
+use Rattle.flow_model.specs.declared.instances.SourceEnd.TheVariants as end
 use Rattle.flow_model.specs.declared.names.Name.{Name}
+use Rattle.navigator.proofs.OneActivity.{still_open, ChangesOne}
 use Rattle.navigator.proofs.ShownAgain.{IsSameInside, inside_scope, ends_as_before}
 use Rattle.navigator.proofs.Untouched.{fresh_shows}
 use Rattle.navigator.specs.Fresh.{IsFresh}
 use Rattle.navigator.specs.Serving.{Served}
-use Rattle.navigator.specs.Steps.{Grows, given_by}
+use Rattle.navigator.specs.Steps.{Told, Fields, settled, finished_state, changed_at, at_stage, GrowsState, Grows, EndsBy, given_by}
 use Rattle.navigator.specs.Views.{ShowsStart, ShowsNested, ShowsWork, ShowsWithin}
 use Rattle.navigator.specs.declared.scopes.ActivityState.{ActivityState, Program, Nested}
 use Rattle.navigator.specs.declared.scopes.NestedStage.TheVariants as stages
-use Rattle.navigator.specs.declared.scopes.NestedState.{NestedState, out-NestedState}
+use Rattle.navigator.specs.declared.scopes.NestedState.{NestedState, out-NestedState, out-roll-NestedState}
 use Rattle.navigator.specs.declared.scopes.ScopeState.{ScopeState, out-ScopeState}
 use Rattle.view_laws.specs.Coming.{IsUntouched}
 
@@ -35,6 +38,7 @@ no_graph never = cc
 -- ---- an activity that runs a graph
 
 module _ (ts : List Template) (h : Graph) where
+  -- its state has scopes
   pub nested_state : (w : Work) (fate : Fate) (outs : List Container) (starts : List Start) (shows : ShowsStart) (state : ActivityState) → graph_in ts w ≡ Some h
       → ShowsWork w fate outs starts shows state → (n : NestedState) × (state ≡ Nested n) × ShowsNested fate starts shows n
   nested_state (RunsProgram w) fate outs starts shows state of is = absurd (no_graph of)
@@ -43,6 +47,7 @@ module _ (ts : List Template) (h : Graph) where
   nested_state (Process t) fate outs starts shows (Program p) of is = absurd is
   nested_state (Process t) fate outs starts shows (Nested n) of is = (n, refl, is)
 
+  -- and shows what they show
   pub nested_work : (w : Work) (fate : Fate) (outs : List Container) (starts : List Start) (shows : ShowsStart) (n : NestedState) → graph_in ts w ≡ Some h
       → ShowsNested fate starts shows n → ShowsWork w fate outs starts shows (Nested n)
   nested_work (RunsProgram w) fate outs starts shows n of is = absurd (no_graph of)
@@ -118,6 +123,51 @@ nested_after false ts h w c i fate starts shows shows' n n' of long more first i
           (ap (λ xs. slice_get xs j) (sym grows.scopes) ∙ there);
     }
 
+-- ---- what an END does to the scope
+
+-- the activity at a place is finished, or has one more scope
+pub record EndsOne (b : Bool) (h : Graph) (i : Container) (a : ℕ) (n : NestedState) (out : Container) (old new : Fields) : Type 0 where
+  pub nested : NestedState
+  pub changes : ChangesOne a (Nested nested) (cond b (end.Finished out) end.Unsettled) old new
+  pub comes : NestedAfter b h i n nested
+
+begins_one : (h : Graph) (i : Container) (a : ℕ) (n : NestedState) (out : Container) (next : ScopeState) (state : ActivityState) (old new : Fields) → ends_of old.ends a ≡ end.Unsettled
+    → IsFresh h i next → GrowsState next (Nested n) state → new ≡ record old { states = slice_set old.states a state } → EndsOne false h i a n out old new
+begins_one h i a n out next (Program p) old new was fresh grows is = absurd grows
+begins_one h i a n out next (Nested n') old new was fresh grows is = record {
+  nested = n';
+  changes = record {
+    begun = ap (λ (f : Fields). f.begun) is;
+    input = ap (λ (f : Fields). f.input) is;
+    tallies = ap (λ (f : Fields). f.tallies) is;
+    ends = ap (λ (f : Fields). f.ends) is ∙ still_open old.ends a was;
+    states = ap (λ (f : Fields). f.states) is;
+    unsettled = let same : new.unsettled ≡ old.unsettled = ap (λ (f : Fields). f.unsettled) is in omega arith;
+  };
+  comes = (next, fresh, grows);
+}
+
+pub ends_one : (b : Bool) (g h : Graph) (path : Path) (a : ℕ) (activity : Activity) (n : NestedState) (out : Container) (old new : Fields) (before after : Told)
+    → ends_of old.ends a ≡ end.Unsettled → slice_get old.states a ≡ Some (Nested n) → EndsBy b g h path a activity (Nested n) out old new before after
+    → EndsOne b h (looped (out-Graph g).loops a out (base_of g activity a old.input (ends_of old.ends))) a n out old new
+ends_one true g h path a activity n out old new before after was at is =
+    let now : new ≡ settled a (end.Finished out) (changed_at finished_state a (Some (Nested n)) old)
+    = is.0 ∙ ap (λ o. settled a (end.Finished out) (changed_at finished_state a o old)) at in
+    record {
+      nested = at_stage stages.Finished n;
+      changes = record {
+        begun = ap (λ (f : Fields). f.begun) now;
+        input = ap (λ (f : Fields). f.input) now;
+        tallies = ap (λ (f : Fields). f.tallies) now;
+        ends = ap (λ (f : Fields). f.ends) now;
+        states = ap (λ (f : Fields). f.states) now;
+        unsettled = ap (λ (f : Fields). f.unsettled) now;
+      };
+      comes = (rw out-roll-NestedState refl, rw out-roll-NestedState refl);
+    }
+ends_one false g h path a activity n out old new before after was at is =
+    begins_one h (looped (out-Graph g).loops a out (base_of g activity a old.input (ends_of old.ends))) a n out is.next is.state old new was is.fresh is.grows is.scope
+
 -- ---- the scopes one level further in
 
 -- what a graph has that is served at any depth
@@ -130,6 +180,7 @@ rows_of : (ts : List Template) (depth : ℕ) (g : Graph) → Served ts depth g �
 rows_of ts zero g served = record { incoming = served.incoming; sinking = served.sinking; few = served.few }
 rows_of ts (suc depth) g served = record { incoming = served.incoming; sinking = served.sinking; few = served.few }
 
+-- so has each graph inside
 pub rows_inside : (ts : List Template) (depth : ℕ) (g : Graph) (a : ℕ) (activity : Activity) (h : Graph) → Served ts depth g → slice_get (out-Graph g).activities a ≡ Some activity
     → graph_in ts activity.work ≡ Some h → HasRows h
 rows_inside ts zero g a activity h served is of = absurd (served.inside a activity h is of)

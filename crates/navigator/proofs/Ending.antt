@@ -1,6 +1,6 @@
 -- The END of an attempt keeps what a scope shows.
-use Rattle.std.proofs.Common.{◌≡◌, ℕ, zero, suc, ◌+◌, ◌<◌, ◌≤◌, Bool, true, false, ◌&&◌, List, [], ◌∷◌, ◌++◌, length, Option, Some, None, cond, refl, ap, sym, ◌∙◌, subst, arith}
-use Rattle.std.specs.Prelude.{◌≢◌, slice_get, slice_set}
+use Rattle.std.proofs.Common.{◌≡◌, ℕ, zero, suc, ◌+◌, ◌≤◌, Bool, true, false, ◌&&◌, List, [], ◌∷◌, ◌++◌, length, Option, Some, None, cond, refl, ap, sym, ◌∙◌, subst, arith}
+use Rattle.std.specs.Prelude.{◌≢◌, slice_get}
 use Rattle.std.proofs.Math.Path.{fun_ext}
 use Rattle.std.proofs.lemmas.Option.{slice_get_within}
 use Rattle.blocks_subprocs.specs.Ends.{ends_of}
@@ -12,7 +12,7 @@ use Rattle.flow_model.specs.Conditions.{holds}
 use Rattle.flow_model.specs.Containers.{with_return_code}
 use Rattle.flow_model.specs.Fates.{Ends, is_open}
 use Rattle.flow_model.specs.ScopeContainers.{base_of, graph_in, looped}
-use Rattle.flow_model.specs.Scopes.{Known, at, part, Runs, Start, scope_gives, gives, is_fed, trial, fate_given, started_at, output, tree_ends}
+use Rattle.flow_model.specs.Scopes.{Known, at, part, Runs, Start, scope_gives, gives, is_fed, trial, attempts, fate_given, started_at, output, tree_ends}
 use Rattle.flow_model.specs.declared.graphs.Activity.{Activity}
 use Rattle.flow_model.specs.declared.graphs.Container.{Container}
 use Rattle.flow_model.specs.declared.graphs.Graph.{Graph, out-Graph}
@@ -23,10 +23,10 @@ use Rattle.flow_model.specs.declared.instances.SourceEnd.{SourceEnd}
 use Rattle.flow_model.specs.declared.instances.SourceEnd.TheVariants as end
 use Rattle.flow_model.specs.declared.names.Name.{Name}
 use Rattle.navigator.proofs.Completing.{parts_apart}
-use Rattle.navigator.proofs.EndedScopes.{nested_state, nested_work, gives_scope, NestedAfter, nested_after, HasRows, rows_inside, next_shows, given_is, output_inside}
+use Rattle.navigator.proofs.EndedScopes.{nested_state, nested_work, gives_scope, NestedAfter, nested_after, EndsOne, ends_one, HasRows, rows_inside, next_shows, given_is, output_inside}
 use Rattle.navigator.proofs.MoreAttempts.{GivesMore, reached_start}
 use Rattle.navigator.proofs.NextAttempt.{fate_then, end_then, IsNextAttempt, IsOpened, opened_is, open_before, next_attempt}
-use Rattle.navigator.proofs.OneActivity.{ends_with, still_open, IsNear, gives_apart, values_near, ChangesOne, extends_now, one_changes}
+use Rattle.navigator.proofs.OneActivity.{ends_with, IsNear, gives_apart, values_near, extends_now, one_changes}
 use Rattle.navigator.proofs.Places.{present}
 use Rattle.navigator.proofs.RowLists.{started_numbered}
 use Rattle.navigator.proofs.SameActivities.{step_is, named_of, place_found}
@@ -35,18 +35,17 @@ use Rattle.navigator.specs.Events.{Receives, Ends as Ending}
 use Rattle.navigator.specs.Fresh.{IsFresh}
 use Rattle.navigator.specs.Reading.{place_of, inner_of}
 use Rattle.navigator.specs.Serving.{Served}
-use Rattle.navigator.specs.Steps.{Told, Fields, fields, settled, finished_state, changed_at, at_stage, GrowsState, EndsBy, given_by}
+use Rattle.navigator.specs.Steps.{Told, Fields, fields, EndsBy, given_by}
 use Rattle.navigator.specs.Views.{ShowsNested, ShowsWithin, shows_attempt, Shows}
-use Rattle.navigator.specs.declared.scopes.ActivityState.{ActivityState, Program, Nested}
-use Rattle.navigator.specs.declared.scopes.NestedStage.TheVariants as stages
-use Rattle.navigator.specs.declared.scopes.NestedState.{NestedState, out-NestedState, out-roll-NestedState}
+use Rattle.navigator.specs.declared.scopes.ActivityState.{ActivityState, Nested}
+use Rattle.navigator.specs.declared.scopes.NestedState.{NestedState, out-NestedState}
 use Rattle.navigator.specs.declared.scopes.ScopeState.{ScopeState, out-ScopeState}
 use Rattle.view_laws.specs.Coming.{IsByMessages, IsUntouched, started_in, MayEnd}
 use Rattle.view_laws.specs.Learning.{closed_here, with_end}
 
 -- ---- what is known
 
-pub near_end : (q : Part) (k : Known) → IsNear k (with_end q k) q
+near_end : (q : Part) (k : Known) → IsNear k (with_end q k) q
 near_end q k = record {
   most = refl;
   begun = refl;
@@ -70,50 +69,6 @@ older_shows ts depth q k name None start s is = is
 older_shows ts zero q k name (Some h) start s is = is
 older_shows ts (suc depth) q k name (Some h) start s is =
     shows_inside ts depth (at (part name start.attempt) k) (at (part name start.attempt) (with_end q k)) h start.input s (same_in q (part name start.attempt) k) is
-
--- ---- what an END does to the scope
-
-pub record EndsOne (b : Bool) (h : Graph) (i : Container) (a : ℕ) (n : NestedState) (out : Container) (old new : Fields) : Type 0 where
-  pub nested : NestedState
-  pub changes : ChangesOne a (Nested nested) (cond b (end.Finished out) end.Unsettled) old new
-  pub comes : NestedAfter b h i n nested
-
-begins_one : (h : Graph) (i : Container) (a : ℕ) (n : NestedState) (out : Container) (next : ScopeState) (state : ActivityState) (old new : Fields) → ends_of old.ends a ≡ end.Unsettled
-    → IsFresh h i next → GrowsState next (Nested n) state → new ≡ record old { states = slice_set old.states a state } → EndsOne false h i a n out old new
-begins_one h i a n out next (Program p) old new was fresh grows is = absurd grows
-begins_one h i a n out next (Nested n') old new was fresh grows is = record {
-  nested = n';
-  changes = record {
-    begun = ap (λ (f : Fields). f.begun) is;
-    input = ap (λ (f : Fields). f.input) is;
-    tallies = ap (λ (f : Fields). f.tallies) is;
-    ends = ap (λ (f : Fields). f.ends) is ∙ still_open old.ends a was;
-    states = ap (λ (f : Fields). f.states) is;
-    unsettled = let same : new.unsettled ≡ old.unsettled = ap (λ (f : Fields). f.unsettled) is in omega arith;
-  };
-  comes = (next, fresh, grows);
-}
-
-ends_one : (b : Bool) (g h : Graph) (path : Path) (a : ℕ) (activity : Activity) (n : NestedState) (out : Container) (old new : Fields) (before after : Told)
-    → ends_of old.ends a ≡ end.Unsettled → slice_get old.states a ≡ Some (Nested n) → EndsBy b g h path a activity (Nested n) out old new before after
-    → EndsOne b h (looped (out-Graph g).loops a out (base_of g activity a old.input (ends_of old.ends))) a n out old new
-ends_one true g h path a activity n out old new before after was at is =
-    let now : new ≡ settled a (end.Finished out) (changed_at finished_state a (Some (Nested n)) old)
-    = is.0 ∙ ap (λ o. settled a (end.Finished out) (changed_at finished_state a o old)) at in
-    record {
-      nested = at_stage stages.Finished n;
-      changes = record {
-        begun = ap (λ (f : Fields). f.begun) now;
-        input = ap (λ (f : Fields). f.input) now;
-        tallies = ap (λ (f : Fields). f.tallies) now;
-        ends = ap (λ (f : Fields). f.ends) now;
-        states = ap (λ (f : Fields). f.states) now;
-        unsettled = ap (λ (f : Fields). f.unsettled) now;
-      };
-      comes = (rw out-roll-NestedState refl, rw out-roll-NestedState refl);
-    }
-ends_one false g h path a activity n out old new before after was at is =
-    begins_one h (looped (out-Graph g).loops a out (base_of g activity a old.input (ends_of old.ends))) a n out is.next is.state old new was is.fresh is.grows is.scope
 
 -- ---- the scope
 
@@ -241,33 +196,64 @@ module _ (ts : List Template) (depth : ℕ) (k : Known) (g : Graph) (input : Con
       (shows_attempt (ShowsWithin ts depth) k' activity.name (graph_in ts activity.work)) n n' may.of next.started
       (λ start t. older_shows ts depth q k activity.name (graph_in ts activity.work) start t) (first i) is comes))
 
-  pub end_keeps : Receives ts path clock (Ending q.name q.attempt) before after g s s' → Shows ts depth k' g input s'
-  end_keeps receives =
-      let long : a < length (out-ScopeState s).states.items = let l = shows.stated in let i = slice_get_within (out-Graph g).activities a activity may.is in omega (arith, l, i) in
-      let stands = present (out-ScopeState s).states.items a long in
-      let state = nested_state ts h activity.work _ _ _ _ stands.0 may.of (shows.states a activity stands.0 may.is stands.1) in
-      let n : NestedState = state.0 in
-      let at_place : slice_get (out-ScopeState s).states.items a ≡ Some (Nested n) = stands.1 ∙ ap Some state.1 in
-      let nested = state.2 in
-      let within_scopes : may.number < length (out-NestedState n).scopes.items
-      = let l = nested.count in let i = slice_get_within (started_in ts depth k g input a activity) may.number may.start may.started in omega (arith, l, i) in
-      let scope = present (out-NestedState n).scopes.items may.number within_scopes in
-      let inner : ScopeState = scope.0 in
-      let inner_shows : ShowsWithin ts depth (at q k) h x inner
-      = subst (λ r. ShowsWithin ts depth (at r k) h x inner) may.named
-      (subst (λ o. shows_attempt (ShowsWithin ts depth) k activity.name o may.start inner) may.of (nested.scopes may.number may.start inner may.started scope.1)) in
-      let gave_it : given_by h inner ≡ out = given_is ts depth (at q k) h x may.out inner may.complete inner_shows in
-      let numbered : q.attempt ≡ may.number + 1 = ap (λ (r : Part). r.attempt) (sym may.named) ∙ started_numbered ts k runs g input e a activity may.number may.start may.started in
-      let place : place_of g q.name ≡ Some a = ap (place_of g) (sym name) ∙ place_found g a activity (named_of ts depth g well) may.is in
-      let unsettled : ends_of (out-ScopeState s).ends.items a ≡ end.Unsettled = shows.ends a ∙ was in
-      let received = receives a activity (Nested n) h inner place may.is at_place may.of rows.sinking (inner_at s a n q.attempt may.number inner at_place numbered scope.1) in
-      let ended = subst (λ (o : Container). EndsBy (holds activity.exit o) g h path a activity (Nested n) o (fields s) (fields s') before after) gave_it received in
-      let one = ends_one (holds activity.exit out) g h path a activity n out (fields s) (fields s') before after unsettled at_place ended in
-      let input_is : looped (out-Graph g).loops a out (base_of g activity a (fields s).input (ends_of (fields s).ends)) ≡ looped (out-Graph g).loops a out base
-      = ap (λ i. looped (out-Graph g).loops a out (base_of g activity a i (ends_of (fields s).ends))) shows.reads
-      ∙ ap (λ f. looped (out-Graph g).loops a out (base_of g activity a input f)) (fun_ext shows.ends) in
+  -- the state of the activity before
+  stands : (state : ActivityState) × (slice_get (out-ScopeState s).states.items a ≡ Some state)
+  stands =
+      let l = shows.stated in
+      let i = slice_get_within (out-Graph g).activities a activity may.is in
+      present (out-ScopeState s).states.items a (omega (arith, l, i))
+
+  nested_before : (n : NestedState) × (stands.0 ≡ Nested n)
+      × ShowsNested (fate_given ts k runs g input e a) (started_in ts depth k g input a activity) (shows_attempt (ShowsWithin ts depth) k activity.name (graph_in ts activity.work)) n
+  nested_before =
+      nested_state ts h activity.work (fate_given ts k runs g input e a) (attempts ts k runs g input e a) (started_in ts depth k g input a activity)
+      (shows_attempt (ShowsWithin ts depth) k activity.name (graph_in ts activity.work)) stands.0 may.of (shows.states a activity stands.0 may.is stands.1)
+
+  abbrev n : NestedState
+  n = nested_before.0
+
+  stands_nested : slice_get (out-ScopeState s).states.items a ≡ Some (Nested n)
+  stands_nested = stands.1 ∙ ap Some nested_before.1
+
+  -- the scope that has ended
+  scope : (inner : ScopeState) × (slice_get (out-NestedState n).scopes.items may.number ≡ Some inner)
+  scope =
+      let count : length (out-NestedState n).scopes.items ≡ length (started_in ts depth k g input a activity) = nested_before.2.count in
+      let i = slice_get_within (started_in ts depth k g input a activity) may.number may.start may.started in
+      present (out-NestedState n).scopes.items may.number (omega (arith, count, i))
+
+  gave_out : given_by h scope.0 ≡ out
+  gave_out =
+      given_is ts depth (at q k) h x may.out scope.0 may.complete
+      (subst (λ r. ShowsWithin ts depth (at r k) h x scope.0) may.named
+      (subst (λ o. shows_attempt (ShowsWithin ts depth) k activity.name o may.start scope.0) may.of (nested_before.2.scopes may.number may.start scope.0 may.started scope.1)))
+
+  found : inner_of s a q.attempt ≡ Some scope.0
+  found =
+      inner_at s a n q.attempt may.number scope.0 stands_nested
+      (ap (λ (r : Part). r.attempt) (sym may.named) ∙ started_numbered ts k runs g input e a activity may.number may.start may.started) scope.1
+
+  abbrev looped_by : Fields → Container
+  looped_by f = looped (out-Graph g).loops a out (base_of g activity a f.input (ends_of f.ends))
+
+  looped_is : looped_by (fields s) ≡ looped (out-Graph g).loops a out base
+  looped_is =
+      ap (λ i. looped (out-Graph g).loops a out (base_of g activity a i (ends_of (out-ScopeState s).ends.items))) shows.reads
+      ∙ ap (λ f. looped (out-Graph g).loops a out (base_of g activity a input f)) (fun_ext shows.ends)
+
+  keeps : EndsOne (holds activity.exit out) h (looped_by (fields s)) a n out (fields s) (fields s') → Shows ts depth k' g input s'
+  keeps one =
       one_changes ts depth k k' g input q well near messages may.fed a activity may.is name was now next.end_next s s' (Nested one.nested) one.changes shows
-      (nested_work ts h activity.work _ _ _ _ one.nested may.of (shown n nested _ input_is one.nested one.comes))
+      (nested_work ts h activity.work (fate_given ts k' runs g input E a) (attempts ts k' runs g input E a) (started_at ts k' runs g input E a activity)
+      (shows_attempt (ShowsWithin ts depth) k' activity.name (graph_in ts activity.work)) one.nested may.of
+      (shown n nested_before.2 (looped_by (fields s)) looped_is one.nested one.comes))
+
+  end_keeps : Receives ts path clock (Ending q.name q.attempt) before after g s s' → Shows ts depth k' g input s'
+  end_keeps receives =
+      let place : place_of g q.name ≡ Some a = ap (place_of g) (sym name) ∙ place_found g a activity (named_of ts depth g well) may.is in
+      let received = receives a activity (Nested n) h scope.0 place may.is stands_nested may.of rows.sinking found in
+      keeps (ends_one (holds activity.exit out) g h path a activity n out (fields s) (fields s') before after (shows.ends a ∙ was) stands_nested
+      (subst (λ (o : Container). EndsBy (holds activity.exit o) g h path a activity (Nested n) o (fields s) (fields s') before after) gave_out received))
 
 -- where a state shows what is known, and an attempt ends that is complete, the state after it shows what is known then
 pub end_shows : (ts : List Template) (depth : ℕ) (k : Known) (g : Graph) (input : Container) (s s' : ScopeState) (path : Path) (clock : ℕ) (before after : Told) (q : Part)

@@ -129,6 +129,7 @@ module _ (give give' : Gives) (t : Trial) (c : ℕ) (x out : Container) (more : 
         goes = rw (is, goes) (more_goes t.exit gave (tries n give t (j + 1) (t.loops gave)) goes rest.goes);
       }
 
+  -- so the attempts are longer by attempt c
   pub longer : (n j : ℕ) (input : Container) → Reaches (suc n) give t j input c x → c < n + j → Longer n j input
   longer n j input (inl at) less = start n at.0 at.1 less
     where

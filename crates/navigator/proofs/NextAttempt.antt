@@ -97,6 +97,7 @@ pub record IsReadyNext (activity : Activity) (outs : List Container) (c : ℕ) :
   pub goes : closed activity.exit outs ≡ false
   pub count : length outs + 1 ≡ c
 
+-- so it is where the fate says so
 pub ready_next : (activity : Activity) (outs : List Container) (c : ℕ) → fate_by activity (Some true) outs ≡ Ready c → IsReadyNext activity outs c
 ready_next activity [] c is = record { goes = refl; count = ready_number activity.work 1 c is }
 ready_next activity (x ∷ xs) c is =
@@ -128,6 +129,7 @@ pub record IsOpened (ts : List Template) (k : Known) (runs : Runs) (g : Graph) (
   pub begun : k.begun [] ≡ true
   pub join : joined activity.join (values_at k (out-Graph g).controls e a) ≡ Some true
 
+-- so it is where the fate is that of an open activity
 pub opened_is : (ts : List Template) (k : Known) (runs : Runs) (g : Graph) (input : Container) (e : Ends) (a : ℕ) (activity : Activity)
     → slice_get (out-Graph g).activities a ≡ Some activity → is_open (fate_given ts k runs g input e a) ≡ true → IsOpened ts k runs g input e a activity
 opened_is ts k runs g input e a activity there opened = go (k.begun []) refl
@@ -199,6 +201,7 @@ module _ (ts : List Template) (k k' : Known) (runs : Runs) (g : Graph) (input : 
         let is : is_open (fate_given ts k' runs g input E a) ≡ true = ap is_open fate_after ∙ then_open activity out c in
         rw (is, fed_then, base_then) (ap (λ n. starts (suc n) give' (trial g a activity base) 1 base) most)
 
+    -- its view before and after
     pub next_attempt : IsNextAttempt ts k k' runs g input e E a activity c out
     next_attempt =
         let tried = long.tried in

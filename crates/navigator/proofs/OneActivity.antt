@@ -142,6 +142,7 @@ module _ (ts : List Template) (depth : ℕ) (k k' : Known) (g : Graph) (input : 
   abbrev E : Ends
   E = ends_with a now e
 
+  -- what was settled stays
   pub extends_now : Extends e E
   extends_now = record { kept = λ x settled. elim (eqb_tells x a) [ inl is ↦ absurd (never x is.1 settled) | inr other ↦ elsewhere_ends a now e x other.1 ] }
     where
@@ -178,7 +179,7 @@ module _ (ts : List Template) (depth : ℕ) (k k' : Known) (g : Graph) (input : 
       | inr other ↦ elsewhere_ends a now e x other.1 ∙ step_is ts depth k g input well x ∙ sym (step_as_before x other.1)
     ]
 
-    pub ends_now : tree_ends ts depth k' g input ≡ E
+    ends_now : tree_ends ts depth k' g input ≡ E
     ends_now = ends_by_steps ts depth k' g input well E solves
 
     module _ (s s' : ScopeState) (state : ActivityState) (changes : ChangesOne a state now (fields s) (fields s')) (shows : Shows ts depth k g input s)
