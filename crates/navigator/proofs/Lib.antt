@@ -9,3 +9,9 @@ pub mod ShownAgain
 pub mod Leading
 pub mod MoreLooked
 pub mod Stepping
+pub mod MoreAttempts
+pub mod NextAttempt
+pub mod OneActivity
+pub mod Completing
+pub mod EndedScopes
+pub mod Ending
