@@ -15,3 +15,4 @@ pub mod OneActivity
 pub mod Completing
 pub mod EndedScopes
 pub mod Ending
+pub mod Held
