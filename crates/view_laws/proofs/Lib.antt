@@ -13,3 +13,5 @@ pub mod WholeRuns
 pub mod BoundedDue
 pub mod TakenMessages
 mod Example
+pub mod Learnt
+pub mod SeenNext
