@@ -15,3 +15,8 @@ pub mod TakenMessages
 mod Example
 pub mod Learnt
 pub mod SeenNext
+pub mod Attempts
+pub mod StartedParts
+pub mod DueParts
+pub mod ReadyInView
+pub mod Grounds
