@@ -20,3 +20,8 @@ pub mod StartedParts
 pub mod DueParts
 pub mod ReadyInView
 pub mod Grounds
+pub mod Unfinished
+pub mod FoundSignals
+pub mod MayCome
+pub mod Led
+pub mod NextEvents
