@@ -25,3 +25,4 @@ pub mod FoundSignals
 pub mod MayCome
 pub mod Led
 pub mod NextEvents
+mod ExampleLegal
