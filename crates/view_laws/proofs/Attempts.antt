@@ -165,6 +165,7 @@ next_attempt (suc n) gives t j i on = go (gives j i) refl (λ out. next_attempt 
         let done : Next (tries (suc n) gives t j i) = subst Next (sym list) (by_exit out (rest out) gave (holds t.exit out) refl (subst (GoesOn t.exit) list on)) in
         record { input = done.0; reach = done.1; open_ = done.2 }
 
+-- no more attempts are tried than are looked at
 pub tries_at_most : (n : ℕ) (gives : Gives) (t : Trial) (j : ℕ) (i : Container) → length (tries n gives t j i) ≤ n
 tries_at_most zero gives t j i = omega arith
 tries_at_most (suc n) gives t j i = go (gives j i) refl (λ out. tries_at_most n gives t (j + 1) (t.loops out))

@@ -101,11 +101,13 @@ module _ (r : Root) (qf : Note → ℕ) where
 
   -- ---- what counts of messages is due
 
+  -- each message of the scope and of those below that counts is due
   pub record AreDue (ts : List Template) (depth : ℕ) (k : Known) (g : Graph) (i : Container) : Type 0 where
     pub signals : (p : List Part) (a b : ℕ) (v : Bool) (o : Option Bool) → k.sent p a b o ≡ Some v → 1 ≤ times x (due_in ts depth k g i) (SignalNote p a b v)
     pub ends : (q : Part) (p : List Part) → k.closed (q ∷ p) ≡ true → 1 ≤ times x (due_in ts depth k g i) (EndNote (q ∷ p))
     pub begins : (q : Part) (p : List Part) → k.begun (q ∷ p) ≡ true → 1 ≤ times x (due_in ts depth k g i) (BeginNote (q ∷ p))
 
+  -- no BEGIN of a scope further in is due with the attempt itself
   pub tops_begin_below : (k : Known) (q : Part) (o : Option Container) (s : Part) (p : List Part) → times x (tops r qf k q o) (BeginNote (s ∷ p)) ≡ 0
   tops_begin_below k q o s p = go (k.begun (q ∷ []) && is_given o) refl
     where
@@ -113,6 +115,7 @@ module _ (r : Root) (qf : Note → ℕ) where
       go true is = rw is refl
       go false is = rw is refl
 
+  -- so it is in a scope that has started
   pub due_inside : (ts : List Template) (depth : ℕ) (k : Known) (g : Graph) (i : Container) → Well ts (suc depth) g → AreDue ts (suc depth) k g i
       → (q : Part) (scope : HasScope ts (suc depth) k g i q) → AreDue ts depth (at q k) scope.graph scope.input
   due_inside ts depth k g i well due q scope = record {
@@ -133,6 +136,7 @@ module _ (r : Root) (qf : Note → ℕ) where
         omega arith;
   }
 
+  -- so what was told is so
   pub honest_of : (ts : List Template) (depth : ℕ) (k : Known) (g : Graph) (i : Container) → Well ts depth g → AreDue ts depth k g i → Honest ts depth k g i
   honest_of ts depth k g i well due = tree_honest r qf ts depth k g i well due.signals due.ends
 

@@ -35,6 +35,7 @@ use Rattle.view_laws.specs.Messages.{Note, SignalNote, note_of, notes, due_in, s
 use Rattle.view_laws.specs.Queues.{Engine, times}
 use Rattle.view_laws.specs.Runs.{Root, Event, engine}
 
+-- what stands at a place of a list is among it
 pub contains_of : {X : Type 0} (xs : List X) (n : ℕ) (c : X) → slice_get xs n ≡ Some c → Contains xs c
 contains_of xs n c is = (n, slice_get_within xs n c is, sym (unwrap_or-slice_get xs n c) ∙ ap (λ o. unwrap_or o c) is)
 
@@ -51,6 +52,7 @@ module _ (r : Root) (qf : Note → ℕ) where
   abbrev x : Engine Note Event
   x = engine r qf
 
+  -- a SIGNAL among those of a scope is of one of its connectors
   pub signal_found : (controls cs : List Control) (e : Ends) (a b : ℕ) (v : Bool) → 1 ≤ times x (notes controls cs e) (SignalNote [] a b v) → IsSignal controls cs e a b v
   signal_found controls [] e a b v some = absurd (omega arith)
   signal_found controls (c ∷ cs) e a b v some =
@@ -105,6 +107,7 @@ module _ (r : Root) (qf : Note → ℕ) where
 
 -- ---- what counts of each connector into an activity
 
+-- where no value into an activity is unknown, each counts
 pub counted_each : (counted : Control → Option Bool) (a : ℕ) (cs : List Control) → list_any is_none (map counted (filter (λ c. c.to == a) cs)) ≡ false
     → All (λ c. c.to ≡ a → is_none (counted c) ≡ false) cs
 counted_each counted a [] known = λ i d less. absurd (omega arith)
@@ -116,6 +119,7 @@ counted_each counted a (c ∷ cs) known = elim (eqb_tells c.to a) [
       All-cons (λ d. d.to ≡ a → is_none (counted d) ≡ false) c cs (λ to. absurd (other.1 to)) (counted_each counted a cs (rw other.0 at known))
 ]
 
+-- a connector has a value only where its source has ended
 pub settled_value : (all : List Control) (c : Control) (s : SourceEnd) (v : Bool) → connector_value all c s ≡ Some v → is_settled s ≡ true
 settled_value all c end.Unsettled v h = cc
 settled_value all c end.Dead v h = refl

@@ -21,6 +21,7 @@ pub record IsOneKnown (k k' : Known) : Type 0 where
   pub sent : (r : List Part) (a b : ℕ) (o : Option Bool) → k'.sent r a b o ≡ k.sent r a b o
   pub given : (r : List Part) → k'.given r ≡ k.given r
 
+-- so they are one
 pub one_known : (k k' : Known) → IsOneKnown k k' → k' ≡ k
 unfolding known_by
 one_known k k' same =
@@ -77,6 +78,7 @@ pub record TellsBegin (p : List Part) (k k' : Known) : Type 0 where
   pub sent : (r : List Part) (a b : ℕ) (o : Option Bool) → k'.sent r a b o ≡ k.sent r a b o
   pub given : (r : List Part) → k'.given r ≡ k.given r
 
+-- then that scope learns that it has begun
 pub begin_learnt : (p : List Part) (k k' : Known) → TellsBegin p k k' → k' ≡ learnt with_begin p k
 begin_learnt [] k k' tells = one_known (with_begin k) k' (record { most = tells.most; begun = here; closed = tells.closed; sent = tells.sent; given = tells.given })
   where
@@ -109,6 +111,7 @@ pub record TellsSignal (p : List Part) (a b : ℕ) (v : Bool) (k k' : Known) : T
   pub sent : (r : List Part) (c d : ℕ) (o : Option Bool) → k'.sent r c d o ≡ (if same_parts p r && (a == c) && (b == d) then Some v else k.sent r c d o)
   pub given : (r : List Part) → k'.given r ≡ k.given r
 
+-- then that scope learns the value of the connector
 pub signal_learnt : (p : List Part) (a b : ℕ) (v : Bool) (k k' : Known) → TellsSignal p a b v k k' → k' ≡ learnt (with_signal a b v) p k
 signal_learnt [] a b v k k' tells =
     one_known (with_signal a b v k) k' (record { most = tells.most; begun = tells.begun; closed = tells.closed; sent = here; given = tells.given })
@@ -142,6 +145,7 @@ pub record TellsEnd (p : List Part) (last : Part) (k k' : Known) : Type 0 where
   pub sent : (r : List Part) (a b : ℕ) (o : Option Bool) → k'.sent r a b o ≡ k.sent r a b o
   pub given : (r : List Part) → k'.given r ≡ k.given r
 
+-- then the scope of the path learns that the attempt has told its end
 pub end_learnt : (p : List Part) (last : Part) (k k' : Known) → TellsEnd p last k k' → k' ≡ learnt (with_end last) p k
 end_learnt [] last k k' tells =
     one_known (with_end last k) k' (record { most = tells.most; begun = tells.begun; closed = here; sent = tells.sent; given = tells.given })
@@ -184,6 +188,7 @@ pub record TellsOutput (p : List Part) (last : Part) (out : Container) (k k' : K
   pub sent : (r : List Part) (a b : ℕ) (o : Option Bool) → k'.sent r a b o ≡ k.sent r a b o
   pub given : (r : List Part) → k'.given r ≡ (if same_parts (p ++ last ∷ []) r then Some out else k.given r)
 
+-- then the scope of the path learns what was given for the item
 pub output_learnt : (p : List Part) (last : Part) (out : Container) (k k' : Known) → TellsOutput p last out k k' → k' ≡ learnt (with_output last out) p k
 output_learnt [] last out k k' tells =
     one_known (with_output last out k) k' (record { most = tells.most; begun = tells.begun; closed = tells.closed; sent = tells.sent; given = here })

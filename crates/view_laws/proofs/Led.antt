@@ -45,6 +45,7 @@ module _ (r : Root) (qf : Note → ℕ) (ts : List Template) where
       (step : (depth : ℕ) (k : Known) (g : Graph) (i : Container) (q : Part) (p : List Part) → Well ts (suc depth) g → Claim (suc depth) k g i (q ∷ p)
       → (scope : HasScope ts (suc depth) k g i q) × Claim depth (at q k) scope.graph scope.input p)
       (none : (k : Known) (g : Graph) (i : Container) (q : Part) (p : List Part) → Claim 0 k g i (q ∷ p) → ⊥) where
+    -- what is claimed along a path leads to a scope of which the fact holds, and no scope on the way is complete
     pub led : (depth : ℕ) (k : Known) (g : Graph) (i : Container) (p : List Part) → Well ts depth g → Aimed ts depth g → IsGrounded r qf ts depth k g i → Claim depth k g i p
         → Leads fact ts depth k g i p × Unfinished ts depth k g i
     led depth k g i [] well aimed ground claim = here depth k g i well aimed ground claim
@@ -90,6 +91,7 @@ module _ (r : Root) (qf : Note → ℕ) (ts : List Template) where
   BeginDue depth k g i [] = Unit {0}
   BeginDue depth k g i (q ∷ p) = 1 ≤ times x (due_in ts depth k g i) (BeginNote (q ∷ p))
 
+  -- the BEGIN of the scope at the end of the path is due and wasn't taken
   abbrev pub BeginClaim : PathClaim
   BeginClaim depth k g i p = BeginDue depth k g i p × (k.begun p ≡ false)
 
@@ -106,6 +108,7 @@ module _ (r : Root) (qf : Note → ℕ) (ts : List Template) where
       below scope [] all some = tt
       below scope (s ∷ l) all some = let none = tops_begin_below r qf k q (output ts (suc depth) (at q k) scope.graph scope.input) s l in omega arith
 
+  -- so the path leads to a scope that may begin
   pub begin_led : (depth : ℕ) (k : Known) (g : Graph) (i : Container) (p : List Part) → Well ts depth g → Aimed ts depth g → IsGrounded r qf ts depth k g i
       → BeginClaim depth k g i p → Leads (λ d k' h j. MayBegin ts d k' h j) ts depth k g i p
   begin_led depth k g i p well aimed ground claim =
@@ -116,6 +119,7 @@ module _ (r : Root) (qf : Note → ℕ) (ts : List Template) where
 
   -- ---- SIGNAL
 
+  -- the SIGNAL in the scope at the end of the path is due and wasn't taken
   abbrev pub SignalClaim : ℕ → ℕ → Bool → PathClaim
   SignalClaim a b v depth k g i p = (1 ≤ times x (due_in ts depth k g i) (SignalNote p a b v)) × (k.sent p a b None ≡ Some v → ⊥)
 
@@ -132,6 +136,7 @@ module _ (r : Root) (qf : Note → ℕ) (ts : List Template) where
   aimed_at zero g aimed = aimed.each
   aimed_at (suc depth) g aimed = aimed.each
 
+  -- so the path leads to a scope in which it may come
   pub signal_led : (a b : ℕ) (v : Bool) (depth : ℕ) (k : Known) (g : Graph) (i : Container) (p : List Part) → Well ts depth g → Aimed ts depth g → IsGrounded r qf ts depth k g i
       → SignalClaim a b v depth k g i p → Leads (λ d k' h j. MaySignal ts d k' h j a b v) ts depth k g i p
   signal_led a b v depth k g i p well aimed ground claim =
@@ -145,6 +150,7 @@ module _ (r : Root) (qf : Note → ℕ) (ts : List Template) where
 
   -- ---- END
 
+  -- the END of an attempt of the scope at the end of the path is due and wasn't taken
   abbrev pub EndClaim : Part → PathClaim
   EndClaim last depth k g i p = (1 ≤ times x (due_in ts depth k g i) (EndNote (p ++ last ∷ []))) × (k.closed (p ++ last ∷ []) ≡ false)
 
@@ -167,6 +173,7 @@ module _ (r : Root) (qf : Note → ℕ) (ts : List Template) where
   end_here last (suc depth) k g i well aimed ground claim =
       (may_end r qf ts depth k g i well ground last claim.0 claim.1, end_unfinished r qf ts depth k g i well ground last claim.0 claim.1)
 
+  -- so the path leads to a scope in which it may come
   pub end_led : (last : Part) (depth : ℕ) (k : Known) (g : Graph) (i : Container) (p : List Part) → Well ts depth g → Aimed ts depth g → IsGrounded r qf ts depth k g i
       → EndClaim last depth k g i p → Leads (λ d k' h j. MayEnd ts d k' h j last) ts depth k g i p
   end_led last depth k g i p well aimed ground claim =
@@ -176,6 +183,7 @@ module _ (r : Root) (qf : Note → ℕ) (ts : List Template) where
 
   -- ---- completions
 
+  -- an item of the scope at the end of the path is awaited
   abbrev pub AwaitsAt : Part → PathClaim
   AwaitsAt last depth k g i p = Awaits ts depth k g i (p ++ last ∷ [])
 
@@ -216,6 +224,7 @@ module _ (r : Root) (qf : Note → ℕ) (ts : List Template) where
       → MayComplete ts depth k g i last × Unfinished ts depth k g i
   await_here last depth k g i well aimed ground w = (may_complete r qf ts depth k g i well ground last w, awaited_unfinished r qf ts depth k g i well ground last w)
 
+  -- so the path leads to a scope in which it may be completed
   pub await_led : (last : Part) (depth : ℕ) (k : Known) (g : Graph) (i : Container) (p : List Part) → Well ts depth g → Aimed ts depth g → IsGrounded r qf ts depth k g i
       → AwaitsAt last depth k g i p → Leads (λ d k' h j. MayComplete ts d k' h j last) ts depth k g i p
   await_led last depth k g i p well aimed ground claim =

@@ -38,6 +38,7 @@ peopled_of : (ts : List Template) (depth : ℕ) (g : Graph) → Well ts depth g 
 peopled_of ts zero g well = well.peopled
 peopled_of ts (suc depth) g well = well.peopled
 
+-- no two activities have one name, at any depth
 pub named_in : (ts : List Template) (depth : ℕ) (g : Graph) → Well ts depth g → AreNamed g
 named_in ts zero g well = well.named
 named_in ts (suc depth) g well = well.named
@@ -53,6 +54,7 @@ module _ (r : Root) (qf : Note → ℕ) (ts : List Template) (depth : ℕ) (k : 
   honest : Honest ts depth k g i
   honest = honest_of r qf ts depth k g i well ground.due
 
+  -- what feeds an activity of a known join is settled
   pub scope_fed : IsFedWhereKnown ts depth k g i
   scope_fed = fed_known ts depth k g i well honest
 
@@ -78,6 +80,7 @@ module _ (r : Root) (qf : Note → ℕ) (ts : List Template) (depth : ℕ) (k : 
 
   -- ---- BEGIN of the scope
 
+  -- a scope that hasn't begun may begin
   pub may_begin : k.begun [] ≡ false → MayBegin ts depth k g i
   may_begin unbegun = record {
     itself = record { unbegun = unbegun; unsent = λ a b. unsent a b (k.sent [] a b None) refl };
@@ -91,6 +94,7 @@ module _ (r : Root) (qf : Note → ℕ) (ts : List Template) (depth : ℕ) (k : 
       unsent a b None is = is
       unsent a b (Some v) is = absurd (not_begun (signal_begun a b v (ground.due.signals [] a b v None is)))
 
+  -- and isn't complete
   pub unbegun_unfinished : k.begun [] ≡ false → Unfinished ts depth k g i
   unbegun_unfinished unbegun =
       unsettled_unfinished ts depth k g i 0 (peopled_of ts depth g well) (waits_unsettled ts depth k g i well 0 (unbegun_waits ts depth k g i well unbegun 0))
@@ -101,6 +105,7 @@ module _ (r : Root) (qf : Note → ℕ) (ts : List Template) (depth : ℕ) (k : 
     signal : IsSignal (out-Graph g).controls (out-Graph g).controls (tree_ends ts depth k g i) a b v
     signal = found a b v some
 
+    -- a SIGNAL that is due and wasn't taken is of a connector whose value doesn't count
     pub signal_unsent : k.sent [] a b None ≡ None
     signal_unsent = go (k.sent [] a b None) refl
       where
@@ -166,6 +171,7 @@ module _ (r : Root) (qf : Note → ℕ) (ts : List Template) (depth : ℕ) (k : 
                 ap (λ n. is_settled (tree_ends ts depth k g i n)) (sym from)
                 ∙ settled_value (out-Graph g).controls signal.connector (tree_ends ts depth k g i signal.connector.from) v signal.value
 
+    -- so it may come
     pub may_signal : MaySignal ts depth k g i a b v
     may_signal = record {
       begun = signal_begun a b v some;
@@ -187,6 +193,7 @@ module _ (r : Root) (qf : Note → ℕ) (ts : List Template) (depth : ℕ) (k : 
         no_join : None ≡ Some true → ⊥
         no_join h = cc
 
+    -- and the scope isn't complete
     pub signal_unfinished : b < length (out-Graph g).activities → Unfinished ts depth k g i
     signal_unfinished inside =
         let there = activity_at g b inside in
@@ -196,9 +203,11 @@ module _ (r : Root) (qf : Note → ℕ) (ts : List Template) (depth : ℕ) (k : 
 
   -- ---- completion of an item
 
+  -- nothing was given for an item that is awaited
   pub awaited_ungiven : (q : Part) → IsAwaited ts depth k g i q → k.given (q ∷ []) ≡ None
   awaited_ungiven q w = ready_ungiven ts depth k g i well honest ground.items ground.covers ground.fewer q w
 
+  -- so it may be completed
   pub may_complete : (q : Part) → IsAwaited ts depth k g i q → MayComplete ts depth k g i q
   may_complete q w =
       let ready = ready_at ts depth k g i well honest w.place w.activity q.attempt w.is w.ready in
@@ -230,6 +239,7 @@ module _ (r : Root) (qf : Note → ℕ) (ts : List Template) (depth : ℕ) (k : 
       clash : (o : Option Container) (out : Container) → o ≡ None → o ≡ Some out → ⊥
       clash o out none some = cc
 
+  -- and the scope isn't complete
   pub awaited_unfinished : (q : Part) → IsAwaited ts depth k g i q → Unfinished ts depth k g i
   awaited_unfinished q w =
       unsettled_unfinished ts depth k g i w.place (place_inside g w.place w.activity w.is) (ready_unsettled ts depth k g i well w.place q.attempt w.ready)
@@ -241,6 +251,7 @@ module _ (r : Root) (qf : Note → ℕ) (ts : List Template) (depth : ℕ) (k : 
   scope : HasScope ts (suc depth) k g i q
   scope = (due_started r qf ts (suc depth) k g i q (EndNote []) some).2
 
+  -- an END that is due and wasn't taken may come
   pub may_end : MayEnd ts (suc depth) k g i q
   may_end =
       let complete = end_complete r qf ts depth k g i well q scope some in
@@ -276,5 +287,6 @@ module _ (r : Root) (qf : Note → ℕ) (ts : List Template) (depth : ℕ) (k : 
       clash : (o : Option Container) (out : Container) → o ≡ None → o ≡ Some out → ⊥
       clash o out none some' = cc
 
+  -- and the scope isn't complete
   pub end_unfinished : Unfinished ts (suc depth) k g i
   end_unfinished = scope_unfinished ts (suc depth) k g i well q scope unclosed

@@ -8,6 +8,7 @@ use Rattle.flow_model.specs.declared.instances.Fact.{Fact}
 use Rattle.flow_model.specs.declared.instances.Part.{Part}
 use Rattle.std.proofs.Common.{◌≡◌, ℕ, ◌≤◌, Bool, true, false, List, [], ◌∷◌, ◌++◌, length, refl, sym, ap, ◌∙◌, Option, Some, None, arith, subst}
 use Rattle.std.proofs.lemmas.List.{length-map}
+use Rattle.view_laws.proofs.AttemptsWithin.{leads_on, end_within, complete_within}
 use Rattle.view_laws.proofs.Counting.{has_times, has_none, front_waits}
 use Rattle.view_laws.proofs.DueParts.{AreDue}
 use Rattle.view_laws.proofs.Grounds.{IsGrounded}
@@ -20,10 +21,10 @@ use Rattle.view_laws.proofs.SeenNext.{seen_begin, seen_signal, seen_end, seen_co
 use Rattle.view_laws.proofs.StartedParts.{StartsAlong, along_more}
 use Rattle.view_laws.proofs.Trusting.{no_end}
 use Rattle.view_laws.proofs.WholeRuns.{running_is, due_times, start_signal, start_end, start_below, taken_spent, told_taken, taken_is_due, signal_due, end_due, put_is_due}
-use Rattle.view_laws.specs.Coming.{MaySignal, MayComplete}
+use Rattle.view_laws.specs.Coming.{MaySignal, MayEnd, MayComplete}
 use Rattle.view_laws.specs.LegalRuns.{Awaits, AreAwaited}
 use Rattle.view_laws.specs.Messages.{Note, BeginNote, SignalNote, EndNote, due_in}
-use Rattle.view_laws.specs.NextEvents.{MayGoOn, IsNextBegin, IsNextSignal, IsNextEnd, IsNextCompletion}
+use Rattle.view_laws.specs.NextEvents.{MayGoOn, IsNextBegin, IsNextSignal, MayEndWithin, IsNextEnd, MayCompleteWithin, IsNextCompletion}
 use Rattle.view_laws.specs.Queues.{Engine, has, times, spent, TakesFronts}
 use Rattle.view_laws.specs.Runs.{Root, Event, Started, Turned, Completed, Held, Stopped, is_stopped, has_started, taken, facts, seen, due_now, due, engine}
 
@@ -136,6 +137,7 @@ module _ (r : Root) (qf : Note → ℕ) (well : Well r.templates r.depth r.graph
       go none false is = is
       go none true is = let some = has_times x itself one (taken h) m is in absurd (omega arith)
 
+-- the BEGIN that is taken may come
 pub begins_may_come : (r : Root) (q : Note → ℕ) (h : List Event) (p : List Part) → MayGoOn r q (Turned (BeginNote p)) h → IsNextBegin r h p
 begins_may_come r q h p may =
     let fronts = may.legal.fronts in
@@ -153,6 +155,7 @@ begins_may_come r q h p may =
         let none = start_below r q (has_started h) s l in
         omega arith
 
+-- the SIGNAL that is taken may come
 pub signals_may_come : (r : Root) (q : Note → ℕ) (h : List Event) (p : List Part) (a b : ℕ) (v : Bool) → MayGoOn r q (Turned (SignalNote p a b v)) h → IsNextSignal r h p a b v
 signals_may_come r q h p a b v may =
     let fronts = may.legal.fronts in
@@ -169,6 +172,7 @@ signals_may_come r q h p a b v may =
     r.depth (seen h) r.graph r.input p leads in
     record { may = leads; known = seen_signal h p a b v unsent }
 
+-- the END that is taken may come
 pub ends_may_come : (r : Root) (q : Note → ℕ) (h : List Event) (p : List Part) → MayGoOn r q (Turned (EndNote p)) h → IsNextEnd r h p
 ends_may_come r q h [] may =
     let next = next_note r q may.well h (EndNote []) may.legal.fronts may.runs in
@@ -190,14 +194,19 @@ ends_may_come r q h (s ∷ p) may =
         let all = due_times r q h (EndNote (path ++ last ∷ [])) in
         let none = start_end r q (has_started h) (path ++ last ∷ []) in
         let here = next.due_ in
+        let leads = end_led r q r.templates last r.depth (seen h) r.graph r.input path may'.well may'.aimed ground (omega arith, next.unseen) in
         record {
           path = path;
           last = last;
           parts = refl;
-          may = end_led r q r.templates last r.depth (seen h) r.graph r.input path may'.well may'.aimed ground (omega arith, next.unseen);
+          may = leads;
+          within =
+              leads_on r.templates (λ depth k g i. MayEnd r.templates depth k g i last) (λ depth k g i. MayEndWithin r.templates depth k g i last) (end_within r.templates last)
+              r.depth (seen h) r.graph r.input path may'.well (record { items = ground.items; covers = ground.covers; fewer = ground.fewer }) leads;
           known = seen_end h path last;
         }
 
+-- the completion that is accepted may come
 pub completions_may_come : (r : Root) (q : Note → ℕ) (h : List Event) (f : Fact) → MayGoOn r q (Completed f) h → IsNextCompletion r h f
 completions_may_come r q h f may = at_path f.item.parts refl
   where
@@ -212,7 +221,11 @@ completions_may_come r q h f may = at_path f.item.parts refl
         let leads = await_led r q r.templates last.last r.depth (seen h) r.graph r.input last.path may.well may.aimed ground (subst Item last.parts awaited.2) in
         let ungiven = leads_tells r.templates (λ depth k g i. MayComplete r.templates depth k g i last.last) (λ k l. k.given (l ++ last.last ∷ []) ≡ None) (λ s l k is. is)
         (λ depth k g i m. m.ungiven) r.depth (seen h) r.graph r.input last.path leads in
-        record { path = last.path; last = last.last; parts = last.parts; may = leads; known = seen_completed h f last.path last.last last.parts ungiven }
+        let within =
+        leads_on r.templates (λ depth k g i. MayComplete r.templates depth k g i last.last) (λ depth k g i. MayCompleteWithin r.templates depth k g i last.last)
+        (λ depth k g i well has m. complete_within r.templates last.last depth k g i m)
+        r.depth (seen h) r.graph r.input last.path may.well (record { items = ground.items; covers = ground.covers; fewer = ground.fewer }) leads in
+        record { path = last.path; last = last.last; parts = last.parts; may = leads; within = within; known = seen_completed h f last.path last.last last.parts ungiven }
 
     at_path : (l : List Part) → f.item.parts ≡ l → IsNextCompletion r h f
     at_path [] is = absurd (subst Item is may.legal.awaited.2)

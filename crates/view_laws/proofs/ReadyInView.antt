@@ -34,6 +34,7 @@ IsTold ts depth k g i =
     All (λ c. (v : Bool) → k.sent [] c.from c.to (connector_value (out-Graph g).controls c (tree_ends ts depth k g i c.from)) ≡ Some v
     → connector_value (out-Graph g).controls c (tree_ends ts depth k g i c.from) ≡ Some v) (out-Graph g).controls
 
+-- at any depth
 pub told_of : (ts : List Template) (depth : ℕ) (k : Known) (g : Graph) (i : Container) → Honest ts depth k g i → IsTold ts depth k g i
 told_of ts zero k g i honest = honest.told
 told_of ts (suc depth) k g i honest = honest.told
@@ -54,12 +55,14 @@ module _ (ts : List Template) (depth : ℕ) (k : Known) (g : Graph) (i : Contain
   abbrev tried_with : ℕ → ℕ → Activity → List Container
   tried_with n a activity = tries n (gives ts k (output ts depth) activity.name activity.work) (trial g a activity (base_of g activity a i ev)) 1 (base_of g activity a i ev)
 
+  -- of a program that is ready: its scope has begun, what feeds it is settled, and its attempts go on up to the one that is ready
   pub record IsReadyAt (a : ℕ) (activity : Activity) (c : ℕ) : Type 0 where
     pub begun : k.begun [] ≡ true
     pub fed : is_fed (out-Graph g).lines a ev ≡ true
     pub count : length (tried_with k.most a activity) + 1 ≡ c
     pub on : GoesOn activity.exit (tried_with k.most a activity)
 
+  -- so it is where the fate says that it is ready
   pub ready_at : (a : ℕ) (activity : Activity) (c : ℕ) → slice_get (out-Graph g).activities a ≡ Some activity → tree_fate ts depth k g i a ≡ Ready c → IsReadyAt a activity c
   ready_at a activity c is ready = go (k.begun []) refl
     where

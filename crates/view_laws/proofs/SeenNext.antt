@@ -58,6 +58,7 @@ told_other ms m p a b none = told_next ms m p a b ∙ ap (option_or (told ms p a
 
 -- ---- the messages
 
+-- a BEGIN
 pub seen_begin : (h : List Event) (p : List Part) → seen (Turned (BeginNote p) ∷ h) ≡ learnt with_begin p (seen h)
 seen_begin h p =
     begin_learnt p (seen h) (seen (Turned (BeginNote p) ∷ h))
@@ -69,6 +70,7 @@ seen_begin h p =
       given = λ r. refl;
     })
 
+-- an END, of the scope around the attempt
 pub seen_end : (h : List Event) (p : List Part) (last : Part) → seen (Turned (EndNote (p ++ last ∷ [])) ∷ h) ≡ learnt (with_end last) p (seen h)
 seen_end h p last =
     end_learnt p last (seen h) (seen (Turned (EndNote (p ++ last ∷ [])) ∷ h))

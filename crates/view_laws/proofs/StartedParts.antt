@@ -54,6 +54,7 @@ StartsAlong ts depth k g i (q ∷ []) = HasStart ts depth k g i q
 StartsAlong ts zero k g i (q ∷ (s ∷ p)) = ⊥
 StartsAlong ts (suc depth) k g i (q ∷ (s ∷ p)) = (scope : HasScope ts (suc depth) k g i q) × StartsAlong ts depth (at q k) scope.graph scope.input (s ∷ p)
 
+-- a scope that has started is an attempt that has
 pub start_of : (ts : List Template) (depth : ℕ) (k : Known) (g : Graph) (i : Container) (q : Part) → HasScope ts depth k g i q → HasStart ts depth k g i q
 start_of ts depth k g i q scope = record {
   place = scope.place;
@@ -66,6 +67,7 @@ start_of ts depth k g i q scope = record {
 
 -- ---- by the list of starts
 
+-- what stands in the list of starts has started
 pub listed_starts : (ts : List Template) (depth : ℕ) (k : Known) (g : Graph) (i : Container) (a : ℕ) (activity : Activity) (number : ℕ) (s : Start)
     → slice_get (out-Graph g).activities a ≡ Some activity → slice_get (started_in ts depth k g i a activity) number ≡ Some s
     → Starts ts depth k g i a activity s.attempt s.input
@@ -84,6 +86,7 @@ listed_starts ts depth k g i a activity number s is found =
           (base_of g activity a i (tree_ends ts depth k g i)) number s (rw open_ at found);
     }
 
+-- what has started stands in the list of starts
 pub starts_listed : (ts : List Template) (depth : ℕ) (k : Known) (g : Graph) (i : Container) (a : ℕ) (activity : Activity) (c : ℕ) (i' : Container)
     → Starts ts depth k g i a activity c i' → (number : ℕ) × (slice_get (started_in ts depth k g i a activity) number ≡ Some (record { attempt = c; input = i' }))
 starts_listed ts depth k g i a activity c i' s =
@@ -101,6 +104,7 @@ activity_in : Activity → Option Activity → Activity
 activity_in x None = x
 activity_in x (Some y) = y
 
+-- a place has one activity
 pub one_activity : (o : Option Activity) (x y : Activity) → o ≡ Some x → o ≡ Some y → x ≡ y
 unfolding activity_in
 one_activity o x y is is' = ap (activity_in x) (sym is ∙ is')

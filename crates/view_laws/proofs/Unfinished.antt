@@ -24,9 +24,11 @@ use Rattle.std.specs.Prelude.{slice_get}
 use Rattle.view_laws.proofs.Attempts.{reached_open}
 use Rattle.view_laws.proofs.StartedParts.{Starts, HasScope}
 
+-- the scope isn't complete
 abbrev pub Unfinished : List Template → ℕ → Known → Graph → Container → Type 0
 Unfinished ts depth k g i = is_complete g (tree_ends ts depth k g i) ≡ true → ⊥
 
+-- a place with an activity is a place of the graph
 pub place_inside : (g : Graph) (a : ℕ) (activity : Activity) → slice_get (out-Graph g).activities a ≡ Some activity → a < length (out-Graph g).activities
 place_inside g a activity is = elim (cases_lt a (length (out-Graph g).activities)) [
   | inl less ↦ less
@@ -36,6 +38,7 @@ place_inside g a activity is = elim (cases_lt a (length (out-Graph g).activities
     none_some : None ≡ Some activity → ⊥
     none_some n = cc
 
+-- so it is where an activity hasn't ended
 pub unsettled_unfinished : (ts : List Template) (depth : ℕ) (k : Known) (g : Graph) (i : Container) (a : ℕ) → a < length (out-Graph g).activities
     → is_settled (tree_ends ts depth k g i a) ≡ false → Unfinished ts depth k g i
 unsettled_unfinished ts depth k g i a inside unsettled = λ whole.
@@ -84,9 +87,11 @@ module _ (ts : List Template) (depth : ℕ) (k : Known) (g : Graph) (i : Contain
   pub ends_by_fate : (a : ℕ) → ev a ≡ ended (tree_fate ts depth k g i a) (attempts ts k (output ts depth) g i ev a)
   ends_by_fate a = let has = order_of ts depth g well in step_keeps_ends ts depth k g i has.order has.flow a
 
+  -- an activity that waits hasn't ended
   pub waits_unsettled : (a : ℕ) → tree_fate ts depth k g i a ≡ Waiting → is_settled (ev a) ≡ false
   waits_unsettled a waits = ap is_settled (ends_by_fate a ∙ ap (λ f. ended f (attempts ts k (output ts depth) g i ev a)) waits)
 
+  -- nor has one that is ready
   pub ready_unsettled : (a c : ℕ) → tree_fate ts depth k g i a ≡ Ready c → is_settled (ev a) ≡ false
   ready_unsettled a c ready = ap is_settled (ends_by_fate a ∙ ap (λ f. ended f (attempts ts k (output ts depth) g i ev a)) ready)
 
@@ -100,6 +105,7 @@ module _ (ts : List Template) (depth : ℕ) (k : Known) (g : Graph) (i : Contain
     pub join : joined activity.join (values_at k (out-Graph g).controls ev a) ≡ Some true
     pub fed : is_fed (out-Graph g).lines a ev ≡ true
 
+  -- so it is of each activity with an attempt that has started
   pub starts_active : (a : ℕ) (activity : Activity) (c : ℕ) (i' : Container) → Starts ts depth k g i a activity c i' → IsActive a activity
   starts_active a activity c i' s = go (k.begun []) refl
     where

@@ -1,6 +1,7 @@
 -- Laws of the next event of a legal run: it may come, and what is known after it is what was known before and what it tells.
-use Rattle.std.specs.Prelude.{◌≡◌, ℕ, zero, suc, ◌+◌, ◌<◌, Bool, false, Some, List, [], ◌∷◌, ◌++◌, length, slice_get}
+use Rattle.std.specs.Prelude.{◌≡◌, ℕ, zero, suc, ◌+◌, ◌≤◌, ◌<◌, Bool, false, Some, List, [], ◌∷◌, ◌++◌, length, slice_get}
 use Rattle.flow_model.specs.declared.graphs.Activity.{Activity}
+use Rattle.flow_model.specs.declared.graphs.Container.{Container}
 use Rattle.flow_model.specs.declared.graphs.Control.{Control}
 use Rattle.flow_model.specs.declared.graphs.Graph.{Graph, out-Graph}
 use Rattle.flow_model.specs.declared.graphs.Template.{Template}
@@ -53,16 +54,27 @@ abbrev pub SignalsMayCome : Type 0
 SignalsMayCome =
     (r : Root) (q : Note → ℕ) (h : List Event) (p : List Part) (a b : ℕ) (v : Bool) → MayGoOn r q (Turned (SignalNote p a b v)) h → IsNextSignal r h p a b v
 
+-- an END that may come is of an attempt that is looked at
+pub record MayEndWithin (ts : List Template) (depth : ℕ) (k : Known) (g : Graph) (input : Container) (last : Part) : Type 0 where
+  pub may : MayEnd ts depth k g input last
+  pub within : may.start.attempt ≤ k.most
+
 -- an END that is taken is of an attempt of a scope, and may come
 pub record IsNextEnd (r : Root) (h : List Event) (p : List Part) : Type 0 where
   pub path : List Part
   pub last : Part
   pub parts : p ≡ path ++ last ∷ []
   pub may : Leads (λ depth k g i. MayEnd r.templates depth k g i last) r.templates r.depth (seen h) r.graph r.input path
+  pub within : Leads (λ depth k g i. MayEndWithin r.templates depth k g i last) r.templates r.depth (seen h) r.graph r.input path
   pub known : seen (Turned (EndNote p) ∷ h) ≡ learnt (with_end last) path (seen h)
 
 abbrev pub EndsMayCome : Type 0
 EndsMayCome = (r : Root) (q : Note → ℕ) (h : List Event) (p : List Part) → MayGoOn r q (Turned (EndNote p)) h → IsNextEnd r h p
+
+-- an item that may be completed is of an attempt that is looked at, or of the next
+pub record MayCompleteWithin (ts : List Template) (depth : ℕ) (k : Known) (g : Graph) (input : Container) (last : Part) : Type 0 where
+  pub may : MayComplete ts depth k g input last
+  pub within : last.attempt ≤ k.most + 1
 
 -- an item that is completed may be
 pub record IsNextCompletion (r : Root) (h : List Event) (f : Fact) : Type 0 where
@@ -70,6 +82,7 @@ pub record IsNextCompletion (r : Root) (h : List Event) (f : Fact) : Type 0 wher
   pub last : Part
   pub parts : f.item.parts ≡ path ++ last ∷ []
   pub may : Leads (λ depth k g i. MayComplete r.templates depth k g i last) r.templates r.depth (seen h) r.graph r.input path
+  pub within : Leads (λ depth k g i. MayCompleteWithin r.templates depth k g i last) r.templates r.depth (seen h) r.graph r.input path
   pub known : seen (Completed f ∷ h) ≡ with_most (length (facts h) + 1) (learnt (with_output last f.output) path (seen h))
 
 abbrev pub CompletionsMayCome : Type 0
