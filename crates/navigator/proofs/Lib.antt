@@ -8,3 +8,8 @@ pub mod SameActivities
 pub mod ShownAgain
 pub mod Leading
 pub mod MoreLooked
+pub mod Replaced
+pub mod Opened
+pub mod SignalValues
+pub mod OneChanged
+pub mod Signalled
