@@ -13,3 +13,4 @@ pub mod Opened
 pub mod SignalValues
 pub mod OneChanged
 pub mod Signalled
+pub mod Begun

@@ -86,11 +86,11 @@ module _ (ts : List Template) (k : Known) (runs : Runs) (g : Graph) (input : Con
     (there : slice_get (out-Graph g).activities a ≡ Some activity) (begun : k.begun [] ≡ true) where
   pub is_opened : joined activity.join (values_at k (out-Graph g).controls e a) ≡ Some true → is_fed (out-Graph g).lines a e ≡ true
       → gives ts k runs activity.name activity.work 1 (base_of g activity a input e) ≡ None → IsOpened ts k runs g input e a activity
-  is_opened true_ fed none =
+  is_opened is_true fed none =
       let give : Gives = gives ts k runs activity.name activity.work in
       let base : Container = base_of g activity a input e in
       let outputs : attempts ts k runs g input e a ≡ [] = rw (there, fed) (no_tries k.most give (trial g a activity base) 1 base none) in
-      let fate : fate_given ts k runs g input e a ≡ goes_on activity.work 1 = rw (begun, there, true_) (ap (fate_by activity (Some true)) (rw there at outputs)) in
+      let fate : fate_given ts k runs g input e a ≡ goes_on activity.work 1 = rw (begun, there, is_true) (ap (fate_by activity (Some true)) (rw there at outputs)) in
       record {
         fate = fate;
         outputs = outputs;
@@ -104,8 +104,8 @@ module _ (ts : List Template) (k : Known) (runs : Runs) (g : Graph) (input : Con
       record { fate = fate; starts = rw fate refl; end = ap (λ f. ended f (attempts ts k runs g input e a)) fate }
 
   pub is_shut_false : joined activity.join (values_at k (out-Graph g).controls e a) ≡ Some false → IsShut ts k runs g input e a activity fates.Dead
-  is_shut_false no_ =
-      let fate : fate_given ts k runs g input e a ≡ fates.Dead = rw (begun, there, no_) refl in
+  is_shut_false is_false =
+      let fate : fate_given ts k runs g input e a ≡ fates.Dead = rw (begun, there, is_false) refl in
       record { fate = fate; starts = rw fate refl; end = ap (λ f. ended f (attempts ts k runs g input e a)) fate }
 
 -- ---- the state of a program activity

@@ -35,7 +35,7 @@ module _ (old new : Control → Option Bool) (a b : ℕ) (v : Bool) (told : (c :
   elsewhere x apart [] = refl
   elsewhere x apart (c ∷ cs) = elim (eqb_tells c.to x) [
     | inl is ↦ rw is.0 (both_lists (new c) (old c) _ _ (other c (λ from to. apart (sym is.1 ∙ to))) (elsewhere x apart cs))
-    | inr not_ ↦ rw not_.0 (elsewhere x apart cs)
+    | inr unlike ↦ rw unlike.0 (elsewhere x apart cs)
   ]
 
   apart_from : (c d : Control) → c.from ≡ a → c.to ≡ b → ((c.from == d.from) && (c.to == d.to)) ≡ false → d.from ≡ a → d.to ≡ b → ⊥
@@ -50,7 +50,7 @@ module _ (old new : Control → Option Bool) (a b : ℕ) (v : Bool) (told : (c :
       let both = or_false ((c.from == d.from) && (c.to == d.to)) (list_any (λ x. (c.from == x.from) && (c.to == x.to)) ds) none in
       elim (eqb_tells d.to b) [
         | inl is ↦ rw is.0 (both_lists (new d) (old d) _ _ (other d (apart_from c d from to both.0)) (absent c from to ds both.1))
-        | inr not_ ↦ rw not_.0 (absent c from to ds both.1)
+        | inr unlike ↦ rw unlike.0 (absent c from to ds both.1)
       ]
 
   split : (cs : List Control) (n : ℕ) (c : Control) → AreSimple cs → slice_get cs n ≡ Some c → c.from ≡ a → c.to ≡ b
@@ -79,7 +79,7 @@ module _ (old new : Control → Option Bool) (a b : ℕ) (v : Bool) (told : (c :
           old = rw is.0 (ap (λ os. old d ∷ os) rest.old);
           new = rw is.0 (both_lists (new d) (old d) _ _ one rest.new);
         }
-        | inr not_ ↦ record { before = rest.before; behind = rest.behind; old = rw not_.0 rest.old; new = rw not_.0 rest.new }
+        | inr unlike ↦ record { before = rest.before; behind = rest.behind; old = rw unlike.0 rest.old; new = rw unlike.0 rest.new }
       ]
 
 module _ (k : Known) (a b : ℕ) (v : Bool) (by : IsByMessages k) (unsent : k.sent [] a b None ≡ None) (controls : List Control) (e E : Ends) where
@@ -99,8 +99,8 @@ module _ (k : Known) (a b : ℕ) (v : Bool) (by : IsByMessages k) (unsent : k.se
   another : (c : Control) → (c.from ≡ a → c.to ≡ b → ⊥) → value_then c ≡ value c
   another c apart =
       let differs : ((a == c.from) && (b == c.to)) ≡ false = elim (eqb_tells a c.from) [
-        | inl from ↦ elim (eqb_tells b c.to) [ inl to ↦ absurd (apart (sym from.1) (sym to.1)) | inr not_ ↦ rw (from.0, not_.0) refl ]
-        | inr not_ ↦ rw not_.0 refl
+        | inl from ↦ elim (eqb_tells b c.to) [ inl to ↦ absurd (apart (sym from.1) (sym to.1)) | inr unlike ↦ rw (from.0, unlike.0) refl ]
+        | inr unlike ↦ rw unlike.0 refl
       ] in
       rw differs (by [] c.from c.to (connector_value controls c (E c.from)) ∙ sym (by [] c.from c.to (connector_value controls c (e c.from))))
 

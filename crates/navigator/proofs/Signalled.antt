@@ -192,10 +192,10 @@ module _ (ts : List Template) (depth : ℕ) (k : Known) (g : Graph) (input : Con
 
     on_true : joined activity.join (values_at known controls e b) ≡ Some true → Opens ts g path clock b activity (slice_get (fields s).states b) taken (fields s') before after
         → Shows ts depth known g input s'
-    on_true true_ opens =
+    on_true is_true opens =
         let base : Container = base_of g activity b input e in
-        let fed = may.fed_then activity there (ap is_none true_) in
-        let opened = is_opened ts known runs g input e b activity there may.begun true_ fed (new_gives ts known runs activity.name activity.work 1 base new_first) in
+        let fed = may.fed_then activity there (ap is_none is_true) in
+        let opened = is_opened ts known runs g input e b activity there may.begun is_true fed (new_gives ts known runs activity.name activity.work 1 base new_first) in
         let to = opened_shows ts k known runs (ShowsWithin ts depth) g input e e b activity was waits shown_before path clock taken (fields s') before after has opened
         (λ h u runs_it fresh. new_scope_shows ts depth (at (part activity.name 1) known) g b activity h base u served there runs_it new_first.untouched fresh)
         shows.reads shows.ends (subst (λ o. Opens ts g path clock b activity o taken (fields s') before after) stated opens) in
@@ -205,19 +205,19 @@ module _ (ts : List Template) (depth : ℕ) (k : Known) (g : Graph) (input : Con
         (shown_then e same_ends to.state (subst (λ f. ChangesOne b tally to.state (fields s) f) (sym to.scope) changes) (subst (λ f. HasEnds e f) (sym to.scope) ends) counts to.shown)
 
     on_false : joined activity.join (values_at known controls e b) ≡ Some false → fields s' ≡ dies b taken → Shows ts depth known g input s'
-    on_false false_ is =
+    on_false is_false is =
         let E : Ends = dead_at b e in
         let one_more : values_at known controls E b ≡ values_at known controls e b = values_free known (signal_by k a b v by) controls (filter (λ c. c.to == b) controls) e E in
-        let shut = is_shut_false ts known runs g input E b activity there may.begun (ap (joined activity.join) one_more ∙ false_) in
+        let shut = is_shut_false ts known runs g input E b activity there may.begun (ap (joined activity.join) one_more ∙ is_false) in
         let f : Fields = settled b end.Dead (with_state b (dead_state was) taken) in
         let is_f : fields s' ≡ f = is ∙ ap (λ o. settled b end.Dead (changed_at dead_state b o taken)) stated in
         let inside_states : b < length (fields s).states = slice_get_within (fields s).states b was stated in
         let within : b < length (fields s).ends = omega (arith, shows.stated, shows.ended) in
         let stands = present (fields s).ends b within in
-        let open_ : stands.0 ≡ end.Unsettled = ap (λ o. unwrap_or o end.Unsettled) (sym stands.1) ∙ shows.ends b ∙ unsettled in
+        let unsettled_here : stands.0 ≡ end.Unsettled = ap (λ o. unwrap_or o end.Unsettled) (sym stands.1) ∙ shows.ends b ∙ unsettled in
         let changes : ChangesOne b tally (dead_state was) (fields s) f = changed_so (dead_state was) f refl refl refl (set_long (fields s).ends b end.Dead) refl in
         let less : count_by (λ x. not (is_settled x)) (slice_set (fields s).ends b end.Dead) + 1 ≡ count_by (λ x. not (is_settled x)) (fields s).ends
-        = count_less (λ x. not (is_settled x)) (fields s).ends b stands.0 end.Dead stands.1 (ap (λ x. not (is_settled x)) open_) refl in
+        = count_less (λ x. not (is_settled x)) (fields s).ends b stands.0 end.Dead stands.1 (ap (λ x. not (is_settled x)) unsettled_here) refl in
         let left : (fields s).unsettled ≡ count_by (λ x. not (is_settled x)) (fields s).ends = shows.unsettled in
         let ends : HasEnds E f = record {
           ends = λ x. elim (eqb_tells x b) [
@@ -254,8 +254,11 @@ signal_shows ts depth k g input s s' path clock before after a b v name well ser
     let was = present (fields s).states b stated in
     let is_told = told ts depth k g input a b v well by may activity there in
     let takes = receives b activity t.0 is_told.before is_told.behind place there t.1 (subst (Counts t.0) is_told.old (shows.tallies b t.0 t.1)) in
-    let counts = subst (Counts takes.takes.tally) (sym is_told.new) takes.takes.counts in
-    decided ts depth k g input a b v well by may activity there s s' path clock before after served (graphs b activity there) shows t.0 takes.takes.tally was.0 t.1 was.1 counts
-    (joined activity.join (values_at (with_signal a b v k) (out-Graph g).controls (tree_ends ts depth k g input) b)) refl
-    (subst (λ vs. Decides ts g path clock b activity (joined activity.join vs) (record (fields s) { tallies = slice_set (fields s).tallies b takes.takes.tally }) (fields s') before after) (sym is_told.new)
-    (subst (λ f. Decides ts g path clock b activity (joined activity.join (is_told.before ++ Some v ∷ is_told.behind)) f (fields s') before after) takes.takes.scope takes.decides))
+    let values : ℕ → List (Option Bool) = values_at (with_signal a b v k) (out-Graph g).controls (tree_ends ts depth k g input) in
+    let told_values = is_told.before ++ Some v ∷ is_told.behind in
+    let f : Fields = record (fields s) { tallies = slice_set (fields s).tallies b takes.takes.tally } in
+    let decides : Decides ts g path clock b activity (joined activity.join told_values) f (fields s') before after
+    = subst (λ m. Decides ts g path clock b activity (joined activity.join told_values) m (fields s') before after) takes.takes.scope takes.decides in
+    decided ts depth k g input a b v well by may activity there s s' path clock before after served (graphs b activity there) shows t.0 takes.takes.tally was.0 t.1 was.1
+    (subst (Counts takes.takes.tally) (sym is_told.new) takes.takes.counts) (joined activity.join (values b)) refl
+    (subst (λ vs. Decides ts g path clock b activity (joined activity.join vs) f (fields s') before after) (sym is_told.new) decides)
