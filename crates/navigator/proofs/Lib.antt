@@ -8,6 +8,13 @@ pub mod SameActivities
 pub mod ShownAgain
 pub mod Leading
 pub mod MoreLooked
+pub mod Stepping
+pub mod MoreAttempts
+pub mod NextAttempt
+pub mod OneActivity
+pub mod Completing
+pub mod EndedScopes
+pub mod Ending
 pub mod Replaced
 pub mod Opened
 pub mod SignalValues

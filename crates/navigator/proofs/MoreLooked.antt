@@ -10,7 +10,7 @@ use Rattle.flow_model.specs.Conditions.{holds}
 use Rattle.flow_model.specs.Containers.{with_return_code}
 use Rattle.flow_model.specs.Fates.{Ends, is_open}
 use Rattle.flow_model.specs.ScopeContainers.{base_of, graph_in, graph_of, output_by}
-use Rattle.flow_model.specs.Scopes.{Known, at, part, Gives, Runs, Trial, Start, starts, then_start, scope_gives, gives, is_fed, trial, attempts_at, fate_given, started_at, rounds, scope_ends, output}
+use Rattle.flow_model.specs.Scopes.{Known, at, part, Gives, Runs, Trial, Start, starts, then_start, scope_gives, gives, is_fed, trial, attempts_at, fate_given, started_at, rounds, scope_ends, tree_ends, output}
 use Rattle.flow_model.specs.declared.graphs.Activity.{Activity}
 use Rattle.flow_model.specs.declared.graphs.Container.{Container}
 use Rattle.flow_model.specs.declared.graphs.Graph.{Graph, out-Graph}
@@ -188,3 +188,37 @@ most_shows ts (suc depth) k most items g input s well covers enough enough' show
   where
     fewer : (q : Part) (n : ℕ) → length items ≤ n → length (strip q items) ≤ n
     fewer q n le = let less = strip_at_most q items in omega arith
+
+-- ---- a scope where more attempts are looked at
+
+-- the view of a scope is the same
+pub record IsSameView (ts : List Template) (depth : ℕ) (k : Known) (most : ℕ) (g : Graph) (input : Container) : Type 0 where
+  pub ends : tree_ends ts depth (with_most most k) g input ≡ tree_ends ts depth k g input
+  pub fates : (e : Ends) (a : ℕ) → fate_given ts (with_most most k) (output ts depth) g input e a ≡ fate_given ts k (output ts depth) g input e a
+  pub starts : (e : Ends) (a : ℕ) (activity : Activity) → slice_get (out-Graph g).activities a ≡ Some activity
+      → started_at ts (with_most most k) (output ts depth) g input e a activity ≡ started_at ts k (output ts depth) g input e a activity
+
+pub same_view : (ts : List Template) (depth : ℕ) (k : Known) (most : ℕ) (items : List (List Part)) (g : Graph) (input : Container) → Well ts depth g → Covers k items
+    → length items ≤ k.most → length items ≤ most → IsSameView ts depth k most g input
+same_view ts zero k most items g input well covers enough enough' =
+    record {
+      ends = most_ends ts k most (output ts zero) (λ h. Unit {0}) items covers enough enough' (λ q h c ok. refl) (λ q h c o ok gave. absurd (no_some o gave)) g well input;
+      fates = most_fate ts k most (output ts zero) (λ h. Unit {0}) items covers enough enough' (λ q h c ok. refl) (λ q h c o ok gave. absurd (no_some o gave)) g well input;
+      starts = most_starts ts k most (output ts zero) (λ h. Unit {0}) items covers enough enough' (λ q h c ok. refl) (λ q h c o ok gave. absurd (no_some o gave)) g well input;
+    }
+same_view ts (suc depth) k most items g input well covers enough enough' =
+    by
+    (λ q h c ok. most_output ts depth (at q k) most (strip q items) h c ok (covers_at k items q covers) (fewer q k.most enough) (fewer q most enough'))
+    (λ q h c o ok gave. has_items (at q k) (strip q items) (covers_at k items q covers) (output_given ts depth (at q k) h c o ok gave))
+  where
+    fewer : (q : Part) (n : ℕ) → length items ≤ n → length (strip q items) ≤ n
+    fewer q n le = let less = strip_at_most q items in omega arith
+
+    by : ((q : Part) (h : Graph) (c : Container) → Well ts depth h → output ts (suc depth) (at q (with_most most k)) h c ≡ output ts (suc depth) (at q k) h c)
+        → ((q : Part) (h : Graph) (c o : Container) → Well ts depth h → output ts (suc depth) (at q k) h c ≡ Some o → 0 < length (strip q items))
+        → IsSameView ts (suc depth) k most g input
+    by same own = record {
+      ends = most_ends ts k most (output ts (suc depth)) (Well ts depth) items covers enough enough' same own g well input;
+      fates = most_fate ts k most (output ts (suc depth)) (Well ts depth) items covers enough enough' same own g well input;
+      starts = most_starts ts k most (output ts (suc depth)) (Well ts depth) items covers enough enough' same own g well input;
+    }

@@ -7,3 +7,4 @@ pub mod Steps
 pub mod ViewRows
 pub mod Events
 pub mod Serving
+pub mod Showing

@@ -1,5 +1,5 @@
 -- Which event may come next, by what is known in the scope that it concerns.
-use Rattle.std.specs.Prelude.{◌≡◌, ℕ, zero, suc, ◌+◌, Bool, true, false, Option, Some, None, is_none, List, [], ◌∷◌, slice_get}
+use Rattle.std.specs.Prelude.{◌≡◌, ℕ, zero, suc, ◌+◌, Bool, true, false, Option, Some, None, is_none, List, [], ◌∷◌, ◌++◌, slice_get}
 use Rattle.fate_laws.specs.StartedScopes.{ScopeFact}
 use Rattle.flow_model.specs.declared.graphs.Activity.{Activity}
 use Rattle.flow_model.specs.declared.graphs.Container.{Container}
@@ -13,7 +13,8 @@ use Rattle.flow_model.specs.declared.instances.Part.{Part}
 use Rattle.flow_model.specs.Fates.{joined}
 use Rattle.flow_model.specs.ScopeContainers.{graph_in}
 use Rattle.flow_model.specs.Scopes.{Known, at, part, Start, values_at, is_fed, started_at, output, tree_ends, tree_fate}
-use Rattle.view_laws.specs.Learning.{with_signal}
+use Rattle.view_laws.specs.Learning.{with_begin, with_signal, with_end, with_output, learnt, with_most}
+use Rattle.view_laws.specs.Messages.{Note, BeginNote, SignalNote, EndNote}
 
 -- ---- what doesn't count yet
 
@@ -121,3 +122,20 @@ Leads fact ts depth k g input [] = fact depth k g input
 Leads fact ts zero k g input (q ∷ p) = ⊥
 Leads fact ts (suc depth) k g input (q ∷ p) =
     IsOpenAttempt ts (suc depth) k g input q (λ h i. Leads fact ts depth (at q k) h i p)
+
+-- ---- a message, or a completion
+
+-- the message may come, and this is known after it
+abbrev pub Comes : List Template → ℕ → Known → Graph → Container → Note → Known → Type 0
+Comes ts depth k g input (BeginNote p) k' = Leads (MayBegin ts) ts depth k g input p × (k' ≡ learnt with_begin p k)
+Comes ts depth k g input (SignalNote p a b v) k' =
+    Leads (λ d j h i. MaySignal ts d j h i a b v) ts depth k g input p × (k' ≡ learnt (with_signal a b v) p k)
+Comes ts depth k g input (EndNote p) k' =
+    (around : List Part) × (q : Part) × (p ≡ around ++ q ∷ []) × Leads (λ d j h i. MayEnd ts d j h i q) ts depth k g input around
+    × (k' ≡ learnt (with_end q) around k)
+
+-- the item may be completed, and this is known after it
+abbrev pub ComesOutput : List Template → ℕ → Known → Graph → Container → List Part → Container → Known → Type 0
+ComesOutput ts depth k g input item out k' =
+    (around : List Part) × (q : Part) × (item ≡ around ++ q ∷ []) × Leads (λ d j h i. MayComplete ts d j h i q) ts depth k g input around
+    × (k' ≡ with_most (suc k.most) (learnt (with_output q out) around k))
