@@ -16,3 +16,9 @@ pub mod Completing
 pub mod EndedScopes
 pub mod Ending
 pub mod Held
+pub mod Replaced
+pub mod Opened
+pub mod SignalValues
+pub mod OneChanged
+pub mod Signalled
+pub mod Begun
