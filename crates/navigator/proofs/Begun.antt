@@ -22,12 +22,12 @@ use Rattle.flow_model.specs.declared.instances.Fate.TheVariants as fates
 use Rattle.flow_model.specs.declared.instances.Path.{Path}
 use Rattle.flow_model.specs.declared.instances.SourceEnd.TheVariants as end
 use Rattle.navigator.proofs.Leading.{set_other, set_long}
-use Rattle.navigator.proofs.OneChanged.{new_scope_shows}
-use Rattle.navigator.proofs.Opened.{HasGraphs, IsOpened, IsShut, new_gives, is_opened, is_shut_none, opened_shows, waiting_shows}
+use Rattle.navigator.proofs.OneChanged.{graphs_of, new_scope_shows}
+use Rattle.navigator.proofs.Opened.{IsOpened, IsShut, new_gives, is_opened, is_shut_none, opened_shows, waiting_shows}
 use Rattle.navigator.proofs.Places.{present, set_read}
 use Rattle.navigator.proofs.SameActivities.{ends_by_steps}
 use Rattle.navigator.specs.Events.{Receives, Begins}
-use Rattle.navigator.specs.Serving.{Served}
+use Rattle.navigator.specs.Serving.{HasGraphs, Served}
 use Rattle.navigator.specs.Steps.{Fields, Told, fields, with_state, Opens, Decides, DecidesFirst, AreTallied}
 use Rattle.navigator.specs.Views.{ShowsScope, ShowsActivity, ShowsEnds, ShowsWithin, Shows}
 use Rattle.navigator.specs.declared.scopes.ActivityState.{ActivityState}
@@ -224,9 +224,10 @@ module _ (ts : List Template) (depth : ℕ) (k : Known) (g : Graph) (input : Con
 
 -- where a scope shows the view, and a BEGIN comes that may come, it shows the view after it
 pub begin_shows : (ts : List Template) (depth : ℕ) (k : Known) (g : Graph) (input : Container) (s s' : ScopeState) (path : Path) (clock : ℕ) (before after : Told)
-    → Well ts depth g → Served ts depth g → HasGraphs ts g → IsByMessages k → MayBegin ts depth k g input → Shows ts depth k g input s
+    → Well ts depth g → Served ts depth g → IsByMessages k → MayBegin ts depth k g input → Shows ts depth k g input s
     → Receives ts path clock Begins before after g s s' → Shows ts depth (with_begin k) g input s'
-begin_shows ts depth k g input s s' path clock before after well served graphs by may shows receives =
+begin_shows ts depth k g input s s' path clock before after well served by may shows receives =
+    let graphs = graphs_of ts depth g served in
     let values = values_at k (out-Graph g).controls (tree_ends ts depth k g input) in
     let tallied : AreTallied g values (fields s).tallies = record { long = shows.tallied; counts = shows.tallies } in
     all_begun ts depth k g input well served graphs by may s shows path clock s'

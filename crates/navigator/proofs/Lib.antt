@@ -22,3 +22,4 @@ pub mod SignalValues
 pub mod OneChanged
 pub mod Signalled
 pub mod Begun
+pub mod TakesShown

@@ -22,7 +22,7 @@ use Rattle.navigator.proofs.SameActivities.{IsSameActivity}
 use Rattle.navigator.proofs.ShownAgain.{shown_again}
 use Rattle.navigator.proofs.Untouched.{fresh_shows}
 use Rattle.navigator.specs.Fresh.{IsFresh}
-use Rattle.navigator.specs.Serving.{Served}
+use Rattle.navigator.specs.Serving.{HasGraphs, Served}
 use Rattle.navigator.specs.Steps.{Fields, fields}
 use Rattle.navigator.specs.Views.{ShowsScope, shows_attempt, ShowsActivity, ShowsEnds, ShowsWithin}
 use Rattle.navigator.specs.declared.scopes.ActivityState.{ActivityState}
@@ -56,6 +56,10 @@ same_attempt below k k' same name (Some h) start s is = subst (λ j. below j h s
 incoming_of : (ts : List Template) (depth : ℕ) (g : Graph) → Served ts depth g → IsIncoming g
 incoming_of ts zero g served = served.incoming
 incoming_of ts (suc depth) g served = served.incoming
+
+pub graphs_of : (ts : List Template) (depth : ℕ) (g : Graph) → Served ts depth g → HasGraphs ts g
+graphs_of ts zero g served = served.graphs
+graphs_of ts (suc depth) g served = served.graphs
 
 few_of : (ts : List Template) (depth : ℕ) (g : Graph) → Served ts depth g → length (out-Graph g).controls < 2 ^ 32
 few_of ts zero g served = served.few

@@ -22,22 +22,13 @@ use Rattle.flow_model.specs.declared.instances.SourceEnd.TheVariants.{Unsettled}
 use Rattle.flow_model.specs.declared.names.Name.{Name}
 use Rattle.navigator.specs.Fresh.{IsFresh}
 use Rattle.navigator.specs.Steps.{Fields, Told, with_state, dead_state, at_stage, GrowsState, BeginsNext, Begins, Opens}
+use Rattle.navigator.specs.Serving.{HasGraph}
 use Rattle.navigator.specs.Views.{ShowsProgram, ShowsStart, ShowsNested, ShowsWork, ShowsScope, shows_attempt, ShowsActivity}
 use Rattle.navigator.specs.declared.scopes.ActivityState.{ActivityState, Program, Nested}
 use Rattle.navigator.specs.declared.scopes.NestedStage.TheVariants as stages
 use Rattle.navigator.specs.declared.scopes.NestedState.{NestedState, out-NestedState, out-roll-NestedState}
 use Rattle.navigator.specs.declared.scopes.ScopeState.{ScopeState}
 use Rattle.view_laws.specs.Coming.{IsNew}
-
--- an activity runs a program or a graph that is there
-abbrev pub HasGraph : List Template → Work → Type 0
-HasGraph ts (RunsProgram p) = Unit {0}
-HasGraph ts (Block' b g) = Unit {0}
-HasGraph ts (Process t) = (h : Graph) × (graph_of ts t ≡ Some h)
-
--- so does each activity of the graph
-abbrev pub HasGraphs : List Template → Graph → Type 0
-HasGraphs ts g = (a : ℕ) (activity : Activity) → slice_get (out-Graph g).activities a ≡ Some activity → HasGraph ts activity.work
 
 -- ---- the view of an activity whose join is known
 

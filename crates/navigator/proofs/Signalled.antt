@@ -23,15 +23,15 @@ use Rattle.flow_model.specs.declared.instances.Path.{Path}
 use Rattle.flow_model.specs.declared.instances.SourceEnd.TheVariants as end
 use Rattle.flow_model.specs.declared.names.Name.{Name}
 use Rattle.navigator.proofs.Leading.{set_other, set_long}
-use Rattle.navigator.proofs.OneChanged.{ChangesOne, HasEnds, one_changed, same_gives, new_scope_shows}
-use Rattle.navigator.proofs.Opened.{HasGraph, HasGraphs, new_gives, is_opened, is_shut_none, is_shut_false, opened_shows, dead_shows, waiting_shows}
+use Rattle.navigator.proofs.OneChanged.{graphs_of, ChangesOne, HasEnds, one_changed, same_gives, new_scope_shows}
+use Rattle.navigator.proofs.Opened.{new_gives, is_opened, is_shut_none, is_shut_false, opened_shows, dead_shows, waiting_shows}
 use Rattle.navigator.proofs.Places.{present, set_read}
 use Rattle.navigator.proofs.Replaced.{count_less, found_at}
 use Rattle.navigator.proofs.SameActivities.{IsSameActivity, same_activity, simple_of, step_is, ends_by_steps}
 use Rattle.navigator.proofs.SignalValues.{IsTold, equal, value_told, values_stay}
 use Rattle.navigator.specs.Events.{Receives, Signals}
 use Rattle.navigator.specs.Reading.{place_of}
-use Rattle.navigator.specs.Serving.{Served}
+use Rattle.navigator.specs.Serving.{HasGraph, Served}
 use Rattle.navigator.specs.Steps.{Fields, Told, fields, with_state, settled, changed_at, dead_state, dies, Opens, Decides}
 use Rattle.navigator.specs.Views.{ShowsActivity, ShowsEnds, ShowsWithin, Shows}
 use Rattle.navigator.specs.declared.scopes.ActivityState.{ActivityState}
@@ -241,9 +241,9 @@ module _ (ts : List Template) (depth : ℕ) (k : Known) (g : Graph) (input : Con
 
 -- where a scope shows the view, and a SIGNAL comes that may come, it shows the view after it
 pub signal_shows : (ts : List Template) (depth : ℕ) (k : Known) (g : Graph) (input : Container) (s s' : ScopeState) (path : Path) (clock : ℕ) (before after : Told) (a b : ℕ) (v : Bool) (name : Name)
-    → Well ts depth g → Served ts depth g → HasGraphs ts g → IsByMessages k → MaySignal ts depth k g input a b v → place_of g name ≡ Some b → Shows ts depth k g input s
+    → Well ts depth g → Served ts depth g → IsByMessages k → MaySignal ts depth k g input a b v → place_of g name ≡ Some b → Shows ts depth k g input s
     → Receives ts path clock (Signals name v) before after g s s' → Shows ts depth (with_signal a b v k) g input s'
-signal_shows ts depth k g input s s' path clock before after a b v name well served graphs by may place shows receives =
+signal_shows ts depth k g input s s' path clock before after a b v name well served by may place shows receives =
     let found = found_at (λ (x : Activity). bytes_eq x.name name) (out-Graph g).activities b place in
     let activity = found.0 in
     let there = found.1 in
@@ -259,6 +259,6 @@ signal_shows ts depth k g input s s' path clock before after a b v name well ser
     let f : Fields = record (fields s) { tallies = slice_set (fields s).tallies b takes.takes.tally } in
     let decides : Decides ts g path clock b activity (joined activity.join told_values) f (fields s') before after
     = subst (λ m. Decides ts g path clock b activity (joined activity.join told_values) m (fields s') before after) takes.takes.scope takes.decides in
-    decided ts depth k g input a b v well by may activity there s s' path clock before after served (graphs b activity there) shows t.0 takes.takes.tally was.0 t.1 was.1
+    decided ts depth k g input a b v well by may activity there s s' path clock before after served (graphs_of ts depth g served b activity there) shows t.0 takes.takes.tally was.0 t.1 was.1
     (subst (Counts takes.takes.tally) (sym is_told.new) takes.takes.counts) (joined activity.join (values b)) refl
     (subst (λ vs. Decides ts g path clock b activity (joined activity.join vs) f (fields s') before after) (sym is_told.new) decides)

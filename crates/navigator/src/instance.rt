@@ -1,5 +1,5 @@
 //! A root instance.
-ghost use Rattle.std.specs.Prelude.{◌∷◌, ◌++◌, ◌≡◌, true, false, ◌==◌, ◌&&◌, ℕ, List as Seq, [], slice_get, IfOk, option_copied, option_map, option_and_then, Some};
+ghost use Rattle.std.specs.Prelude.{◌∷◌, ◌++◌, ◌≡◌, true, false, ◌==◌, ◌&&◌, ℕ, List as Seq, [], slice_get, IfOk, OnOk, option_copied, option_map, option_and_then, Some};
 ghost use Rattle.activity_states.specs.States.{fate_of, hold_of};
 ghost use Rattle.flow_model.specs.Scopes.{Known, tree_ends};
 ghost use Rattle.flow_model.specs.ScopeContainers.{graph_of as template_graph, is_complete as all_settled};
@@ -10,7 +10,7 @@ ghost use Rattle.flow_model.specs.declared.instances.Part.{Part as Step};
 ghost use Rattle.navigator.specs.Events.{Completes, happening, Happens, Takes};
 ghost use Rattle.navigator.specs.Instances.{mode_of, Starts};
 ghost use Rattle.navigator.specs.Items.{stand, entry_of, attempts_in as attempts_of_fate, entry_of_state, entry_here, entry_at, phase_of};
-ghost use Rattle.navigator.specs.Showing.{StaysShown, StaysShownNested, StaysShownWork};
+ghost use Rattle.navigator.specs.Showing.{ShowsTaken, ShowsCompleted, StaysShown, StaysShownNested, StaysShownWork};
 ghost use Rattle.navigator.specs.Views.{Shows};
 ghost use Rattle.navigator.specs.declared.scopes.ScopeState.{out-ScopeState};
 
@@ -238,6 +238,7 @@ impl Instance {
     ) -> Result<(List<Message>, Vec<Path>), AllocError>
         ensures kept { self.new ≡ record self.old { scope = self.new.scope } }
         ensures takes { self.old.terminated ≡ false → IfOk result (λ given. (g : Process) → template_graph library.now.templates self.old.template ≡ Some g → Takes library.now.templates clock message.now g self.old.scope self.new.scope given.0 given.1.items) }
+        ensures shows { self.old.terminated ≡ false → OnOk result ((g : Process) → template_graph library.now.templates self.old.template ≡ Some g → ShowsTaken library.now.templates g message.now self.old.scope self.new.scope) }
     {
         if self.terminated {
             return Ok((List::new(alloc), Vec::new(alloc)));
@@ -274,6 +275,7 @@ impl Instance {
     ) -> Result<(List<Message>, Vec<Path>), AllocError>
         ensures kept { self.new ≡ record self.old { scope = self.new.scope } }
         ensures completes { IfOk result (λ given. (g : Process) → template_graph library.now.templates self.old.template ≡ Some g → (parts : Seq Step) → (q : Step) → item.now.parts ≡ parts ++ q ∷ [] → Happens library.now.templates (record { root = item.now.root; parts = parts }) clock (Completes q.name (record { output = output; performer = performer })) g self.old.scope self.new.scope given.0 given.1.items) }
+        ensures shows { OnOk result ((g : Process) → template_graph library.now.templates self.old.template ≡ Some g → ShowsCompleted library.now.templates g item.now.parts output self.old.scope self.new.scope) }
     {
         let with = Context {
             alloc,
