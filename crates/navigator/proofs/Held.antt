@@ -1,7 +1,8 @@
 -- A change of who holds an item changes nothing of what is shown.
-use Rattle.std.proofs.Common.{◌≡◌, ℕ, zero, suc, ◌<◌, Bool, true, List, [], ◌∷◌, map, length, Option, Some, None, refl, ap, sym, ◌∙◌, subst, arith, inl, inr}
+use Rattle.std.proofs.Common.{◌≡◌, ℕ, zero, suc, ◌<◌, Bool, true, List, [], ◌∷◌, map, length, Option, Some, None, refl, ap, sym, ◌∙◌, subst, arith, inl, inr, get_or}
 use Rattle.std.specs.Prelude.{not, slice_get, slice_set, count_by}
 use Rattle.std.proofs.lemmas.Bool.Decides.{eqb_tells}
+use Rattle.std.proofs.lemmas.Option.{slice_get_within, slice_get_read}
 use Rattle.activity_states.specs.States.{State, waiting, dead, opened, finished, fate_of, held, taken, completions}
 use Rattle.blocks_subprocs.specs.Ends.{ends_of}
 use Rattle.flow_model.specs.Fates.{is_open, is_settled}
@@ -16,7 +17,7 @@ use Rattle.flow_model.specs.declared.instances.Fate.{Fate}
 use Rattle.flow_model.specs.declared.instances.Hold.{Hold}
 use Rattle.flow_model.specs.declared.instances.Hold.TheVariants.{Nobody}
 use Rattle.flow_model.specs.declared.names.Name.{Name}
-use Rattle.navigator.specs.Showing.{StaysShown, StaysShownNested, StaysShownWork}
+use Rattle.navigator.specs.Showing.{DiffersInHold, StaysShown, StaysShownNested, StaysShownWork}
 use Rattle.navigator.specs.Steps.{Fields, fields, with_state}
 use Rattle.navigator.specs.Views.{ShowsProgram, ShowsNested, ShowsWork, ShowsStart, shows_attempt, ShowsActivity, ShowsEnds, ShowsWithin, Shows}
 use Rattle.navigator.specs.declared.scopes.ActivityState.{ActivityState, Program, Nested}
@@ -27,30 +28,25 @@ use Rattle.navigator.proofs.Places.{set_read}
 
 -- ---- program activities
 
--- two states differ in who holds the item alone
-pub record IsAlike (p p' : State) : Type 0 where
-  pub fate : fate_of (held p' Nobody) ≡ fate_of (held p Nobody)
-  pub outputs : completions p' ≡ completions p
-
-pub alike_held : (p : State) (hold : Hold) → IsAlike p (held p hold)
+pub alike_held : (p : State) (hold : Hold) → DiffersInHold p (held p hold)
 alike_held waiting hold = record { fate = refl; outputs = refl }
 alike_held dead hold = record { fate = refl; outputs = refl }
 alike_held (opened cs was takes since) hold = record { fate = refl; outputs = refl }
 alike_held (finished cs) hold = record { fate = refl; outputs = refl }
 
-pub alike_taken : (p : State) → IsAlike p (taken p)
+pub alike_taken : (p : State) → DiffersInHold p (taken p)
 alike_taken waiting = record { fate = refl; outputs = refl }
 alike_taken dead = record { fate = refl; outputs = refl }
 alike_taken (opened cs was takes since) = record { fate = refl; outputs = refl }
 alike_taken (finished cs) = record { fate = refl; outputs = refl }
 
-program_alike : (fate : Fate) (outs : List Container) (p p' : State) → IsAlike p p' → ShowsProgram fate outs p → ShowsProgram fate outs p'
+program_alike : (fate : Fate) (outs : List Container) (p p' : State) → DiffersInHold p p' → ShowsProgram fate outs p → ShowsProgram fate outs p'
 program_alike fate outs p p' same is = record {
   stands = same.fate ∙ is.stands;
   outputs = λ opens. ap (λ cs. map (λ c. c.output) cs) same.outputs ∙ is.outputs opens;
 }
 
-pub work_alike : (w : Work) (fate : Fate) (outs : List Container) (starts : List Start) (shows : ShowsStart) (p p' : State) → IsAlike p p'
+pub work_alike : (w : Work) (fate : Fate) (outs : List Container) (starts : List Start) (shows : ShowsStart) (p p' : State) → DiffersInHold p p'
     → ShowsWork w fate outs starts shows (Program p) → ShowsWork w fate outs starts shows (Program p')
 work_alike (RunsProgram w) fate outs starts shows p p' same is = program_alike fate outs p p' same is
 work_alike (Block' b g) fate outs starts shows p p' same is = is
@@ -58,13 +54,20 @@ work_alike (Process t) fate outs starts shows p p' same is = is
 
 -- ---- a scope
 
+-- what is read at a place where another element can be put stands there
+read_there : {X : Type 0} (xs : List X) (i : ℕ) (old new found : X) → old ≡ get_or xs i old → slice_get (slice_set xs i new) i ≡ Some found → slice_get xs i ≡ Some old
+read_there xs i old new found read replaced =
+    let within : i < length (slice_set xs i new) = slice_get_within (slice_set xs i new) i found replaced in
+    let long = set_long xs i new in
+    slice_get_read xs (length xs) i old refl (omega arith) read
+
 -- where the state of one activity shows what the one before did, so does the scope
-pub stays_by_state : (ts : List Template) (g : Graph) (s s' : ScopeState) (a : ℕ) (old state : ActivityState) → slice_get (fields s).states a ≡ Some old → fields s' ≡ with_state a state (fields s)
+pub stays_by_state : (ts : List Template) (g : Graph) (s s' : ScopeState) (a : ℕ) (old state : ActivityState) → old ≡ get_or (fields s).states a old → fields s' ≡ with_state a state (fields s)
     → ((depth : ℕ) (k : Known) (input : Container) (activity : Activity) → slice_get (out-Graph g).activities a ≡ Some activity
     → ShowsActivity ts k (output ts depth) (ShowsWithin ts depth) g input (scope_ends ts k (output ts depth) g input) a activity old
     → ShowsActivity ts k (output ts depth) (ShowsWithin ts depth) g input (scope_ends ts k (output ts depth) g input) a activity state)
     → StaysShown ts g s s'
-stays_by_state ts g s s' a old state at around more = λ depth k input shows. record {
+stays_by_state ts g s s' a old state read around more = λ depth k input shows. record {
   begun = ap (λ (f : Fields). f.begun) around ∙ shows.begun;
   reads = ap (λ (f : Fields). f.input) around ∙ shows.reads;
   tallied = ap (λ (f : Fields). length f.tallies) around ∙ shows.tallied;
@@ -82,6 +85,8 @@ stays_by_state ts g s s' a old state at around more = λ depth k input shows. re
     each depth k input shows x activity found there is = elim (eqb_tells x a) [
       | inl same ↦
           let here : slice_get (out-Graph g).activities a ≡ Some activity = ap (slice_get (out-Graph g).activities) (sym same.1) ∙ there in
+          let replaced : slice_get (slice_set (fields s).states a state) a ≡ Some found = ap (slice_get (slice_set (fields s).states a state)) (sym same.1) ∙ ap (λ (f : Fields). slice_get f.states x) (sym around) ∙ is in
+          let at : slice_get (fields s).states a ≡ Some old = read_there (fields s).states a old state found read replaced in
           let new : slice_get (fields s').states a ≡ Some state = ap (λ (f : Fields). slice_get f.states a) around ∙ set_read (fields s).states a old state at in
           let both : Some found ≡ Some state = sym is ∙ ap (slice_get (fields s').states) same.1 ∙ new in
           let found_is : found ≡ state = cc in
@@ -99,10 +104,10 @@ attempt_stays ts h zero k name start t t' stays is = absurd is
 attempt_stays ts h (suc depth) k name start t t' stays is = stays depth _ start.input is
 
 -- where one scope shows what the one before did, so does the activity
-pub nested_stays : (ts : List Template) (h : Graph) (n n' : NestedState) (i : ℕ) (inner next : ScopeState) → slice_get (out-NestedState n).scopes.items i ≡ Some inner
+pub nested_stays : (ts : List Template) (h : Graph) (n n' : NestedState) (i : ℕ) (inner next : ScopeState) → inner ≡ get_or (out-NestedState n).scopes.items i inner
     → (out-NestedState n').scopes.items ≡ slice_set (out-NestedState n).scopes.items i next → (out-NestedState n').stage ≡ (out-NestedState n).stage → StaysShown ts h inner next
     → StaysShownNested ts h n n'
-nested_stays ts h n n' i inner next there scopes stage stays = λ depth k name fate starts is.
+nested_stays ts h n n' i inner next read scopes stage stays = λ depth k name fate starts is.
     let long : length (out-NestedState n').scopes.items ≡ length (out-NestedState n).scopes.items = ap length scopes ∙ set_long (out-NestedState n).scopes.items i next in
     record {
       stands = rw (stage, long) is.stands;
@@ -115,6 +120,9 @@ nested_stays ts h n n' i inner next there scopes stage stays = λ depth k name f
         → shows_attempt (ShowsWithin ts depth) k name (Some h) start t
     each depth k name fate starts is c start t at found = elim (eqb_tells c i) [
       | inl same ↦
+          let replaced : slice_get (slice_set (out-NestedState n).scopes.items i next) i ≡ Some t
+          = ap (slice_get (slice_set (out-NestedState n).scopes.items i next)) (sym same.1) ∙ ap (λ xs. slice_get xs c) (sym scopes) ∙ found in
+          let there : slice_get (out-NestedState n).scopes.items i ≡ Some inner = read_there (out-NestedState n).scopes.items i inner next t read replaced in
           let here : slice_get (out-NestedState n').scopes.items i ≡ Some next = ap (λ xs. slice_get xs i) scopes ∙ set_read (out-NestedState n).scopes.items i inner next there in
           let both : Some t ≡ Some next = sym found ∙ ap (slice_get (out-NestedState n').scopes.items) same.1 ∙ here in
           let t_is : t ≡ next = cc in

@@ -23,3 +23,4 @@ pub mod OneChanged
 pub mod Signalled
 pub mod Begun
 pub mod TakesShown
+pub mod ShownResults

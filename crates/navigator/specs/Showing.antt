@@ -1,6 +1,7 @@
 -- What the state of a root shows after an event that may come.
 use Rattle.std.specs.Prelude.{◌≡◌, ℕ, ◌≤◌, Bool, Option, Some, None, List, [], ◌∷◌, length, slice_get, option_and_then}
 use Rattle.std.specs.List.{Contains}
+use Rattle.activity_states.specs.States.{State, fate_of, held, completions}
 use Rattle.fate_laws.specs.WellFormed.{Well}
 use Rattle.flow_model.specs.ScopeContainers.{graph_in}
 use Rattle.flow_model.specs.Scopes.{Known, Start}
@@ -9,6 +10,7 @@ use Rattle.flow_model.specs.declared.graphs.Graph.{Graph, out-Graph}
 use Rattle.flow_model.specs.declared.graphs.Template.{Template}
 use Rattle.flow_model.specs.declared.graphs.Work.{Work}
 use Rattle.flow_model.specs.declared.instances.Fate.{Fate}
+use Rattle.flow_model.specs.declared.instances.Hold.TheVariants.{Nobody}
 use Rattle.flow_model.specs.declared.instances.Message.{Message}
 use Rattle.flow_model.specs.declared.instances.Message.TheVariants.{Begin, Signal, End}
 use Rattle.flow_model.specs.declared.instances.Part.{Part}
@@ -74,11 +76,22 @@ ShowsCompleted ts g item out s s' = GoesOnShowing (λ depth k input k'. ComesOut
 
 -- ---- what is shown after a change of a hold
 
+-- two states of a program activity differ at most in who holds the open attempt
+pub record DiffersInHold (p p' : State) : Type 0 where
+  pub fate : fate_of (held p' Nobody) ≡ fate_of (held p Nobody)
+  pub outputs : completions p' ≡ completions p
+
 -- whatever the first state shows, the second shows
 abbrev pub StaysShown : List Template → Graph → ScopeState → ScopeState → Type 0
 StaysShown ts g s s' = (depth : ℕ) (k : Known) (input : Container) → Shows ts depth k g input s → Shows ts depth k g input s'
 
--- so it is of a block or process activity of this graph
+-- so it is of an activity, whatever it runs
+abbrev pub StaysShownItem : ActivityState → ActivityState → Type 0
+StaysShownItem state state' =
+    (ts : List Template) (w : Work) (depth : ℕ) (k : Known) (name : Name) (h : Option Graph) (fate : Fate) (outs : List Container) (starts : List Start)
+    → ShowsWork w fate outs starts (shows_attempt (ShowsWithin ts depth) k name h) state → ShowsWork w fate outs starts (shows_attempt (ShowsWithin ts depth) k name h) state'
+
+-- of a block or process activity of this graph
 abbrev pub StaysShownNested : List Template → Graph → NestedState → NestedState → Type 0
 StaysShownNested ts h n n' =
     (depth : ℕ) (k : Known) (name : Name) (fate : Fate) (starts : List Start) → ShowsNested fate starts (shows_attempt (ShowsWithin ts depth) k name (Some h)) n

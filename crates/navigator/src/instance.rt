@@ -6,11 +6,12 @@ ghost use Rattle.flow_model.specs.ScopeContainers.{graph_of as template_graph, i
 ghost use Rattle.flow_model.specs.declared.graphs.Container.{Container as Values};
 ghost use Rattle.flow_model.specs.declared.graphs.Graph.{Graph as Process, out-Graph};
 ghost use Rattle.flow_model.specs.declared.graphs.Template.{Template};
+ghost use Rattle.flow_model.specs.declared.instances.Message.TheVariants.{End};
 ghost use Rattle.flow_model.specs.declared.instances.Part.{Part as Step};
 ghost use Rattle.navigator.specs.Events.{Completes, happening, Happens, Takes};
 ghost use Rattle.navigator.specs.Instances.{mode_of, Starts};
 ghost use Rattle.navigator.specs.Items.{stand, entry_of, attempts_in as attempts_of_fate, entry_of_state, entry_here, entry_at, phase_of};
-ghost use Rattle.navigator.specs.Showing.{ShowsTaken, ShowsCompleted, StaysShown, StaysShownNested, StaysShownWork};
+ghost use Rattle.navigator.specs.Showing.{ShowsTaken, ShowsCompleted, DiffersInHold, StaysShown, StaysShownItem, StaysShownNested, StaysShownWork};
 ghost use Rattle.navigator.specs.Views.{Shows};
 ghost use Rattle.navigator.specs.declared.scopes.ScopeState.{out-ScopeState};
 
@@ -228,6 +229,24 @@ impl Instance {
         Ok(given)
     }
 
+    /// Takes the END of an attempt, which happens to the scope around it; the root has none.
+    fn take_end<'x>(
+        &mut self,
+        with: Context<'x>,
+        path: &Path,
+    ) -> Result<(List<Message>, Vec<Path>), AllocError>
+        ensures kept { self.new ≡ record self.old { scope = self.new.scope } }
+        ensures takes { IfOk result (λ given. (g : Process) → template_graph with.entry.library.now.templates self.old.template ≡ Some g → Takes with.entry.library.now.templates with.entry.clock (End path.now) g self.old.scope self.new.scope given.0 given.1.items) }
+    {
+        match path.parts.as_slice() {
+            [] => Ok((List::new(with.alloc), Vec::new(with.alloc))),
+            [parts @ .., last] => {
+                let scope = path_of_parts(with.alloc, path.root, parts)?;
+                self.change(with, &scope, Event::End(&last.name, last.attempt))
+            }
+        }
+    }
+
     /// Takes a message: the messages that the turn puts, and the items that came to be ready.
     pub fn take_message(
         &mut self,
@@ -253,13 +272,28 @@ impl Instance {
             Message::Signal(path, _, to, value) => {
                 self.change(with, path, Event::Signal(to, *value))
             }
-            Message::End(path) => match path.parts.as_slice() {
-                [] => Ok((List::new(alloc), Vec::new(alloc))),
-                [parts @ .., last] => {
-                    let scope = path_of_parts(alloc, path.root, parts)?;
-                    self.change(with, &scope, Event::End(&last.name, last.attempt))
-                }
-            },
+            Message::End(path) => self.take_end(with, path),
+        }
+    }
+
+    /// Completes an item, which happens to the scope of its activity.
+    fn complete<'x>(
+        &mut self,
+        with: Context<'x>,
+        item: &Path,
+        output: Container,
+        performer: Option<Name>,
+    ) -> Result<(List<Message>, Vec<Path>), AllocError>
+        ensures kept { self.new ≡ record self.old { scope = self.new.scope } }
+        ensures completes { IfOk result (λ given. (g : Process) → template_graph with.entry.library.now.templates self.old.template ≡ Some g → (parts : Seq Step) → (q : Step) → item.now.parts ≡ parts ++ q ∷ [] → Happens with.entry.library.now.templates (record { root = item.now.root; parts = parts }) with.entry.clock (Completes q.name (record { output = output; performer = performer })) g self.old.scope self.new.scope given.0 given.1.items) }
+    {
+        match item.parts.as_slice() {
+            [] => Ok((List::new(with.alloc), Vec::new(with.alloc))),
+            [parts @ .., last] => {
+                let scope = path_of_parts(with.alloc, item.root, parts)?;
+                let event = Event::Complete(&last.name, output, performer);
+                self.change(with, &scope, event)
+            }
         }
     }
 
@@ -282,14 +316,7 @@ impl Instance {
             library,
             clock,
         };
-        match item.parts.as_slice() {
-            [] => Ok((List::new(alloc), Vec::new(alloc))),
-            [parts @ .., last] => {
-                let scope = path_of_parts(alloc, item.root, parts)?;
-                let event = Event::Complete(&last.name, output, performer);
-                self.change(with, &scope, event)
-            }
-        }
+        self.complete(with, item, output, performer)
     }
 
     /// The item of a path; None exactly where there is no such item.
@@ -427,16 +454,10 @@ impl NestedState {
     }
 }
 
-/// Changes who holds the open attempt of an activity of a scope.
-fn change_hold_here(graph: &Graph, scope: &mut ScopeState, name: &Name, change: HoldChange) -> u64
-    ensures { (ts : Seq Template) → StaysShown ts graph.now scope.old scope.new }
+/// Changes who holds the open attempt of a program activity; answers the take number of an agent.
+fn change_program_hold(state: &mut ProgramState, change: HoldChange) -> u64
+    ensures { DiffersInHold state.old state.new }
 {
-    let Some(place) = place_of(graph, name) else {
-        return 0;
-    };
-    let Some(ActivityState::Program(state)) = scope.states.get_mut(place) else {
-        return 0;
-    };
     match change {
         HoldChange::Person(who) => {
             state.hold_person(who);
@@ -447,6 +468,31 @@ fn change_hold_here(graph: &Graph, scope: &mut ScopeState, name: &Name, change: 
             state.release();
             0
         }
+    }
+}
+
+impl ActivityState {
+    /// Changes who holds the open attempt of this activity, if it is a program activity.
+    fn change_own_hold(&mut self, change: HoldChange) -> u64
+        ensures { StaysShownItem self.old self.new }
+    {
+        match self {
+            ActivityState::Program(state) => change_program_hold(state, change),
+            ActivityState::Nested(_) => 0,
+        }
+    }
+}
+
+/// Changes who holds the open attempt of an activity of a scope.
+fn change_hold_here(graph: &Graph, scope: &mut ScopeState, name: &Name, change: HoldChange) -> u64
+    ensures { (ts : Seq Template) → StaysShown ts graph.now scope.old scope.new }
+{
+    let Some(place) = place_of(graph, name) else {
+        return 0;
+    };
+    match scope.states.get_mut(place) {
+        None => 0,
+        Some(state) => state.change_own_hold(change),
     }
 }
 

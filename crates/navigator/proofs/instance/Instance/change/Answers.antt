@@ -6,8 +6,8 @@ use Rattle.navigator.specs.Steps.{Told, told}
 use Rattle.navigator.specs.declared.scopes.ScopeState.{ScopeState}
 use Rattle.navigator.proofs.instance.Instance.change.Goals as goal
 
-pub returns : goal.returns
-returns c = λ g is.
+pub returns-clause-happens : goal.returns-clause-happens
+returns-clause-happens c = λ g is.
     let known = c.in-Some.ensures in
     let same : c.in-Some.graph.now ≡ g = cc in
     let ts = c.args.with.library.now.templates in
