@@ -15,3 +15,9 @@ pub mod OneActivity
 pub mod Completing
 pub mod EndedScopes
 pub mod Ending
+pub mod Merges
+pub mod DueParts
+pub mod ToldNotes
+pub mod FreshHere
+pub mod FreshBelow
+pub mod FreshAlong

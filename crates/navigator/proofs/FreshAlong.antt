@@ -1,0 +1,211 @@
+-- What an event gives that a scope further in receives.
+use Rattle.std.proofs.Common.{◌≡◌, ℕ, zero, suc, ◌+◌, ◌<◌, ◌==◌, Bool, true, false, if◌then◌else◌, List, [], ◌∷◌, ◌++◌, map, length, Option, Some, None, refl, ap, sym, ◌∙◌, subst, arith, inl, inr}
+use Rattle.std.specs.Prelude.{◌≢◌, slice_get}
+use Rattle.std.specs.List.{flat_map}
+use Rattle.std.proofs.lemmas.Bool.Decides.{eqb_tells}
+use Rattle.std.proofs.lemmas.Option.{slice_get_within}
+use Rattle.fate_laws.specs.StartedScopes.{ScopeFact}
+use Rattle.fate_laws.specs.WellFormed.{Well}
+use Rattle.flow_model.specs.Fates.{Ends}
+use Rattle.flow_model.specs.ScopeContainers.{graph_in, up_to, output_by}
+use Rattle.flow_model.specs.Scopes.{Known, at, part, Runs, Start, fate_given, attempts, started_at, output, tree_ends}
+use Rattle.flow_model.specs.declared.graphs.Activity.{Activity}
+use Rattle.flow_model.specs.declared.graphs.Container.{Container}
+use Rattle.flow_model.specs.declared.graphs.Graph.{Graph, out-Graph}
+use Rattle.flow_model.specs.declared.graphs.Template.{Template}
+use Rattle.flow_model.specs.declared.instances.Part.{Part}
+use Rattle.flow_model.specs.declared.instances.Path.{Path}
+use Rattle.navigator.proofs.Completing.{parts_apart}
+use Rattle.navigator.proofs.DueParts.{due_place, own_notes, due_by, due_start, end_note, is_over, all_notes, due_pushed}
+use Rattle.navigator.proofs.FreshHere.{IsGivenAt}
+use Rattle.navigator.proofs.Leading.{at_here, at_other, same_on_the_way, HasScopes, has_scopes, started_place}
+use Rattle.navigator.proofs.Merges.{Merges, merges_same, merges_append, merges_map, merges_flat, merges_one, flat_same, flat_only}
+use Rattle.navigator.proofs.Places.{present}
+use Rattle.navigator.proofs.RowLists.{started_numbered}
+use Rattle.navigator.proofs.SameActivities.{Named, place_found}
+use Rattle.navigator.proofs.ShownAgain.{IsSameScope, ends_as_before, starts_as_before}
+use Rattle.navigator.proofs.Stepping.{counted_at, IsLocal}
+use Rattle.navigator.proofs.ToldNotes.{AreTold, push_all, kind_only}
+use Rattle.navigator.specs.Events.{ScopeChange, ChangesState, ChangesInside, ChangesAt}
+use Rattle.navigator.specs.Giving.{Linked}
+use Rattle.navigator.specs.Reading.{place_of, attempt_place}
+use Rattle.navigator.specs.Serving.{Served}
+use Rattle.navigator.specs.Showing.{IsCounted, graph_under, graph_along}
+use Rattle.navigator.specs.Steps.{Told, fields, is_root}
+use Rattle.navigator.specs.Views.{ShowsWithin, shows_attempt, Shows}
+use Rattle.navigator.specs.declared.scopes.ActivityState.{ActivityState, Program, Nested}
+use Rattle.navigator.specs.declared.scopes.NestedState.{NestedState, out-NestedState}
+use Rattle.navigator.specs.declared.scopes.ScopeState.{ScopeState, out-ScopeState}
+use Rattle.view_laws.specs.Coming.{IsOpenAttempt, Leads}
+use Rattle.view_laws.specs.Learning.{with_below, learnt}
+use Rattle.view_laws.specs.Messages.{Note, BeginNote, SignalNote, EndNote, push, due_with, due_at, due_in}
+use Rattle.navigator.proofs.FreshBelow.{below_merges, over_as_before}
+
+-- ---- the scope of the attempt, before and after
+
+pub record IsInside (ts : List Template) (depth : ℕ) (k : Known) (q : Part) (qs : List Part) (change : ScopeChange) (h : Graph) (i : Container) : Type 0 where
+  pub before : ScopeState
+  pub after : ScopeState
+  pub shows : Shows ts depth (at q k) h i before
+  pub changes : ChangesAt ts change qs h before after
+
+module _ (ts : List Template) (depth : ℕ) (k : Known) (g : Graph) (input : Container) (q : Part) (qs : List Part) (s s' : ScopeState) (change : ScopeChange) (named : Named g)
+    (within : Graph → Container → Type 0) (attempt : IsOpenAttempt ts (suc depth) k g input q within) (shows : Shows ts (suc depth) k g input s) (changes : ChangesAt ts change (q ∷ qs) g s s') where
+  abbrev runs : Runs
+  runs = output ts (suc depth)
+
+  abbrev e : Ends
+  e = tree_ends ts (suc depth) k g input
+
+  abbrev a : ℕ
+  a = attempt.place
+
+  abbrev activity : Activity
+  activity = attempt.activity
+
+  at_q : q.name ≡ activity.name
+  at_q = ap (λ (p : Part). p.name) (sym attempt.named)
+
+  place : place_of g q.name ≡ Some a
+  place = ap (place_of g) at_q ∙ place_found g a activity named attempt.is
+
+  state_at : (x : ActivityState) × (slice_get (out-ScopeState s).states.items a ≡ Some x)
+  state_at =
+      let within : a < length (out-Graph g).activities = slice_get_within (out-Graph g).activities a activity attempt.is in
+      let long = shows.stated in
+      present (out-ScopeState s).states.items a (omega arith)
+
+  scopes_at : HasScopes (fate_given ts k runs g input e a) (started_at ts k runs g input e a activity) (shows_attempt (ShowsWithin ts (suc depth)) k activity.name (graph_in ts activity.work)) state_at.0
+  scopes_at =
+      has_scopes ts activity.work attempt.graph _ (attempts ts k runs g input e a) _ (shows_attempt (ShowsWithin ts (suc depth)) k activity.name (graph_in ts activity.work)) state_at.0 attempt.of
+      (shows.states a activity state_at.0 attempt.is state_at.1)
+
+  abbrev old_scopes : List ScopeState
+  old_scopes = (out-NestedState scopes_at.nested).scopes.items
+
+  inner_at : (t : ScopeState) × (slice_get old_scopes attempt.number ≡ Some t)
+  inner_at =
+      let within : attempt.number < length (started_at ts k runs g input e a activity) = slice_get_within (started_at ts k runs g input e a activity) attempt.number attempt.start attempt.started in
+      let long = scopes_at.shown.count in
+      present old_scopes attempt.number (omega arith)
+
+  changed : ChangesInside (ChangesAt ts change qs attempt.graph) a attempt.number inner_at.0 scopes_at.nested s s'
+  changed =
+      let number : attempt.start.attempt ≡ q.attempt = ap (λ (p : Part). p.attempt) attempt.named in
+      let numbered : attempt_place q.attempt ≡ Some attempt.number = ap attempt_place (sym number) ∙ started_place ts k runs g input e a activity attempt.number attempt.start attempt.started in
+      let state : slice_get (fields s).states a ≡ Some (Nested scopes_at.nested) = state_at.1 ∙ ap Some scopes_at.is in
+      changes a attempt.number activity attempt.graph scopes_at.nested inner_at.0 place attempt.is attempt.of numbered state inner_at.1
+
+  pub inside_of : IsInside ts depth k q qs change attempt.graph attempt.start.input
+  inside_of = go changed.state changed.inside
+    where
+      shown : shows_attempt (ShowsWithin ts (suc depth)) k activity.name (Some attempt.graph) attempt.start inner_at.0
+      shown = subst (λ o. shows_attempt (ShowsWithin ts (suc depth)) k activity.name o attempt.start inner_at.0) attempt.of
+          (scopes_at.shown.scopes attempt.number attempt.start inner_at.0 attempt.started inner_at.1)
+
+      go : (state : ActivityState) → ChangesState (ChangesAt ts change qs attempt.graph) attempt.number inner_at.0 scopes_at.nested state
+          → IsInside ts depth k q qs change attempt.graph attempt.start.input
+      go (Program p) c = absurd c
+      go (Nested n') c = record {
+        before = inner_at.0;
+        after = c.next;
+        shows = subst (λ r. ShowsWithin ts (suc depth) (at r k) attempt.graph attempt.start.input inner_at.0) attempt.named shown;
+        changes = c.changes;
+      }
+
+  pub under_is : graph_under ts g (place_of g q.name) ≡ Some attempt.graph
+  under_is = rw place (rw attempt.is attempt.of)
+
+-- ---- along a path
+
+-- what an event gives that a scope further in receives
+pub record IsGivenAlong (ts : List Template) (depth : ℕ) (k k' : Known) (g : Graph) (input : Container) (p : List Part) (path : Path) (tells : Told) : Type 0 where
+  pub graph : Graph
+  pub along : graph_along ts p g ≡ Some graph
+  pub added : List Note
+  pub over : Bool
+  pub due : Merges (due_in ts depth k g input) (map (push_all p) ((if is_root p then [] else end_note over) ++ added)) (due_in ts depth k' g input)
+  pub own : Merges (end_note (is_over ts depth k g input)) (if is_root p then end_note over else []) (end_note (is_over ts depth k' g input))
+  pub signals : AreTold graph path tells.signals (kind_only 0 added)
+  pub begins : AreTold graph path tells.begins (kind_only 1 added)
+  pub none : kind_only 2 added ≡ []
+  pub ends : AreTold graph path tells.ends (if is_root path.parts then [] else end_note over)
+
+map_nowhere : (ns : List Note) → map (push_all []) ns ≡ ns
+map_nowhere [] = refl
+map_nowhere (n ∷ ns) = ap (λ l. n ∷ l) (map_nowhere ns)
+
+map_further : (q : Part) (p : List Part) (ns : List Note) → map (push q) (map (push_all p) ns) ≡ map (push_all (q ∷ p)) ns
+map_further q p [] = refl
+map_further q p (n ∷ ns) = ap (λ l. push q (push_all p n) ∷ l) (map_further q p ns)
+
+both_added : (p : List Part) (last added : List Note)
+    → (if is_root p then last else []) ++ map (push_all p) ((if is_root p then [] else last) ++ added) ≡ map (push_all p) (last ++ added)
+both_added [] last added = ap (λ l. last ++ l) (map_nowhere added) ∙ sym (map_nowhere (last ++ added))
+both_added (q ∷ p) last added = refl
+
+learnt_most : (f : Known → Known) → IsLocal f → (p : List Part) (k : Known) → (learnt f p k).most ≡ k.most
+learnt_most f local [] k = local.most k
+learnt_most f local (q ∷ p) k = refl
+
+learnt_given : (f : Known → Known) → IsLocal f → (p : List Part) (k : Known) → (learnt f p k).given [] ≡ k.given []
+learnt_given f local [] k = local.given k
+learnt_given f local (q ∷ p) k = refl
+
+learnt_closed : (f : Known → Known) → IsLocal f → (p : List Part) (k : Known) → (learnt f p k).closed [] ≡ k.closed []
+learnt_closed f local [] k = local.closed k
+learnt_closed f local (q ∷ p) k = refl
+
+-- where each event of a scope gives what came to be due there, so does one of a scope further in
+pub path_given : (ts : List Template) (change : ScopeChange) (fact : ScopeFact) (f : Known → Known) (path : Path) (tells : Told) → IsLocal f
+    → ((depth : ℕ) (k : Known) (g : Graph) (input : Container) (s s' : ScopeState) → Well ts depth g → Served ts depth g → Linked ts depth g → IsCounted k → fact depth k g input
+    → Shows ts depth k g input s → change g s s' → IsGivenAt ts depth k (f k) g input path tells)
+    → (p : List Part) (depth : ℕ) (k : Known) (g : Graph) (input : Container) (s s' : ScopeState) → Well ts depth g → Served ts depth g → Linked ts depth g → IsCounted k
+    → Leads fact ts depth k g input p → Shows ts depth k g input s → ChangesAt ts change p g s s' → IsGivenAlong ts depth k (learnt f p k) g input p path tells
+path_given ts change fact f path tells local here [] depth k g input s s' well served linked counted leads shows changes =
+    let is = here depth k g input s s' well served linked counted leads shows changes in
+    record {
+      graph = g;
+      along = refl;
+      added = is.added;
+      over = is.over;
+      due = subst (λ l. Merges (due_in ts depth k g input) l (due_in ts depth (f k) g input)) (sym (map_nowhere is.added)) is.due;
+      own = is.own;
+      signals = is.signals;
+      begins = is.begins;
+      none = is.none;
+      ends = is.ends;
+    }
+path_given ts change fact f path tells local here (q ∷ p) zero k g input s s' well served linked counted leads shows changes = absurd leads
+path_given ts change fact f path tells local here (q ∷ p) (suc depth) k g input s s' well served linked counted leads shows changes =
+    let j : Known = learnt f p (at q k) in
+    let h : Graph = leads.graph in
+    let i : Container = leads.start.input in
+    let scope = inside_of ts depth k g input q p s s' change well.named (λ h i. Leads fact ts depth (at q k) h i p) leads shows changes in
+    let inner = path_given ts change fact f path tells local here p depth (at q k) h i scope.before scope.after
+    (well.inside leads.place leads.activity leads.is h leads.of) (served.inside leads.place leads.activity h leads.is leads.of) (linked.inside leads.place leads.activity h leads.is leads.of)
+    (counted_at q k counted) leads.within scope.shows scope.changes in
+    let adds : List Note = map (push_all p) (end_note inner.over ++ inner.added) in
+    let both = merges_append (end_note (is_over ts depth (at q k) h i)) (if is_root p then end_note inner.over else []) (end_note (is_over ts depth j h i))
+    (due_in ts depth (at q k) h i) (map (push_all p) ((if is_root p then [] else end_note inner.over) ++ inner.added)) (due_in ts depth j h i) inner.own inner.due in
+    let all : Merges (all_notes ts depth (at q k) h i) adds (all_notes ts depth j h i)
+    = inl (
+      end_note (is_over ts depth (at q k) h i) ++ due_in ts depth (at q k) h i,
+      refl,
+      subst (λ l. Merges (end_note (is_over ts depth (at q k) h i) ++ due_in ts depth (at q k) h i) l (end_note (is_over ts depth j h i) ++ due_in ts depth j h i)) (both_added p (end_note inner.over) inner.added) both,
+    ) in
+    let around = below_merges ts depth k j g input q well.named (λ h i. Leads fact ts depth (at q k) h i p) (learnt_most f local p (at q k)) (learnt_given f local p (at q k)) (learnt_closed f local p (at q k)) leads adds all in
+    let over = over_as_before ts depth k j g input q well.named (λ h i. Leads fact ts depth (at q k) h i p) (learnt_most f local p (at q k)) (learnt_given f local p (at q k)) (learnt_closed f local p (at q k)) leads adds all in
+    let under = under_is ts depth k g input q p s s' change well.named (λ h i. Leads fact ts depth (at q k) h i p) leads shows changes in
+    record {
+      graph = inner.graph;
+      along = rw under inner.along;
+      added = inner.added;
+      over = inner.over;
+      due = subst (λ l. Merges (due_in ts (suc depth) k g input) l (due_in ts (suc depth) (with_below q j k) g input)) (map_further q p (end_note inner.over ++ inner.added)) around;
+      own = subst (λ b. Merges (end_note (is_over ts (suc depth) k g input)) [] (end_note b)) (sym over) (merges_same (end_note (is_over ts (suc depth) k g input)));
+      signals = inner.signals;
+      begins = inner.begins;
+      none = inner.none;
+      ends = inner.ends;
+    }
