@@ -21,3 +21,7 @@ pub mod ToldNotes
 pub mod FreshHere
 pub mod FreshBelow
 pub mod FreshAlong
+pub mod SettledHere
+pub mod CompleteGiven
+pub mod OneGiven
+pub mod EndGiven

@@ -37,6 +37,9 @@ abbrev pub AreTold : Graph → Path → List Message → List Note → Type 0
 AreTold g path [] ns = ns ≡ []
 AreTold g path (m ∷ ms) ns = (n : Note) × (rest : List Note) × (ns ≡ n ∷ rest) × IsTold g path m n × AreTold g path ms rest
 
+pub none_told : (g : Graph) (path : Path) (ms : List Message) → ms ≡ [] → AreTold g path ms []
+none_told g path ms is = rw is refl
+
 pub told_append : (g : Graph) (path : Path) (ms : List Message) (ns : List Note) (ms' : List Message) (ns' : List Note) → AreTold g path ms ns → AreTold g path ms' ns'
     → AreTold g path (ms ++ ms') (ns ++ ns')
 told_append g path [] ns ms' ns' is is' = rw is is'
