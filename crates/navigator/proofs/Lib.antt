@@ -25,3 +25,11 @@ pub mod SettledHere
 pub mod CompleteGiven
 pub mod OneGiven
 pub mod EndGiven
+pub mod Held
+pub mod Replaced
+pub mod Opened
+pub mod SignalValues
+pub mod OneChanged
+pub mod Signalled
+pub mod Begun
+pub mod TakesShown

@@ -1,15 +1,26 @@
 -- Which graphs are served: the rows of the wiring are right and sizes fit, at every depth, and none nests deeper than this.
 use Rattle.std.specs.Prelude.{◌≡◌, ℕ, zero, suc, ◌<◌, ◌^◌, Some, List, length, slice_get}
-use Rattle.flow_model.specs.ScopeContainers.{graph_in}
+use Rattle.flow_model.specs.ScopeContainers.{graph_in, graph_of}
 use Rattle.flow_model.specs.Wiring.{IsIncoming, IsSinking}
 use Rattle.flow_model.specs.declared.graphs.Activity.{Activity}
 use Rattle.flow_model.specs.declared.graphs.Graph.{Graph, out-Graph}
 use Rattle.flow_model.specs.declared.graphs.Template.{Template}
+use Rattle.flow_model.specs.declared.graphs.Work.{Work, Program, Block', Process}
 use Rattle.navigator.specs.Events.{IsUsable}
+
+-- a process activity has its process
+abbrev pub HasGraph : List Template → Work → Type 0
+HasGraph ts (Program p) = Unit {0}
+HasGraph ts (Block' b g) = Unit {0}
+HasGraph ts (Process t) = (h : Graph) × (graph_of ts t ≡ Some h)
+
+abbrev pub HasGraphs : List Template → Graph → Type 0
+HasGraphs ts g = (a : ℕ) (activity : Activity) → slice_get (out-Graph g).activities a ≡ Some activity → HasGraph ts activity.work
 
 -- a graph whose blocks and subprocesses have this property
 pub record IsServed (ts : List Template) (g : Graph) (inner : Graph → Type 0) : Type 0 where
   pub usable : IsUsable g
+  pub graphs : HasGraphs ts g
   pub incoming : IsIncoming g
   pub sinking : IsSinking g
   pub few : length (out-Graph g).controls < 2 ^ 32

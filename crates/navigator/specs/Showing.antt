@@ -3,17 +3,21 @@ use Rattle.std.specs.Prelude.{◌≡◌, ℕ, ◌≤◌, Bool, Option, Some, Non
 use Rattle.std.specs.List.{Contains}
 use Rattle.fate_laws.specs.WellFormed.{Well}
 use Rattle.flow_model.specs.ScopeContainers.{graph_in}
-use Rattle.flow_model.specs.Scopes.{Known}
+use Rattle.flow_model.specs.Scopes.{Known, Start}
 use Rattle.flow_model.specs.declared.graphs.Container.{Container}
 use Rattle.flow_model.specs.declared.graphs.Graph.{Graph, out-Graph}
 use Rattle.flow_model.specs.declared.graphs.Template.{Template}
+use Rattle.flow_model.specs.declared.graphs.Work.{Work}
+use Rattle.flow_model.specs.declared.instances.Fate.{Fate}
 use Rattle.flow_model.specs.declared.instances.Message.{Message}
 use Rattle.flow_model.specs.declared.instances.Message.TheVariants.{Begin, Signal, End}
 use Rattle.flow_model.specs.declared.instances.Part.{Part}
 use Rattle.flow_model.specs.declared.names.Name.{Name}
 use Rattle.navigator.specs.Reading.{place_of}
 use Rattle.navigator.specs.Serving.{Served}
-use Rattle.navigator.specs.Views.{Shows}
+use Rattle.navigator.specs.Views.{ShowsNested, ShowsWork, shows_attempt, ShowsWithin, Shows}
+use Rattle.navigator.specs.declared.scopes.ActivityState.{ActivityState}
+use Rattle.navigator.specs.declared.scopes.NestedState.{NestedState}
 use Rattle.navigator.specs.declared.scopes.ScopeState.{ScopeState}
 use Rattle.view_laws.specs.Coming.{IsByMessages, Comes, ComesOutput}
 use Rattle.view_laws.specs.Messages.{Note, BeginNote, SignalNote, EndNote}
@@ -67,3 +71,22 @@ ShowsTaken ts g message s s' =
 -- an item that may be completed is
 abbrev pub ShowsCompleted : List Template → Graph → List Part → Container → ScopeState → ScopeState → Type 0
 ShowsCompleted ts g item out s s' = GoesOnShowing (λ depth k input k'. ComesOutput ts depth k g input item out k') ts g s s'
+
+-- ---- what is shown after a change of a hold
+
+-- whatever the first state shows, the second shows
+abbrev pub StaysShown : List Template → Graph → ScopeState → ScopeState → Type 0
+StaysShown ts g s s' = (depth : ℕ) (k : Known) (input : Container) → Shows ts depth k g input s → Shows ts depth k g input s'
+
+-- so it is of a block or process activity of this graph
+abbrev pub StaysShownNested : List Template → Graph → NestedState → NestedState → Type 0
+StaysShownNested ts h n n' =
+    (depth : ℕ) (k : Known) (name : Name) (fate : Fate) (starts : List Start) → ShowsNested fate starts (shows_attempt (ShowsWithin ts depth) k name (Some h)) n
+    → ShowsNested fate starts (shows_attempt (ShowsWithin ts depth) k name (Some h)) n'
+
+-- and of an activity that runs this graph
+abbrev pub StaysShownWork : List Template → Graph → ActivityState → ActivityState → Type 0
+StaysShownWork ts h state state' =
+    (w : Work) (depth : ℕ) (k : Known) (name : Name) (fate : Fate) (outs : List Container) (starts : List Start) → graph_in ts w ≡ Some h
+    → ShowsWork w fate outs starts (shows_attempt (ShowsWithin ts depth) k name (Some h)) state
+    → ShowsWork w fate outs starts (shows_attempt (ShowsWithin ts depth) k name (Some h)) state'

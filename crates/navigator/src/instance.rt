@@ -1,5 +1,5 @@
 //! A root instance.
-ghost use Rattle.std.specs.Prelude.{◌∷◌, ◌++◌, ◌≡◌, true, false, ◌==◌, ◌&&◌, ℕ, List as Seq, [], slice_get, IfOk, option_copied, option_map, option_and_then, Some};
+ghost use Rattle.std.specs.Prelude.{◌∷◌, ◌++◌, ◌≡◌, true, false, ◌==◌, ◌&&◌, ℕ, List as Seq, [], slice_get, IfOk, OnOk, option_copied, option_map, option_and_then, Some};
 ghost use Rattle.activity_states.specs.States.{fate_of, hold_of};
 ghost use Rattle.flow_model.specs.Scopes.{Known, tree_ends};
 ghost use Rattle.flow_model.specs.ScopeContainers.{graph_of as template_graph, is_complete as all_settled};
@@ -10,6 +10,7 @@ ghost use Rattle.flow_model.specs.declared.instances.Part.{Part as Step};
 ghost use Rattle.navigator.specs.Events.{Completes, happening, Happens, Takes};
 ghost use Rattle.navigator.specs.Instances.{mode_of, Starts};
 ghost use Rattle.navigator.specs.Items.{stand, entry_of, attempts_in as attempts_of_fate, entry_of_state, entry_here, entry_at, phase_of};
+ghost use Rattle.navigator.specs.Showing.{ShowsTaken, ShowsCompleted, StaysShown, StaysShownNested, StaysShownWork};
 ghost use Rattle.navigator.specs.Views.{Shows};
 ghost use Rattle.navigator.specs.declared.scopes.ScopeState.{out-ScopeState};
 
@@ -213,7 +214,8 @@ impl Instance {
         path: &Path,
         event: Event<'_>,
     ) -> Result<(List<Message>, Vec<Path>), AllocError>
-        ensures { IfOk result (λ given. (g : Process) → template_graph with.entry.library.now.templates self.old.template ≡ Some g → Happens with.entry.library.now.templates path.now with.entry.clock (happening event.entry) g self.old.scope self.new.scope given.0 given.1.items) }
+        ensures kept { self.new ≡ record self.old { scope = self.new.scope } }
+        ensures happens { IfOk result (λ given. (g : Process) → template_graph with.entry.library.now.templates self.old.template ≡ Some g → Happens with.entry.library.now.templates path.now with.entry.clock (happening event.entry) g self.old.scope self.new.scope given.0 given.1.items) }
     {
         let mut effects = Effects::new(with.alloc);
         let Some(graph) = self.graph(with.library) else {
@@ -234,7 +236,9 @@ impl Instance {
         clock: u64,
         message: &Message,
     ) -> Result<(List<Message>, Vec<Path>), AllocError>
-        ensures { self.old.terminated ≡ false → IfOk result (λ given. (g : Process) → template_graph library.now.templates self.old.template ≡ Some g → Takes library.now.templates clock message.now g self.old.scope self.new.scope given.0 given.1.items) }
+        ensures kept { self.new ≡ record self.old { scope = self.new.scope } }
+        ensures takes { self.old.terminated ≡ false → IfOk result (λ given. (g : Process) → template_graph library.now.templates self.old.template ≡ Some g → Takes library.now.templates clock message.now g self.old.scope self.new.scope given.0 given.1.items) }
+        ensures shows { self.old.terminated ≡ false → OnOk result ((g : Process) → template_graph library.now.templates self.old.template ≡ Some g → ShowsTaken library.now.templates g message.now self.old.scope self.new.scope) }
     {
         if self.terminated {
             return Ok((List::new(alloc), Vec::new(alloc)));
@@ -269,7 +273,9 @@ impl Instance {
         output: Container,
         performer: Option<Name>,
     ) -> Result<(List<Message>, Vec<Path>), AllocError>
-        ensures { IfOk result (λ given. (g : Process) → template_graph library.now.templates self.old.template ≡ Some g → (parts : Seq Step) → (q : Step) → item.now.parts ≡ parts ++ q ∷ [] → Happens library.now.templates (record { root = item.now.root; parts = parts }) clock (Completes q.name (record { output = output; performer = performer })) g self.old.scope self.new.scope given.0 given.1.items) }
+        ensures kept { self.new ≡ record self.old { scope = self.new.scope } }
+        ensures completes { IfOk result (λ given. (g : Process) → template_graph library.now.templates self.old.template ≡ Some g → (parts : Seq Step) → (q : Step) → item.now.parts ≡ parts ++ q ∷ [] → Happens library.now.templates (record { root = item.now.root; parts = parts }) clock (Completes q.name (record { output = output; performer = performer })) g self.old.scope self.new.scope given.0 given.1.items) }
+        ensures shows { OnOk result ((g : Process) → template_graph library.now.templates self.old.template ≡ Some g → ShowsCompleted library.now.templates g item.now.parts output self.old.scope self.new.scope) }
     {
         let with = Context {
             alloc,
@@ -299,7 +305,10 @@ impl Instance {
     }
 
     /// Changes who holds the open attempt of an item's activity; answers the take number of an agent.
-    pub fn change_hold(&mut self, library: &Library, item: &Path, change: HoldChange) -> u64 {
+    pub fn change_hold(&mut self, library: &Library, item: &Path, change: HoldChange) -> u64
+        ensures kept { self.new ≡ record self.old { scope = self.new.scope } }
+        ensures shows { (g : Process) → template_graph library.now.templates self.old.template ≡ Some g → StaysShown library.now.templates g self.old.scope self.new.scope }
+    {
         let [parts @ .., last] = item.parts.as_slice() else {
             return 0;
         };
@@ -336,7 +345,9 @@ impl ScopeState {
         parts: &[Part],
         name: &Name,
         change: HoldChange,
-    ) -> u64 {
+    ) -> u64
+        ensures { StaysShown library.now.templates graph.now self.old self.new }
+    {
         match parts {
             [] => change_hold_here(graph, self, name, change),
             [part, rest @ ..] => self.change_hold_inside(library, graph, part, rest, name, change),
@@ -352,7 +363,9 @@ impl ScopeState {
         rest: &[Part],
         name: &Name,
         change: HoldChange,
-    ) -> u64 {
+    ) -> u64
+        ensures { StaysShown library.now.templates graph.now self.old self.new }
+    {
         let Some(place) = place_of(graph, &part.name) else {
             return 0;
         };
@@ -382,7 +395,9 @@ impl ActivityState {
         rest: &[Part],
         name: &Name,
         change: HoldChange,
-    ) -> u64 {
+    ) -> u64
+        ensures { StaysShownWork library.now.templates graph.now self.old self.new }
+    {
         match self {
             ActivityState::Program(_) => 0,
             ActivityState::Nested(state) => {
@@ -402,7 +417,9 @@ impl NestedState {
         rest: &[Part],
         name: &Name,
         change: HoldChange,
-    ) -> u64 {
+    ) -> u64
+        ensures { StaysShownNested library.now.templates graph.now self.old self.new }
+    {
         match self.scopes.get_mut(attempt) {
             None => 0,
             Some(scope) => scope.change_hold(library, graph, rest, name, change),
@@ -410,7 +427,10 @@ impl NestedState {
     }
 }
 
-fn change_hold_here(graph: &Graph, scope: &mut ScopeState, name: &Name, change: HoldChange) -> u64 {
+/// Changes who holds the open attempt of an activity of a scope.
+fn change_hold_here(graph: &Graph, scope: &mut ScopeState, name: &Name, change: HoldChange) -> u64
+    ensures { (ts : Seq Template) → StaysShown ts graph.now scope.old scope.new }
+{
     let Some(place) = place_of(graph, name) else {
         return 0;
     };

@@ -29,7 +29,7 @@ use Rattle.view_laws.specs.Messages.{Note, BeginNote, SignalNote, EndNote, push,
 use Rattle.view_laws.specs.Queues.{Engine, times}
 use Rattle.view_laws.specs.Runs.{Root, Event, engine}
 
-reaches_from : (n : ℕ) (gives : Gives) (t : Trial) (j : ℕ) (i : Container) (c : ℕ) (i' : Container) → Reaches n gives t j i c i' → j ≤ c
+pub reaches_from : (n : ℕ) (gives : Gives) (t : Trial) (j : ℕ) (i : Container) (c : ℕ) (i' : Container) → Reaches n gives t j i c i' → j ≤ c
 reaches_from zero gives t j i c i' r = absurd r
 reaches_from (suc n) gives t j i c i' (inl r) = let e = r.0 in omega arith
 reaches_from (suc n) gives t j i c i' (inr r) = let h = reaches_from n gives t (j + 1) (t.loops r.0) c i' r.3 in omega arith
@@ -165,7 +165,7 @@ module _ (r : Root) (qf : Note → ℕ) where
   of_self k q out ns m =
       ap (λ l. times x l (push q m)) (due_of_is k q out ns) ∙ times_pushed r qf q (tops k q out ++ ns) (push q m) ∙ ap (times_popped r qf (tops k q out ++ ns)) (pop_push q m)
 
-  of_other : (k : Known) (p q : Part) (out : Option Container) (ns : List Note) (m : Note) → same_part p q ≡ false → times x (due_of k q out ns) (push p m) ≡ 0
+  pub of_other : (k : Known) (p q : Part) (out : Option Container) (ns : List Note) (m : Note) → same_part p q ≡ false → times x (due_of k q out ns) (push p m) ≡ 0
   of_other k p q out ns m h =
       ap (λ l. times x l (push p m)) (due_of_is k q out ns) ∙ times_pushed r qf q (tops k q out ++ ns) (push p m) ∙ ap (times_popped r qf (tops k q out ++ ns)) (pop_other p q m h)
 

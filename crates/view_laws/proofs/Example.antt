@@ -36,7 +36,7 @@ use denote.Hole.Carrier
 
 -- ---- the process
 
-opened : Unit {0}
+unfoldable pub opened : Unit {0}
 unfolding roll-Graph out-Graph Carrier.out Carrier.roll Carrier.shown Carrier.hidden shown-the_row-Activity-0
 opened = tt
 
@@ -53,7 +53,7 @@ abbrev program : Work
 program = Program record { manual = false; by = Starter; expires = None }
 
 -- one program activity, whose second value is the output
-abbrev inner : Graph
+abbrev pub inner : Graph
 inner = roll-Graph record {
   input = no_leaf;
   output = one_leaf;
@@ -65,7 +65,7 @@ inner = roll-Graph record {
 }
 
 -- a process activity that repeats until its second value is 1, and then a program activity that is fed by it
-abbrev graph : Graph
+abbrev pub graph : Graph
 graph = roll-Graph record {
   input = no_leaf;
   output = no_leaf;
@@ -85,31 +85,31 @@ graph = roll-Graph record {
   wiring = wiring;
 }
 
-abbrev templates : List Template
+abbrev pub templates : List Template
 templates = record { name = 80 ∷ []; version = 1; graph = inner; depth = 1; size = 2 } ∷ []
 
-abbrev root : Root
+abbrev pub root : Root
 root = record { templates = templates; depth = 1; graph = graph; input = record { values = [] } }
 
 -- ---- a run
 
-abbrev scope : ℕ → List Part
+abbrev pub scope : ℕ → List Part
 scope j = part (65 ∷ []) j ∷ []
 
-abbrev done : ℕ → ℕ → Fact
+abbrev pub done : ℕ → ℕ → Fact
 done j n = record {
   item = record { root = 1; parts = part (65 ∷ []) j ∷ part (88 ∷ []) 1 ∷ [] };
   output = record { values = WholeValue (pos 0) ∷ WholeValue (pos n) ∷ [] };
 }
 
-abbrev first : List Event
+abbrev pub first : List Event
 first = Completed (done 1 0) ∷ Turned (BeginNote (scope 1)) ∷ Turned (BeginNote []) ∷ Started ∷ []
 
-abbrev all : List Event
+abbrev pub all : List Event
 all =
     Turned (SignalNote [] 0 1 true) ∷ Turned (EndNote (scope 2)) ∷ Completed (done 2 1) ∷ Turned (BeginNote (scope 2)) ∷ Turned (EndNote (scope 1)) ∷ first
 
-abbrev one_queue : Note → ℕ
+abbrev pub one_queue : Note → ℕ
 one_queue m = 1
 
 abbrev shown : List Event → List Fate
@@ -148,7 +148,7 @@ queued_all = refl
 no_note : (m : Note) → None ≡ Some m → ⊥
 no_note m h = cc
 
-legal : TakesFronts (engine root one_queue) all
+pub legal : TakesFronts (engine root one_queue) all
 unfolding opened
 legal = (
   (
@@ -247,7 +247,7 @@ same_name m n h = cc
 different : ◌≡◌ {A = ℕ} 65 66 → ⊥
 different h = omega arith
 
-no_activity : (x : Activity) → None ≡ Some x → ⊥
+pub no_activity : (x : Activity) → None ≡ Some x → ⊥
 no_activity x h = cc
 
 named : (a b : ℕ) (x y : Activity) → slice_get (out-Graph graph).activities a ≡ Some x → slice_get (out-Graph graph).activities b ≡ Some y → x.name ≡ y.name → a ≡ b
@@ -300,10 +300,10 @@ well_inner = record {
   inside = λ a activity is h of. tt;
 }
 
-no_graph : (h : Graph) → None ≡ Some h → ⊥
+pub no_graph : (h : Graph) → None ≡ Some h → ⊥
 no_graph h is = cc
 
-work_at : Option Activity → Option Graph
+unfoldable pub work_at : Option Activity → Option Graph
 work_at None = None
 work_at (Some x) = graph_in templates x.work
 
@@ -316,7 +316,7 @@ inside zero activity is h of = same_graph h (ap work_at is ∙ of)
 inside (suc zero) activity is h of = absurd (no_graph h (ap work_at is ∙ of))
 inside (suc (suc a)) activity is h of = absurd (no_activity activity is)
 
-well : Well templates 1 graph
+pub well : Well templates 1 graph
 unfolding opened
 well = record {
   order = 0 ∷ 1 ∷ [];

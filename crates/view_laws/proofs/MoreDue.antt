@@ -293,7 +293,7 @@ module _ (r : Root) (qf : Note → ℕ) where
   some_known : (v : Option Bool) → v ≡ Some true → is_none v ≡ false
   some_known v h = rw h refl
 
-  open_more : (ts : List Template) (k k' : Known) (runs runs' : Runs) (g : Graph) (i : Container) (e e' : Ends) (a : ℕ) (activity : Activity)
+  pub open_more : (ts : List Template) (k k' : Known) (runs runs' : Runs) (g : Graph) (i : Container) (e e' : Ends) (a : ℕ) (activity : Activity)
       → More k k' → Extends e e' → slice_get (out-Graph g).activities a ≡ Some activity
       → is_open (fate_given ts k runs g i e a) ≡ true → is_open (fate_given ts k' runs' g i e' a) ≡ true
   open_more ts k k' runs runs' g i e e' a activity more ext is open_ = go (k.begun []) refl

@@ -78,7 +78,7 @@ module _ (r : Root) (qf : Note → ℕ) where
   other_note c None a b v h = refl
   other_note c (Some w) a b v h = rw h refl
 
-  of_note : (c : Control) (o : Option Bool) (v : Bool) → 1 ≤ times x (note_of c o) (SignalNote [] c.from c.to v) → o ≡ Some v
+  pub of_note : (c : Control) (o : Option Bool) (v : Bool) → 1 ≤ times x (note_of c o) (SignalNote [] c.from c.to v) → o ≡ Some v
   of_note c None v h = absurd (omega arith)
   of_note c (Some true) true h = refl
   of_note c (Some false) false h = refl
@@ -125,7 +125,7 @@ module _ (r : Root) (qf : Note → ℕ) where
           let none = other_note c (connector_value controls c (e c.from)) a b v is in
           omega arith
 
-  note_value : (controls cs : List Control) (e : Ends) → AreSimple cs
+  pub note_value : (controls cs : List Control) (e : Ends) → AreSimple cs
       → All (λ c. (v : Bool) → 1 ≤ times x (notes controls cs e) (SignalNote [] c.from c.to v) → connector_value controls c (e c.from) ≡ Some v) cs
   note_value controls [] e simple = λ i d less. absurd (omega arith)
   note_value controls (c ∷ cs) e simple =
@@ -156,7 +156,7 @@ module _ (r : Root) (qf : Note → ℕ) where
       let rest = note_has controls cs e i d less v is in
       omega arith)
 
-  pushed_none : (controls cs : List Control) (e : Ends) (p : Part) (m : Note) → times x (notes controls cs e) (push p m) ≡ 0
+  pub pushed_none : (controls cs : List Control) (e : Ends) (p : Part) (m : Note) → times x (notes controls cs e) (push p m) ≡ 0
   pushed_none controls [] e p m = refl
   pushed_none controls (c ∷ cs) e p m =
       let all = times-append x itself one (note_of c (connector_value controls c (e c.from))) (notes controls cs e) (push p m) in
@@ -193,14 +193,14 @@ module _ (r : Root) (qf : Note → ℕ) where
         let z = own_none r qf ts k (output ts (suc depth)) (due_in ts depth) g i (tree_ends ts (suc depth) k g i) (SignalNote [] a b v) (λ q. refl) in
         omega arith
 
-  tops_signal : (k : Known) (q : Part) (o : Option Container) (p : List Part) (a b : ℕ) (v : Bool) → times x (tops r qf k q o) (SignalNote p a b v) ≡ 0
+  pub tops_signal : (k : Known) (q : Part) (o : Option Container) (p : List Part) (a b : ℕ) (v : Bool) → times x (tops r qf k q o) (SignalNote p a b v) ≡ 0
   tops_signal k q o p a b v = go (k.begun (q ∷ []) && is_given o) refl
     where
       go : (e : Bool) → (k.begun (q ∷ []) && is_given o) ≡ e → times x (tops r qf k q o) (SignalNote p a b v) ≡ 0
       go true is = rw is refl
       go false is = rw is refl
 
-  tops_end : (k : Known) (q : Part) (o : Option Container) (q' : Part) (p : List Part) → times x (tops r qf k q o) (EndNote (q' ∷ p)) ≡ 0
+  pub tops_end : (k : Known) (q : Part) (o : Option Container) (q' : Part) (p : List Part) → times x (tops r qf k q o) (EndNote (q' ∷ p)) ≡ 0
   tops_end k q o q' p = go (k.begun (q ∷ []) && is_given o) refl
     where
       go : (e : Bool) → (k.begun (q ∷ []) && is_given o) ≡ e → times x (tops r qf k q o) (EndNote (q' ∷ p)) ≡ 0
@@ -282,7 +282,7 @@ module _ (r : Root) (qf : Note → ℕ) where
       let z = own_none r qf ts k (output ts (suc depth)) (due_in ts depth) g i (tree_ends ts (suc depth) k g i) (BeginNote []) (λ q. refl) in
       omega arith
 
-  no_end : (ts : List Template) (depth : ℕ) (k : Known) (g : Graph) (i : Container) → times x (due_in ts depth k g i) (EndNote []) ≡ 0
+  pub no_end : (ts : List Template) (depth : ℕ) (k : Known) (g : Graph) (i : Container) → times x (due_in ts depth k g i) (EndNote []) ≡ 0
   no_end ts zero k g i = scope_none (out-Graph g).controls (out-Graph g).controls (tree_ends ts zero k g i) (EndNote []) (λ c v. refl)
   no_end ts (suc depth) k g i =
       let s = due_split ts depth k g i (EndNote []) in

@@ -59,7 +59,7 @@ module _ (r : Root) (q : Note → ℕ) where
   abbrev start_note : Bool → List Note
   start_note b = if b then BeginNote [] ∷ [] else []
 
-  due_times : (h : List Event) (m : Note) → times x (due_now r h) m ≡ times x (start_note (has_started h)) m + times x (due_in r.templates r.depth (seen h) r.graph r.input) m
+  pub due_times : (h : List Event) (m : Note) → times x (due_now r h) m ≡ times x (start_note (has_started h)) m + times x (due_in r.templates r.depth (seen h) r.graph r.input) m
   due_times h m = times-append x itself one (start_note (has_started h)) (due_in r.templates r.depth (seen h) r.graph r.input) m
 
   start_kept : (e : Event) (h : List Event) (m : Note) → times x (start_note (has_started h)) m ≤ times x (start_note (has_started (e ∷ h))) m
@@ -90,15 +90,15 @@ module _ (r : Root) (q : Note → ℕ) where
   kinds (SignalNote p a b v) = omega arith
   kinds (EndNote p) = omega arith
 
-  start_signal : (s : Bool) (p : List Part) (a b : ℕ) (v : Bool) → times x (start_note s) (SignalNote p a b v) ≡ 0
+  pub start_signal : (s : Bool) (p : List Part) (a b : ℕ) (v : Bool) → times x (start_note s) (SignalNote p a b v) ≡ 0
   start_signal true p a b v = refl
   start_signal false p a b v = refl
 
-  start_end : (s : Bool) (p : List Part) → times x (start_note s) (EndNote p) ≡ 0
+  pub start_end : (s : Bool) (p : List Part) → times x (start_note s) (EndNote p) ≡ 0
   start_end true p = refl
   start_end false p = refl
 
-  start_below : (s : Bool) (p : Part) (ps : List Part) → times x (start_note s) (BeginNote (p ∷ ps)) ≡ 0
+  pub start_below : (s : Bool) (p : Part) (ps : List Part) → times x (start_note s) (BeginNote (p ∷ ps)) ≡ 0
   start_below true p ps = refl
   start_below false p ps = refl
 
@@ -135,7 +135,7 @@ module _ (r : Root) (q : Note → ℕ) where
 
     -- ---- what was taken was due
 
-    taken_spent : (h : List Event) (m : Note) → times x (taken h) m ≡ times x (spent x h) m
+    pub taken_spent : (h : List Event) (m : Note) → times x (taken h) m ≡ times x (spent x h) m
     taken_spent [] m = refl
     taken_spent (Turned n ∷ h) m =
         let rest = taken_spent h m in
@@ -162,7 +162,7 @@ module _ (r : Root) (q : Note → ℕ) where
         go rest more true is = rw is (omega arith)
         go rest more false is = rw is (omega arith)
 
-    told_taken : (ms : List Note) (p : List Part) (a b : ℕ) (v : Bool) → told ms p a b ≡ Some v → 1 ≤ times x ms (SignalNote p a b v)
+    pub told_taken : (ms : List Note) (p : List Part) (a b : ℕ) (v : Bool) → told ms p a b ≡ Some v → 1 ≤ times x ms (SignalNote p a b v)
     told_taken [] p a b v h = cc
     told_taken (m ∷ ms) p a b v h = go (told_taken ms p a b v) (told_by m p a b) refl
       where
@@ -208,7 +208,7 @@ module _ (r : Root) (q : Note → ℕ) where
       pub put_is_due : (m : Note) → times x (all_put x h) m ≡ times x (due r h) m
       put_is_due m = put_once x itself one kinds h (stays nothing h) m
 
-      taken_is_due : (m : Note) → times x (taken (running h)) m ≤ times x (due r h) m
+      pub taken_is_due : (m : Note) → times x (taken (running h)) m ≤ times x (due r h) m
       taken_is_due m =
           let p = put_is_due m in
           let s = spent_once x itself one h fronts m in
@@ -239,7 +239,7 @@ module _ (r : Root) (q : Note → ℕ) where
         queued_or_taken = queued_or_taken m;
       }
 
-      signal_due : (p : List Part) (a b : ℕ) (v : Bool) (o : Option Bool) → (seen (running h)).sent p a b o ≡ Some v
+      pub signal_due : (p : List Part) (a b : ℕ) (v : Bool) (o : Option Bool) → (seen (running h)).sent p a b o ≡ Some v
           → 1 ≤ times x (due_in r.templates r.depth (seen (running h)) r.graph r.input) (SignalNote p a b v)
       signal_due p a b v o was =
           let t = told_taken (taken (running h)) p a b v was in
@@ -248,7 +248,7 @@ module _ (r : Root) (q : Note → ℕ) where
           let z = start_signal (has_started (running h)) p a b v in
           omega arith
 
-      end_due : (s : Part) (p : List Part) → (seen (running h)).closed (s ∷ p) ≡ true → 1 ≤ times x (due_in r.templates r.depth (seen (running h)) r.graph r.input) (EndNote (s ∷ p))
+      pub end_due : (s : Part) (p : List Part) → (seen (running h)).closed (s ∷ p) ≡ true → 1 ≤ times x (due_in r.templates r.depth (seen (running h)) r.graph r.input) (EndNote (s ∷ p))
       end_due s p was =
           let t = has_times x itself one (taken (running h)) (EndNote (s ∷ p)) was in
           let d = taken_is_due (EndNote (s ∷ p)) in

@@ -6,3 +6,5 @@ pub mod Laws
 pub mod TurnBound
 pub mod Learning
 pub mod Coming
+pub mod LegalRuns
+pub mod NextEvents

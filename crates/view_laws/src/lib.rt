@@ -10,12 +10,17 @@
 
 mod causes;
 mod messages;
+mod next_events;
 mod quiescence;
 mod soundness;
 mod stability;
 
 pub use causes::complete_run_has_fact;
 pub use messages::{exactly_once, turns_are_bounded};
+pub use next_events::{
+    begins_may_come, completions_may_come, ends_may_come, scopes_go_by_messages, signals_may_come,
+    views_go_by_messages,
+};
 pub use quiescence::{order_free, quiet_root, quiet_scopes};
 pub use soundness::{
     root_is_sound, scopes_are_sound, shown_fates_are_right, started_scopes_are_reached,
