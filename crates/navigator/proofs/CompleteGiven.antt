@@ -68,16 +68,13 @@ same_completed : (q : Part) (out : Container) (k : Known) (r : Part) → IsSameI
 same_completed q out k r = record { most = refl; begun = refl; sent = refl; below = λ p. refl }
 
 module _ (ts : List Template) (depth : ℕ) (k : Known) (g : Graph) (input : Container) (s s' : ScopeState) (path : Path) (clock : ℕ) (tells : Told) (q : Part) (by : Completed)
-    (well : Well ts depth g) (served : Served ts depth g) (linked : Linked ts depth g) (messages : IsByMessages k) (may : MayComplete ts depth k g input q) (within : q.attempt ≤ k.most)
-    (shows : Shows ts depth k g input s) (receives : Receives ts path clock (Completion q.name by) nothing tells g s s') where
+    (well : Well ts depth g) (served : Served ts depth g) (linked : Linked ts depth g) (may : MayComplete ts depth k g input q)
+    (shows : Shows ts depth k g input s) (shows_then : Shows ts depth (with_output q by.output k) g input s') (receives : Receives ts path clock (Completion q.name by) nothing tells g s s') where
   abbrev k' : Known
   k' = with_output q by.output k
 
   abbrev place : ℕ
   place = may.place
-
-  shows_then : Shows ts depth k' g input s'
-  shows_then = complete_shows ts depth k g input s s' path clock nothing tells q by well served messages may within shows receives
 
   stands : (state : ActivityState) × (slice_get (out-ScopeState s).states.items place ≡ Some state)
   stands =

@@ -36,7 +36,8 @@ use Rattle.navigator.specs.Events.{nothing, Receives, Ends as Ending}
 use Rattle.navigator.specs.Giving.{Linked}
 use Rattle.navigator.specs.Reading.{place_of, inner_of}
 use Rattle.navigator.specs.Serving.{Served}
-use Rattle.navigator.specs.Steps.{Told, Fields, fields, changed_at, settled, EndsBy, given_by, finished_state}
+use Rattle.navigator.specs.Steps.{Told, Fields, fields, changed_at, settled, EndsBy, given_by, finished_state, at_stage}
+use Rattle.navigator.specs.declared.scopes.NestedStage.TheVariants as stages
 use Rattle.navigator.specs.Views.{ShowsNested, ShowsWithin, shows_attempt, Shows}
 use Rattle.navigator.specs.declared.scopes.ActivityState.{ActivityState, Program, Nested}
 use Rattle.navigator.specs.declared.scopes.NestedState.{NestedState, out-NestedState, out-roll-NestedState}
@@ -89,15 +90,15 @@ inner_at : (s : ScopeState) (a : ℕ) (n : NestedState) (j i : ℕ) (inner : Sco
     → slice_get (out-NestedState n).scopes.items i ≡ Some inner → inner_of s a j ≡ Some inner
 inner_at s a n j i inner at numbered there = let e : j ≡ suc i = omega arith in rw (at, e) there
 
-finished_scopes : (n : NestedState) → scopes_in (finished_state (Nested n)) ≡ scopes_in (Nested n)
+finished_scopes : (n : NestedState) → (out-NestedState (at_stage stages.Finished n)).scopes.items ≡ (out-NestedState n).scopes.items
 finished_scopes n = rw out-roll-NestedState refl
 
 same_ended : (q : Part) (k : Known) (r : Part) → IsSameInside (at r k) (at r (with_end q k))
 same_ended q k r = record { most = refl; begun = refl; sent = refl; below = λ p. refl }
 
 module _ (ts : List Template) (depth : ℕ) (k : Known) (g : Graph) (input : Container) (s s' : ScopeState) (path : Path) (clock : ℕ) (tells : Told) (q : Part)
-    (well : Well ts depth g) (served : Served ts depth g) (linked : Linked ts depth g) (messages : IsByMessages k) (may : MayEnd ts depth k g input q) (within : may.start.attempt ≤ k.most)
-    (shows : Shows ts depth k g input s) (receives : Receives ts path clock (Ending q.name q.attempt) nothing tells g s s') where
+    (well : Well ts depth g) (served : Served ts depth g) (linked : Linked ts depth g) (may : MayEnd ts depth k g input q)
+    (shows : Shows ts depth k g input s) (shows_then : Shows ts depth (with_end q k) g input s') (receives : Receives ts path clock (Ending q.name q.attempt) nothing tells g s s') where
   abbrev k' : Known
   k' = with_end q k
 
@@ -115,9 +116,6 @@ module _ (ts : List Template) (depth : ℕ) (k : Known) (g : Graph) (input : Con
 
   abbrev base : Container
   base = base_of g activity a input e
-
-  shows_then : Shows ts depth k' g input s'
-  shows_then = end_shows ts depth k g input s s' path clock nothing tells q well served messages may within shows receives
 
   name : activity.name ≡ q.name
   name = ap (λ (r : Part). r.name) may.named
