@@ -135,7 +135,7 @@ due_by_inside ts depth r h i j j' same =
 -- ---- a scope that hasn't begun
 
 module _ (ts : List Template) (k : Known) (runs : Runs) (g : Graph) (input : Container) (unbegun : k.begun [] ≡ false) where
-  still : (n a : ℕ) → rounds (step ts k runs g input) n a ≡ Unsettled
+  pub still : (n a : ℕ) → rounds (step ts k runs g input) n a ≡ Unsettled
   still zero a = refl
   still (suc n) a = rw unbegun refl
 

@@ -33,3 +33,5 @@ pub mod OneChanged
 pub mod Signalled
 pub mod Begun
 pub mod TakesShown
+pub mod SignalGiven
+pub mod BeginGiven

@@ -68,7 +68,7 @@ set_ends es a now x less = elim (eqb_tells x a) [
   | inr other ↦ rw other.0 (ap (λ o. unwrap_or o Unsettled) (set_other es a x now other.1))
 ]
 
-targets_of : (ts : List Template) (depth : ℕ) (g : Graph) → Linked ts depth g → (i : ℕ) (c : Control) → slice_get (out-Graph g).controls i ≡ Some c → c.to < length (out-Graph g).activities
+pub targets_of : (ts : List Template) (depth : ℕ) (g : Graph) → Linked ts depth g → (i : ℕ) (c : Control) → slice_get (out-Graph g).controls i ≡ Some c → c.to < length (out-Graph g).activities
 targets_of ts zero g linked = linked.targets
 targets_of ts (suc depth) g linked = linked.targets
 

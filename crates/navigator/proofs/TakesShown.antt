@@ -169,22 +169,20 @@ leads_now : (ts : List Template) (q : Part) (most : ℕ) (p : List Part) (depth 
 leads_now ts q most [] depth k g input well counted le may =
     let enough = counted.enough in
     let same = same_view ts depth k most counted.items g input well (counted_covers k counted) enough (omega arith) in
-    let few = ready_short ts k (output ts depth) g input (tree_ends ts depth k g input) may.place may.activity q.attempt may.is may.ready in (
-      record {
-        begun = may.begun;
-        fed = fed_most ts depth most k g input same.ends may.fed;
-        place = may.place;
-        activity = may.activity;
-        program = may.program;
-        is = may.is;
-        runs = may.runs;
-        name = may.name;
-        ready = fate_most ts depth most k g input same may.place ∙ may.ready;
-        ungiven = may.ungiven;
-        unstarted = new_most most k (part may.activity.name (q.attempt + 1)) may.unstarted;
-      },
-      omega arith,
-    )
+    let few = ready_short ts k (output ts depth) g input (tree_ends ts depth k g input) may.place may.activity q.attempt may.is may.ready in
+    (record {
+      begun = may.begun;
+      fed = fed_most ts depth most k g input same.ends may.fed;
+      place = may.place;
+      activity = may.activity;
+      program = may.program;
+      is = may.is;
+      runs = may.runs;
+      name = may.name;
+      ready = fate_most ts depth most k g input same may.place ∙ may.ready;
+      ungiven = may.ungiven;
+      unstarted = new_most most k (part may.activity.name (q.attempt + 1)) may.unstarted;
+    }, omega arith)
 leads_now ts q most (r ∷ p) zero k g input well counted le leads = absurd leads
 leads_now ts q most (r ∷ p) (suc depth) k g input well counted le leads =
     let enough = counted.enough in
