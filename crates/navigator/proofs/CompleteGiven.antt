@@ -14,7 +14,7 @@ use Rattle.flow_model.specs.Conditions.{holds}
 use Rattle.flow_model.specs.Fates.{Ends, goes_on, fate_by, ended, is_open}
 use Rattle.flow_model.specs.Rows.{below}
 use Rattle.flow_model.specs.ScopeContainers.{base_of, graph_in, looped}
-use Rattle.flow_model.specs.Scopes.{Known, at, part, Runs, Gives, Trial, Start, tries, scope_gives, gives, is_fed, trial, attempts, fate_given, started_at, output, tree_ends}
+use Rattle.flow_model.specs.Scopes.{Known, at, part, Runs, Gives, Trial, Start, tries, scope_gives, gives, is_fed, trial, attempts, fate_given, started_at, output, tree_ends, tree_fate}
 use Rattle.flow_model.specs.declared.graphs.Activity.{Activity}
 use Rattle.flow_model.specs.declared.graphs.Container.{Container}
 use Rattle.flow_model.specs.declared.graphs.Expr.{Expr}
@@ -23,6 +23,7 @@ use Rattle.flow_model.specs.declared.graphs.Program.{Program as ProgramOf}
 use Rattle.flow_model.specs.declared.graphs.Template.{Template}
 use Rattle.flow_model.specs.declared.graphs.Work.{Work, Program as RunsProgram, Block', Process}
 use Rattle.flow_model.specs.declared.instances.Fate.{Fate}
+use Rattle.flow_model.specs.declared.instances.Fate.TheVariants.{Ready}
 use Rattle.flow_model.specs.declared.instances.Message.TheVariants.{Begin}
 use Rattle.flow_model.specs.declared.instances.Part.{Part}
 use Rattle.flow_model.specs.declared.instances.Path.{Path}
@@ -64,11 +65,22 @@ program_in (RunsProgram w) program fate outs starts shows (Nested n) runs is = a
 program_in (Block' b g) program fate outs starts shows state runs is = let never : ⊥ = cc in absurd never
 program_in (Process t) program fate outs starts shows state runs is = let never : ⊥ = cc in absurd never
 
+-- the attempt of an item is ready
+pub record IsReadyAt (ts : List Template) (depth : ℕ) (k : Known) (g : Graph) (input : Container) (q : Part) : Type 0 where
+  pub begun : k.begun [] ≡ true
+  pub place : ℕ
+  pub activity : Activity
+  pub program : ProgramOf
+  pub is : slice_get (out-Graph g).activities place ≡ Some activity
+  pub runs : activity.work ≡ RunsProgram program
+  pub name : activity.name ≡ q.name
+  pub ready : tree_fate ts depth k g input place ≡ Ready q.attempt
+
 same_completed : (q : Part) (out : Container) (k : Known) (r : Part) → IsSameInside (at r k) (at r (with_output q out k))
 same_completed q out k r = record { most = refl; begun = refl; sent = refl; below = λ p. refl }
 
 module _ (ts : List Template) (depth : ℕ) (k : Known) (g : Graph) (input : Container) (s s' : ScopeState) (path : Path) (clock : ℕ) (tells : Told) (q : Part) (by : Completed)
-    (well : Well ts depth g) (served : Served ts depth g) (linked : Linked ts depth g) (may : MayComplete ts depth k g input q)
+    (well : Well ts depth g) (served : Served ts depth g) (linked : Linked ts depth g) (may : IsReadyAt ts depth k g input q)
     (shows : Shows ts depth k g input s) (shows_then : Shows ts depth (with_output q by.output k) g input s') (receives : Receives ts path clock (Completion q.name by) nothing tells g s s') where
   abbrev k' : Known
   k' = with_output q by.output k

@@ -35,3 +35,5 @@ pub mod Begun
 pub mod TakesShown
 pub mod SignalGiven
 pub mod BeginGiven
+pub mod MoreDueLooked
+pub mod Given
