@@ -1,12 +1,12 @@
 -- What a BEGIN gives: the BEGINs of the blocks and process activities to which no connector leads.
-use Rattle.std.proofs.Common.{◌≡◌, ℕ, zero, suc, ◌+◌, ◌-◌, ◌≤◌, ◌<◌, ◌==◌, Bool, true, false, ◌&&◌, if◌then◌else◌, List, [], ◌∷◌, ◌++◌, map, length, Option, Some, None, refl, ap, sym, ◌∙◌, subst, arith, inl, inr, append-nil}
-use Rattle.std.specs.Prelude.{slice_get, slice_set, is_none}
-use Rattle.std.specs.List.{flat_map, list_any, filter}
+use Rattle.std.proofs.Common.{◌≡◌, ℕ, zero, suc, ◌+◌, ◌≤◌, ◌<◌, ◌==◌, Bool, true, false, if◌then◌else◌, List, [], ◌∷◌, ◌++◌, map, length, Option, Some, None, refl, ap, sym, ◌∙◌, subst, arith, inl, inr, append-nil}
+use Rattle.std.specs.Prelude.{slice_get}
+use Rattle.std.specs.List.{flat_map, filter}
 use Rattle.std.proofs.Math.Path.{fun_ext}
 use Rattle.std.proofs.lemmas.Bool.{cases_lt}
 use Rattle.std.proofs.lemmas.Bool.Decides.{eqb_tells}
 use Rattle.std.proofs.lemmas.Option.{slice_get_within}
-use Rattle.activity_states.specs.States.{State, made_ready}
+use Rattle.activity_states.specs.States.{made_ready}
 use Rattle.blocks_subprocs.specs.Ends.{ends_of}
 use Rattle.fate_laws.specs.WellFormed.{Well}
 use Rattle.flow_model.specs.Fates.{Ends, connector_value, joined, is_settled}
@@ -26,23 +26,22 @@ use Rattle.flow_model.specs.declared.instances.Path.{Path}
 use Rattle.flow_model.specs.declared.instances.SourceEnd.TheVariants.{Unsettled}
 use Rattle.navigator.proofs.DueParts.{own_notes, end_note, is_over, still, scopes_in}
 use Rattle.navigator.proofs.FreshHere.{IsGivenAt, begin_notes, Grown, not_over, given_here}
-use Rattle.navigator.proofs.Leading.{set_other, set_long}
+use Rattle.navigator.proofs.Leading.{set_other}
 use Rattle.navigator.proofs.Merges.{Merges, merges_same}
 use Rattle.navigator.proofs.OneGiven.{grown_scopes, told_begin}
 use Rattle.navigator.proofs.Places.{present, set_read}
 use Rattle.navigator.proofs.ShownAgain.{IsSameInside}
-use Rattle.navigator.proofs.ToldNotes.{AreTold, none_told, told_append, kind_only}
+use Rattle.navigator.proofs.ToldNotes.{AreTold, none_told, told_append}
 use Rattle.navigator.specs.Events.{nothing, Receives, Begins as BeginsScope}
-use Rattle.navigator.specs.Giving.{Linked}
 use Rattle.navigator.specs.Serving.{Served}
-use Rattle.navigator.specs.Steps.{Told, Fields, fields, is_root, with_state, Begins, Opens, Decides, DecidesFirst, AreTallied}
+use Rattle.navigator.specs.Steps.{Told, Fields, fields, is_root, with_state, Begins, Opens, Decides, DecidesFirst}
 use Rattle.navigator.specs.Views.{Shows}
 use Rattle.navigator.specs.declared.scopes.ActivityState.{ActivityState, Program, Nested}
-use Rattle.navigator.specs.declared.scopes.NestedState.{NestedState, out-NestedState}
-use Rattle.navigator.specs.declared.scopes.ScopeState.{ScopeState, out-ScopeState}
+use Rattle.navigator.specs.declared.scopes.NestedState.{out-NestedState}
+use Rattle.navigator.specs.declared.scopes.ScopeState.{ScopeState}
 use Rattle.view_laws.specs.Coming.{MayBegin}
 use Rattle.view_laws.specs.Learning.{with_begin}
-use Rattle.view_laws.specs.Messages.{Note, BeginNote}
+use Rattle.view_laws.specs.Messages.{Note}
 
 -- ---- joins of values that aren't known
 

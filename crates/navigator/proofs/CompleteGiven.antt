@@ -1,60 +1,41 @@
 -- What the completion of an item gives.
-use Rattle.std.proofs.Common.{◌≡◌, ℕ, zero, suc, ◌+◌, ◌-◌, ◌≤◌, ◌<◌, Bool, true, false, ◌&&◌, ◌==◌, if◌then◌else◌, List, [], ◌∷◌, ◌++◌, length, Option, Some, None, cond, refl, ap, sym, ◌∙◌, subst, arith, inl, inr}
+use Rattle.std.proofs.Common.{◌≡◌, ℕ, Bool, true, false, ◌==◌, if◌then◌else◌, List, [], Some, None, refl, ap, sym, ◌∙◌, arith, inl}
 use Rattle.std.specs.Prelude.{slice_get, slice_set}
-use Rattle.std.specs.List.{last_or}
 use Rattle.std.proofs.lemmas.Option.{slice_get_within}
 use Rattle.activity_states.specs.States.{State, completed}
 use Rattle.activity_states.specs.declared.states.Completed.{Completed}
-use Rattle.blocks_subprocs.specs.Ends.{ends_of}
-use Rattle.fate_laws.proofs.Attempts.{closed}
-use Rattle.fate_laws.proofs.Extends.{and_true}
-use Rattle.fate_laws.specs.StartedScopes.{Reaches}
 use Rattle.fate_laws.specs.WellFormed.{Well}
 use Rattle.flow_model.specs.Conditions.{holds}
-use Rattle.flow_model.specs.Fates.{Ends, goes_on, fate_by, ended, is_open}
-use Rattle.flow_model.specs.Rows.{below}
-use Rattle.flow_model.specs.ScopeContainers.{base_of, graph_in, looped}
-use Rattle.flow_model.specs.Scopes.{Known, at, part, Runs, Gives, Trial, Start, tries, scope_gives, gives, is_fed, trial, attempts, fate_given, started_at, output, tree_ends, tree_fate}
+use Rattle.flow_model.specs.Fates.{ended}
+use Rattle.flow_model.specs.ScopeContainers.{graph_in}
+use Rattle.flow_model.specs.Scopes.{Known, at, Start, attempts, output, tree_ends, tree_fate}
 use Rattle.flow_model.specs.declared.graphs.Activity.{Activity}
 use Rattle.flow_model.specs.declared.graphs.Container.{Container}
-use Rattle.flow_model.specs.declared.graphs.Expr.{Expr}
 use Rattle.flow_model.specs.declared.graphs.Graph.{Graph, out-Graph}
 use Rattle.flow_model.specs.declared.graphs.Program.{Program as ProgramOf}
 use Rattle.flow_model.specs.declared.graphs.Template.{Template}
 use Rattle.flow_model.specs.declared.graphs.Work.{Work, Program as RunsProgram, Block', Process}
 use Rattle.flow_model.specs.declared.instances.Fate.{Fate}
 use Rattle.flow_model.specs.declared.instances.Fate.TheVariants.{Ready}
-use Rattle.flow_model.specs.declared.instances.Message.TheVariants.{Begin}
 use Rattle.flow_model.specs.declared.instances.Part.{Part}
 use Rattle.flow_model.specs.declared.instances.Path.{Path}
-use Rattle.flow_model.specs.declared.instances.SourceEnd.{SourceEnd}
 use Rattle.flow_model.specs.declared.instances.SourceEnd.TheVariants as end
-use Rattle.navigator.proofs.Completing.{complete_shows}
-use Rattle.navigator.proofs.DueParts.{scopes_in}
-use Rattle.navigator.proofs.EndedScopes.{nested_state, gives_scope, rows_inside}
-use Rattle.navigator.proofs.Ending.{end_shows}
 use Rattle.navigator.proofs.FreshHere.{IsGivenAt, Grown}
-use Rattle.navigator.proofs.MoreAttempts.{reached_start}
-use Rattle.navigator.proofs.NextAttempt.{IsOpened, opened_is}
 use Rattle.navigator.proofs.Places.{present}
-use Rattle.navigator.proofs.RowLists.{started_numbered}
 use Rattle.navigator.proofs.SameActivities.{step_is, named_of, place_found}
 use Rattle.navigator.proofs.SettledHere.{grown_one, opens_given, settles_given}
 use Rattle.navigator.proofs.ShownAgain.{IsSameInside}
 use Rattle.navigator.proofs.ToldNotes.{none_told}
-use Rattle.navigator.specs.Events.{Receives, Completes as Completion, Ends as Ending}
+use Rattle.navigator.specs.Events.{Receives, Completes as Completion}
 use Rattle.navigator.specs.Giving.{Linked}
-use Rattle.navigator.specs.Reading.{place_of, inner_of}
+use Rattle.navigator.specs.Reading.{place_of}
 use Rattle.navigator.specs.Serving.{Served}
-use Rattle.navigator.specs.Steps.{Told, Fields, fields, CompletesBy, EndsBy, BeginsNext, GrowsState, given_by, finished_state}
+use Rattle.navigator.specs.Steps.{Told, Fields, fields, CompletesBy}
 use Rattle.navigator.specs.Events.{nothing}
-use Rattle.navigator.specs.Views.{ShowsStart, ShowsWork, ShowsNested, ShowsWithin, shows_attempt, Shows}
+use Rattle.navigator.specs.Views.{ShowsStart, ShowsWork, ShowsWithin, shows_attempt, Shows}
 use Rattle.navigator.specs.declared.scopes.ActivityState.{ActivityState, Program, Nested}
-use Rattle.navigator.specs.declared.scopes.NestedState.{NestedState, out-NestedState}
 use Rattle.navigator.specs.declared.scopes.ScopeState.{ScopeState, out-ScopeState}
-use Rattle.view_laws.specs.Coming.{IsByMessages, MayComplete, MayEnd, started_in}
-use Rattle.view_laws.specs.Learning.{with_end, with_output}
-use Rattle.view_laws.specs.Messages.{BeginNote}
+use Rattle.view_laws.specs.Learning.{with_output}
 
 -- ---- the completion of an item
 

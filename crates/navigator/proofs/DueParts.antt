@@ -1,5 +1,5 @@
 -- What is due in a scope, part by part: of its connectors, and of each attempt that has started, which its state shows.
-use Rattle.std.proofs.Common.{◌≡◌, ℕ, zero, suc, ◌+◌, ◌<◌, Bool, true, false, ◌&&◌, if◌then◌else◌, List, [], ◌∷◌, ◌++◌, map, length, Option, Some, None, refl, ap, sym, ◌∙◌, subst, arith}
+use Rattle.std.proofs.Common.{◌≡◌, ℕ, zero, suc, ◌+◌, Bool, true, false, ◌&&◌, if◌then◌else◌, List, [], ◌∷◌, ◌++◌, map, length, Option, Some, None, refl, ap, sym, ◌∙◌, arith}
 use Rattle.std.specs.Prelude.{slice_get}
 use Rattle.std.specs.List.{flat_map}
 use Rattle.flow_model.specs.Fates.{Ends}
@@ -19,11 +19,11 @@ use Rattle.navigator.proofs.Merges.{flat_same, flat_nothing}
 use Rattle.navigator.proofs.RowLists.{started_numbered}
 use Rattle.navigator.proofs.ShownAgain.{IsSameInside, inside_scope, ends_as_before, starts_as_before}
 use Rattle.navigator.specs.Serving.{Served}
-use Rattle.navigator.specs.Views.{ShowsWithin, shows_attempt, ShowsActivity, Shows}
+use Rattle.navigator.specs.Views.{ShowsWithin, shows_attempt, ShowsActivity}
 use Rattle.navigator.specs.declared.scopes.ActivityState.{ActivityState, Program, Nested}
-use Rattle.navigator.specs.declared.scopes.NestedState.{NestedState, out-NestedState}
+use Rattle.navigator.specs.declared.scopes.NestedState.{out-NestedState}
 use Rattle.navigator.specs.declared.scopes.ScopeState.{ScopeState, out-ScopeState}
-use Rattle.view_laws.specs.Messages.{Note, BeginNote, SignalNote, EndNote, push, notes, is_given, due_of, due_with, due_at, due_in}
+use Rattle.view_laws.specs.Messages.{Note, BeginNote, EndNote, push, notes, is_given, due_with, due_at, due_in}
 
 -- ---- parts
 
@@ -93,6 +93,7 @@ due_pushed ts depth r h i j = go (is_over ts depth j h i)
 
 -- ---- the same inside
 
+-- the same is due where the same is known inside
 pub due_inside : (ts : List Template) (depth : ℕ) (k k' : Known) (g : Graph) (input : Container) → IsSameInside k k' → due_in ts depth k' g input ≡ due_in ts depth k g input
 due_inside ts zero k k' g input same = ap (own_notes g) (ends_as_before ts (output ts zero) k k' g input (inside_scope ts k k' (output ts zero) same))
 due_inside ts (suc depth) k k' g input same =
@@ -135,6 +136,7 @@ due_by_inside ts depth r h i j j' same =
 -- ---- a scope that hasn't begun
 
 module _ (ts : List Template) (k : Known) (runs : Runs) (g : Graph) (input : Container) (unbegun : k.begun [] ≡ false) where
+  -- no activity of it is settled
   pub still : (n a : ℕ) → rounds (step ts k runs g input) n a ≡ Unsettled
   still zero a = refl
   still (suc n) a = rw unbegun refl
@@ -185,10 +187,12 @@ abbrev pub starts_of : ℕ → List ScopeState → List Start
 starts_of j [] = []
 starts_of j (s ∷ ss) = record { attempt = j; input = (out-ScopeState s).input } ∷ starts_of (j + 1) ss
 
+-- as many attempts as scopes
 pub starts_long : (j : ℕ) (ss : List ScopeState) → length (starts_of j ss) ≡ length ss
 starts_long j [] = refl
 starts_long j (s ∷ ss) = ap suc (starts_long (j + 1) ss)
 
+-- one more scope, one more attempt
 pub starts_more : (j : ℕ) (ss : List ScopeState) (s : ScopeState)
     → starts_of j (ss ++ s ∷ []) ≡ starts_of j ss ++ record { attempt = length ss + j; input = (out-ScopeState s).input } ∷ []
 starts_more j [] s = let number : j ≡ 0 + j = omega arith in ap (λ n. record { attempt = n; input = (out-ScopeState s).input } ∷ []) number
@@ -212,6 +216,7 @@ starts_shown j (x ∷ starts) (s ∷ ss) long numbered reads =
     let first : x ≡ record { attempt = j; input = (out-ScopeState s).input } = ap (λ n. record { attempt = n; input = x.input }) number ∙ ap (λ (c : Container). record { attempt = j; input = c }) (sym input) in
     ap (λ l. x ∷ l) rest ∙ ap (λ (y : Start). y ∷ starts_of (j + 1) ss) first
 
+-- the scope of an attempt reads its input, and has begun where that is known
 pub attempt_reads : (ts : List Template) (depth : ℕ) (k : Known) (name : Name) (o : Option Graph) (start : Start) (s : ScopeState)
     → shows_attempt (ShowsWithin ts depth) k name o start s → ((out-ScopeState s).input ≡ start.input) × ((out-ScopeState s).begun ≡ k.begun (part name start.attempt ∷ []))
 attempt_reads ts depth k name None start s is = absurd is

@@ -1,9 +1,8 @@
 -- What the END of an attempt gives.
-use Rattle.std.proofs.Common.{◌≡◌, ℕ, zero, suc, ◌+◌, ◌-◌, ◌≤◌, ◌<◌, Bool, true, false, ◌&&◌, List, [], ◌∷◌, length, Option, Some, None, cond, refl, ap, sym, ◌∙◌, subst, arith, inl, inr}
+use Rattle.std.proofs.Common.{◌≡◌, ℕ, zero, suc, ◌+◌, Bool, true, false, ◌&&◌, List, [], ◌∷◌, length, Option, Some, None, cond, refl, ap, sym, ◌∙◌, arith, inl, inr}
 use Rattle.std.specs.Prelude.{slice_get}
 use Rattle.std.specs.List.{last_or}
 use Rattle.std.proofs.lemmas.Option.{slice_get_within}
-use Rattle.blocks_subprocs.specs.Ends.{ends_of}
 use Rattle.fate_laws.proofs.Attempts.{closed}
 use Rattle.fate_laws.proofs.Extends.{and_true}
 use Rattle.fate_laws.specs.StartedScopes.{Reaches}
@@ -11,7 +10,7 @@ use Rattle.fate_laws.specs.WellFormed.{Well}
 use Rattle.flow_model.specs.Conditions.{holds}
 use Rattle.flow_model.specs.Fates.{Ends, goes_on, fate_by, ended, is_open}
 use Rattle.flow_model.specs.ScopeContainers.{base_of, graph_in}
-use Rattle.flow_model.specs.Scopes.{Known, at, part, Runs, Gives, Trial, Start, tries, scope_gives, gives, is_fed, trial, attempts, fate_given, output, tree_ends}
+use Rattle.flow_model.specs.Scopes.{Known, at, Runs, Gives, Trial, tries, scope_gives, gives, is_fed, trial, attempts, fate_given, output, tree_ends}
 use Rattle.flow_model.specs.declared.graphs.Activity.{Activity}
 use Rattle.flow_model.specs.declared.graphs.Container.{Container}
 use Rattle.flow_model.specs.declared.graphs.Expr.{Expr}
@@ -21,9 +20,7 @@ use Rattle.flow_model.specs.declared.graphs.Work.{Work, Program as RunsProgram, 
 use Rattle.flow_model.specs.declared.instances.Part.{Part}
 use Rattle.flow_model.specs.declared.instances.Path.{Path}
 use Rattle.flow_model.specs.declared.instances.SourceEnd.TheVariants as end
-use Rattle.navigator.proofs.DueParts.{scopes_in}
 use Rattle.navigator.proofs.EndedScopes.{nested_state, gives_scope, HasRows, rows_inside}
-use Rattle.navigator.proofs.Ending.{end_shows}
 use Rattle.navigator.proofs.FreshHere.{IsGivenAt}
 use Rattle.navigator.proofs.MoreAttempts.{reached_start}
 use Rattle.navigator.proofs.NextAttempt.{IsOpened, opened_is}
@@ -36,13 +33,13 @@ use Rattle.navigator.specs.Events.{nothing, Receives, Ends as Ending}
 use Rattle.navigator.specs.Giving.{Linked}
 use Rattle.navigator.specs.Reading.{place_of, inner_of}
 use Rattle.navigator.specs.Serving.{Served}
-use Rattle.navigator.specs.Steps.{Told, Fields, fields, changed_at, settled, EndsBy, given_by, finished_state, at_stage}
+use Rattle.navigator.specs.Steps.{Told, fields, changed_at, settled, EndsBy, given_by, finished_state, at_stage}
 use Rattle.navigator.specs.declared.scopes.NestedStage.TheVariants as stages
 use Rattle.navigator.specs.Views.{ShowsNested, ShowsWithin, shows_attempt, Shows}
-use Rattle.navigator.specs.declared.scopes.ActivityState.{ActivityState, Program, Nested}
+use Rattle.navigator.specs.declared.scopes.ActivityState.{ActivityState, Nested}
 use Rattle.navigator.specs.declared.scopes.NestedState.{NestedState, out-NestedState, out-roll-NestedState}
 use Rattle.navigator.specs.declared.scopes.ScopeState.{ScopeState, out-ScopeState}
-use Rattle.view_laws.specs.Coming.{IsByMessages, started_in, MayEnd}
+use Rattle.view_laws.specs.Coming.{started_in, MayEnd}
 use Rattle.view_laws.specs.Learning.{with_end}
 
 -- ---- an activity of which an attempt gives nothing yet

@@ -1,27 +1,23 @@
 -- What an event gives that a scope further in receives.
-use Rattle.std.proofs.Common.{◌≡◌, ℕ, zero, suc, ◌+◌, ◌<◌, ◌==◌, Bool, true, false, if◌then◌else◌, List, [], ◌∷◌, ◌++◌, map, length, Option, Some, None, refl, ap, sym, ◌∙◌, subst, arith, inl, inr}
-use Rattle.std.specs.Prelude.{slice_set, ◌≢◌, slice_get}
-use Rattle.std.specs.List.{flat_map}
-use Rattle.std.proofs.lemmas.Bool.Decides.{eqb_tells}
+use Rattle.std.proofs.Common.{◌≡◌, ℕ, zero, suc, ◌<◌, Bool, if◌then◌else◌, List, [], ◌∷◌, ◌++◌, map, length, Some, refl, ap, sym, ◌∙◌, subst, arith, inl}
+use Rattle.std.specs.Prelude.{slice_set, slice_get}
 use Rattle.std.proofs.lemmas.Option.{slice_get_within}
 use Rattle.fate_laws.specs.StartedScopes.{ScopeFact}
 use Rattle.fate_laws.specs.WellFormed.{Well}
 use Rattle.flow_model.specs.Fates.{Ends}
-use Rattle.flow_model.specs.ScopeContainers.{graph_in, up_to, output_by}
-use Rattle.flow_model.specs.Scopes.{Known, at, part, Runs, Start, fate_given, attempts, started_at, output, tree_ends}
+use Rattle.flow_model.specs.ScopeContainers.{graph_in}
+use Rattle.flow_model.specs.Scopes.{Known, at, Runs, Start, fate_given, attempts, started_at, output, tree_ends}
 use Rattle.flow_model.specs.declared.graphs.Activity.{Activity}
 use Rattle.flow_model.specs.declared.graphs.Container.{Container}
 use Rattle.flow_model.specs.declared.graphs.Graph.{Graph, out-Graph}
 use Rattle.flow_model.specs.declared.graphs.Template.{Template}
 use Rattle.flow_model.specs.declared.instances.Part.{Part}
 use Rattle.flow_model.specs.declared.instances.Path.{Path}
-use Rattle.navigator.proofs.Completing.{parts_apart}
-use Rattle.navigator.proofs.DueParts.{scopes_in, due_place, own_notes, due_by, due_start, end_note, is_over, all_notes, due_pushed}
+use Rattle.navigator.proofs.DueParts.{scopes_in, end_note, is_over, all_notes}
 use Rattle.navigator.proofs.FreshHere.{IsGivenAt}
-use Rattle.navigator.proofs.Leading.{at_here, at_other, same_on_the_way, HasScopes, has_scopes, started_place}
-use Rattle.navigator.proofs.Merges.{Merges, merges_same, merges_append, merges_map, merges_flat, merges_one, flat_same, flat_only}
+use Rattle.navigator.proofs.Leading.{at_here, same_on_the_way, HasScopes, has_scopes, started_place}
+use Rattle.navigator.proofs.Merges.{Merges, merges_same, merges_append}
 use Rattle.navigator.proofs.Places.{present, set_read}
-use Rattle.navigator.proofs.RowLists.{started_numbered}
 use Rattle.navigator.proofs.SameActivities.{Named, place_found}
 use Rattle.navigator.proofs.ShownAgain.{IsSameScope, ends_as_before, starts_as_before}
 use Rattle.navigator.proofs.Stepping.{counted_at, IsLocal}
@@ -38,7 +34,7 @@ use Rattle.navigator.specs.declared.scopes.NestedState.{NestedState, out-NestedS
 use Rattle.navigator.specs.declared.scopes.ScopeState.{ScopeState, out-ScopeState}
 use Rattle.view_laws.specs.Coming.{IsOpenAttempt, Leads}
 use Rattle.view_laws.specs.Learning.{with_below, learnt}
-use Rattle.view_laws.specs.Messages.{Note, BeginNote, SignalNote, EndNote, push, due_with, due_at, due_in}
+use Rattle.view_laws.specs.Messages.{Note, push, due_in}
 use Rattle.navigator.proofs.FreshBelow.{below_merges, over_as_before}
 
 -- ---- the scope of the attempt, before and after
@@ -132,6 +128,7 @@ module _ (ts : List Template) (depth : ℕ) (k j : Known) (g : Graph) (input : C
       (subst (λ o. shows_attempt (ShowsWithin ts (suc depth)) K activity.name o attempt.start next) attempt.of
       (has.shown.scopes attempt.number attempt.start next started_then there)))
 
+  -- where the scope around shows what is known before and after, so does the scope of the attempt
   pub inside_of : IsInside ts depth k j q qs change h attempt.start.input
   inside_of = go changed.state changed.inside (shows'.states a activity changed.state attempt.is stands_then)
     where
@@ -149,6 +146,7 @@ module _ (ts : List Template) (depth : ℕ) (k j : Known) (g : Graph) (input : C
         changes = c.changes;
       }
 
+  -- the graph of the attempt
   pub under_is : graph_under ts g (place_of g q.name) ≡ Some attempt.graph
   under_is = rw place (rw attempt.is attempt.of)
 
@@ -179,6 +177,45 @@ both_added : (p : List Part) (last added : List Note)
     → (if is_root p then last else []) ++ map (push_all p) ((if is_root p then [] else last) ++ added) ≡ map (push_all p) (last ++ added)
 both_added [] last added = ap (λ l. last ++ l) (map_nowhere added) ∙ sym (map_nowhere (last ++ added))
 both_added (q ∷ p) last added = refl
+
+-- one step up
+along_more : (ts : List Template) (depth : ℕ) (k j : Known) (g : Graph) (input : Container) (q : Part) (p : List Part) (path : Path) (tells : Told) → Named g → (within : Graph → Container → Type 0)
+    → j.most ≡ k.most → j.given [] ≡ k.given (q ∷ []) → j.closed [] ≡ k.closed (q ∷ []) → (attempt : IsOpenAttempt ts (suc depth) k g input q within)
+    → graph_under ts g (place_of g q.name) ≡ Some attempt.graph → IsGivenAlong ts depth (at q k) j attempt.graph attempt.start.input p path tells
+    → IsGivenAlong ts (suc depth) k (with_below q j k) g input (q ∷ p) path tells
+along_more ts depth k j g input q p path tells named within most given closed attempt under inner = record {
+  graph = inner.graph;
+  along = rw under inner.along;
+  added = inner.added;
+  over = inner.over;
+  due = subst (λ l. Merges (due_in ts (suc depth) k g input) l (due_in ts (suc depth) (with_below q j k) g input)) (map_further q p (end_note inner.over ++ inner.added))
+      (below_merges ts depth k j g input q named within most given closed attempt adds all);
+  own = subst (λ b. Merges (end_note (is_over ts (suc depth) k g input)) [] (end_note b)) (sym (over_as_before ts depth k j g input q named within most given closed attempt adds all))
+      (merges_same (end_note (is_over ts (suc depth) k g input)));
+  signals = inner.signals;
+  begins = inner.begins;
+  none = inner.none;
+  ends = inner.ends;
+}
+  where
+    adds : List Note
+    adds = map (push_all p) (end_note inner.over ++ inner.added)
+
+    both : Merges (end_note (is_over ts depth (at q k) attempt.graph attempt.start.input) ++ due_in ts depth (at q k) attempt.graph attempt.start.input)
+        ((if is_root p then end_note inner.over else []) ++ map (push_all p) ((if is_root p then [] else end_note inner.over) ++ inner.added))
+        (end_note (is_over ts depth j attempt.graph attempt.start.input) ++ due_in ts depth j attempt.graph attempt.start.input)
+    both =
+        merges_append (end_note (is_over ts depth (at q k) attempt.graph attempt.start.input)) (if is_root p then end_note inner.over else []) (end_note (is_over ts depth j attempt.graph attempt.start.input))
+        (due_in ts depth (at q k) attempt.graph attempt.start.input) (map (push_all p) ((if is_root p then [] else end_note inner.over) ++ inner.added))
+        (due_in ts depth j attempt.graph attempt.start.input) inner.own inner.due
+
+    all : Merges (all_notes ts depth (at q k) attempt.graph attempt.start.input) (map (push_all p) (end_note inner.over ++ inner.added)) (all_notes ts depth j attempt.graph attempt.start.input)
+    all = inl (
+      end_note (is_over ts depth (at q k) attempt.graph attempt.start.input) ++ due_in ts depth (at q k) attempt.graph attempt.start.input,
+      refl,
+      subst (λ l. Merges (end_note (is_over ts depth (at q k) attempt.graph attempt.start.input) ++ due_in ts depth (at q k) attempt.graph attempt.start.input) l
+          (end_note (is_over ts depth j attempt.graph attempt.start.input) ++ due_in ts depth j attempt.graph attempt.start.input)) (both_added p (end_note inner.over) inner.added) both,
+    )
 
 learnt_most : (f : Known → Known) → IsLocal f → (p : List Part) (k : Known) → (learnt f p k).most ≡ k.most
 learnt_most f local [] k = local.most k
@@ -222,28 +259,7 @@ path_given ts change fact f path tells local here (q ∷ p) (suc depth) k g inpu
     let inner = path_given ts change fact f path tells local here p depth (at q k) h i scope.before scope.after
     (well.inside leads.place leads.activity leads.is h leads.of) (served.inside leads.place leads.activity h leads.is leads.of) (linked.inside leads.place leads.activity h leads.is leads.of)
     (counted_at q k counted) leads.within scope.shows scope.shows_then scope.changes in
-    let adds : List Note = map (push_all p) (end_note inner.over ++ inner.added) in
-    let both = merges_append (end_note (is_over ts depth (at q k) h i)) (if is_root p then end_note inner.over else []) (end_note (is_over ts depth j h i))
-    (due_in ts depth (at q k) h i) (map (push_all p) ((if is_root p then [] else end_note inner.over) ++ inner.added)) (due_in ts depth j h i) inner.own inner.due in
-    let all : Merges (all_notes ts depth (at q k) h i) adds (all_notes ts depth j h i)
-    = inl (
-      end_note (is_over ts depth (at q k) h i) ++ due_in ts depth (at q k) h i,
-      refl,
-      subst (λ l. Merges (end_note (is_over ts depth (at q k) h i) ++ due_in ts depth (at q k) h i) l (end_note (is_over ts depth j h i) ++ due_in ts depth j h i)) (both_added p (end_note inner.over) inner.added) both,
-    ) in
-    let around = below_merges ts depth k j g input q well.named (λ h i. Leads fact ts depth (at q k) h i p) (learnt_most f local p (at q k)) (learnt_given f local p (at q k)) (learnt_closed f local p (at q k)) leads adds all in
-    let over = over_as_before ts depth k j g input q well.named (λ h i. Leads fact ts depth (at q k) h i p) (learnt_most f local p (at q k)) (learnt_given f local p (at q k)) (learnt_closed f local p (at q k)) leads adds all in
     let under = under_is ts depth k j g input q p s s' change well.named (λ h i. Leads fact ts depth (at q k) h i p) (learnt_most f local p (at q k)) (learnt_given f local p (at q k)) (learnt_closed f local p (at q k))
     leads shows shows' changes in
-    record {
-      graph = inner.graph;
-      along = rw under inner.along;
-      added = inner.added;
-      over = inner.over;
-      due = subst (λ l. Merges (due_in ts (suc depth) k g input) l (due_in ts (suc depth) (with_below q j k) g input)) (map_further q p (end_note inner.over ++ inner.added)) around;
-      own = subst (λ b. Merges (end_note (is_over ts (suc depth) k g input)) [] (end_note b)) (sym over) (merges_same (end_note (is_over ts (suc depth) k g input)));
-      signals = inner.signals;
-      begins = inner.begins;
-      none = inner.none;
-      ends = inner.ends;
-    }
+    along_more ts depth k j g input q p path tells well.named (λ h i. Leads fact ts depth (at q k) h i p) (learnt_most f local p (at q k)) (learnt_given f local p (at q k)) (learnt_closed f local p (at q k))
+    leads under inner

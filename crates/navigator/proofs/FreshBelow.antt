@@ -1,44 +1,27 @@
 -- What came to be due in a scope further in came to be due around it, and nothing else did.
-use Rattle.std.proofs.Common.{◌≡◌, ℕ, zero, suc, ◌+◌, ◌<◌, ◌==◌, Bool, true, false, if◌then◌else◌, List, [], ◌∷◌, ◌++◌, map, length, Option, Some, None, refl, ap, sym, ◌∙◌, subst, arith, inl, inr}
+use Rattle.std.proofs.Common.{◌≡◌, ℕ, suc, ◌+◌, ◌<◌, ◌==◌, if◌then◌else◌, List, [], ◌∷◌, ◌++◌, map, length, Option, Some, None, refl, ap, sym, ◌∙◌, subst, arith, inl, inr}
 use Rattle.std.specs.Prelude.{◌≢◌, slice_get}
 use Rattle.std.specs.List.{flat_map}
 use Rattle.std.proofs.lemmas.Bool.Decides.{eqb_tells}
 use Rattle.std.proofs.lemmas.Option.{slice_get_within}
-use Rattle.fate_laws.specs.StartedScopes.{ScopeFact}
-use Rattle.fate_laws.specs.WellFormed.{Well}
 use Rattle.flow_model.specs.Fates.{Ends}
-use Rattle.flow_model.specs.ScopeContainers.{graph_in, up_to, output_by}
-use Rattle.flow_model.specs.Scopes.{Known, at, part, Runs, Start, fate_given, attempts, started_at, output, tree_ends}
+use Rattle.flow_model.specs.ScopeContainers.{graph_in, up_to}
+use Rattle.flow_model.specs.Scopes.{Known, at, part, Runs, Start, started_at, output, tree_ends}
 use Rattle.flow_model.specs.declared.graphs.Activity.{Activity}
 use Rattle.flow_model.specs.declared.graphs.Container.{Container}
 use Rattle.flow_model.specs.declared.graphs.Graph.{Graph, out-Graph}
 use Rattle.flow_model.specs.declared.graphs.Template.{Template}
 use Rattle.flow_model.specs.declared.instances.Part.{Part}
-use Rattle.flow_model.specs.declared.instances.Path.{Path}
 use Rattle.navigator.proofs.Completing.{parts_apart}
-use Rattle.navigator.proofs.DueParts.{due_place, own_notes, due_by, due_start, end_note, is_over, all_notes, due_pushed}
-use Rattle.navigator.proofs.FreshHere.{IsGivenAt}
-use Rattle.navigator.proofs.Leading.{at_here, at_other, same_on_the_way, HasScopes, has_scopes, started_place}
+use Rattle.navigator.proofs.DueParts.{due_place, own_notes, due_by, due_start, is_over, all_notes, due_pushed}
+use Rattle.navigator.proofs.Leading.{at_here, at_other, same_on_the_way}
 use Rattle.navigator.proofs.Merges.{Merges, merges_same, merges_append, merges_map, merges_flat, merges_one, flat_same, flat_only}
-use Rattle.navigator.proofs.Places.{present}
 use Rattle.navigator.proofs.RowLists.{started_numbered}
-use Rattle.navigator.proofs.SameActivities.{Named, place_found}
+use Rattle.navigator.proofs.SameActivities.{Named}
 use Rattle.navigator.proofs.ShownAgain.{IsSameScope, ends_as_before, starts_as_before}
-use Rattle.navigator.proofs.Stepping.{counted_at, IsLocal}
-use Rattle.navigator.proofs.ToldNotes.{AreTold, push_all, kind_only}
-use Rattle.navigator.specs.Events.{ScopeChange, ChangesState, ChangesInside, ChangesAt}
-use Rattle.navigator.specs.Giving.{Linked}
-use Rattle.navigator.specs.Reading.{place_of, attempt_place}
-use Rattle.navigator.specs.Serving.{Served}
-use Rattle.navigator.specs.Showing.{IsCounted, graph_under, graph_along}
-use Rattle.navigator.specs.Steps.{Told, fields, is_root}
-use Rattle.navigator.specs.Views.{ShowsWithin, shows_attempt, Shows}
-use Rattle.navigator.specs.declared.scopes.ActivityState.{ActivityState, Program, Nested}
-use Rattle.navigator.specs.declared.scopes.NestedState.{NestedState, out-NestedState}
-use Rattle.navigator.specs.declared.scopes.ScopeState.{ScopeState, out-ScopeState}
-use Rattle.view_laws.specs.Coming.{IsOpenAttempt, Leads}
-use Rattle.view_laws.specs.Learning.{with_below, learnt}
-use Rattle.view_laws.specs.Messages.{Note, BeginNote, SignalNote, EndNote, push, due_with, due_at, due_in}
+use Rattle.view_laws.specs.Coming.{IsOpenAttempt}
+use Rattle.view_laws.specs.Learning.{with_below}
+use Rattle.view_laws.specs.Messages.{Note, push, due_with, due_at, due_in}
 
 -- ---- one step up
 

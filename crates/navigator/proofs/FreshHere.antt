@@ -1,14 +1,12 @@
 -- What came to be due in the scope of an event is what the event told, read from the states before and after it.
-use Rattle.std.proofs.Common.{◌≡◌, ℕ, zero, suc, ◌+◌, ◌-◌, ◌≤◌, ◌<◌, ◌==◌, Bool, true, false, ◌&&◌, if◌then◌else◌, List, [], ◌∷◌, ◌++◌, map, length, Option, Some, None, ◌⊎◌, refl, ap, sym, ◌∙◌, subst, arith, inl, inr}
-use Rattle.std.specs.Prelude.{not, slice_get, slice_set}
+use Rattle.std.proofs.Common.{◌≡◌, ℕ, zero, suc, ◌+◌, ◌≤◌, ◌<◌, ◌==◌, Bool, true, false, ◌&&◌, if◌then◌else◌, List, [], ◌∷◌, ◌++◌, length, Option, Some, None, ◌⊎◌, refl, ap, sym, ◌∙◌, subst, arith, inl, inr}
+use Rattle.std.specs.Prelude.{slice_get}
 use Rattle.std.specs.List.{flat_map, list_all}
-use Rattle.std.proofs.Math.Path.{fun_ext}
 use Rattle.std.proofs.lemmas.Bool.Decides.{eqb_tells}
-use Rattle.blocks_subprocs.specs.Ends.{ends_of}
 use Rattle.dead_paths.proofs.Places.{here}
 use Rattle.flow_model.specs.Fates.{Ends, is_settled}
 use Rattle.flow_model.specs.ScopeContainers.{graph_in, up_to, is_complete, output_by}
-use Rattle.flow_model.specs.Scopes.{Known, at, part, Runs, Start, output, tree_ends, started_at}
+use Rattle.flow_model.specs.Scopes.{Known, at, part, Start, output, tree_ends, started_at}
 use Rattle.flow_model.specs.declared.graphs.Activity.{Activity}
 use Rattle.flow_model.specs.declared.graphs.Container.{Container}
 use Rattle.flow_model.specs.declared.graphs.Graph.{Graph, out-Graph}
@@ -26,9 +24,8 @@ use Rattle.navigator.specs.Serving.{Served}
 use Rattle.navigator.specs.Steps.{Told, is_root}
 use Rattle.navigator.specs.Views.{ShowsWithin, shows_attempt, ShowsActivity, Shows}
 use Rattle.navigator.specs.declared.scopes.ActivityState.{ActivityState}
-use Rattle.navigator.specs.declared.scopes.NestedState.{NestedState, out-NestedState}
 use Rattle.navigator.specs.declared.scopes.ScopeState.{ScopeState, out-ScopeState}
-use Rattle.view_laws.specs.Messages.{Note, BeginNote, SignalNote, EndNote, is_given, due_with, due_at, due_in}
+use Rattle.view_laws.specs.Messages.{Note, BeginNote, is_given, due_with, due_at, due_in}
 
 -- ---- what an event gives, from the scope that receives it
 

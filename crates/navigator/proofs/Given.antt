@@ -1,5 +1,5 @@
 -- A message that may come, or an item that may be completed, gives the messages that came to be due by it.
-use Rattle.std.proofs.Common.{◌≡◌, ℕ, zero, suc, ◌+◌, ◌≤◌, ◌==◌, Bool, true, false, if◌then◌else◌, List, [], ◌∷◌, ◌++◌, map, length, Option, Some, None, refl, ap, sym, ◌∙◌, subst, arith, append-nil}
+use Rattle.std.proofs.Common.{◌≡◌, ℕ, zero, suc, ◌==◌, Bool, true, false, if◌then◌else◌, List, [], ◌∷◌, ◌++◌, map, Option, Some, None, refl, ap, sym, ◌∙◌, subst, arith, append-nil}
 use Rattle.std.specs.Prelude.{not}
 use Rattle.std.specs.List.{filter}
 use Rattle.std.proofs.lemmas.List.{map-append}
@@ -13,7 +13,6 @@ use Rattle.flow_model.specs.declared.instances.Message.{Message}
 use Rattle.flow_model.specs.declared.instances.Message.TheVariants.{Begin, Signal, End}
 use Rattle.flow_model.specs.declared.instances.Part.{Part}
 use Rattle.flow_model.specs.declared.instances.Path.{Path}
-use Rattle.flow_model.specs.declared.names.Name.{Name}
 use Rattle.navigator.proofs.BeginGiven.{begin_given}
 use Rattle.navigator.proofs.CompleteGiven.{IsReadyAt, complete_given}
 use Rattle.navigator.proofs.DueParts.{end_note}
@@ -25,9 +24,9 @@ use Rattle.navigator.proofs.MoreLooked.{most_shows}
 use Rattle.navigator.proofs.SignalGiven.{signal_given}
 use Rattle.navigator.proofs.Stepping.{IsLocal, leads_along, counted_covers, counted_most}
 use Rattle.navigator.proofs.TakesShown.{taken_shown, completed_shown}
-use Rattle.navigator.proofs.ToldNotes.{AreTold, told_append, push_all, told_notes, kind_only, kind_append, kind_along}
+use Rattle.navigator.proofs.ToldNotes.{told_append, push_all, told_notes, kind_only, kind_append, kind_along}
 use Rattle.navigator.specs.Events.{Begins, Signals, Ends as EndsOf, Completes, IsUsable, Receives, Happens, Takes, nothing}
-use Rattle.navigator.specs.Giving.{Linked, messages_of, GivesDue, GivesTaken, GivesCompleted}
+use Rattle.navigator.specs.Giving.{Linked, root_engine, GivesDue, GivesTaken, GivesCompleted}
 use Rattle.navigator.specs.Reading.{place_of}
 use Rattle.navigator.specs.Serving.{Served}
 use Rattle.navigator.specs.Showing.{graph_along, signal_between, signal_in, note_in, IsCounted}
@@ -40,7 +39,7 @@ use Rattle.view_laws.specs.Coming.{MayBegin, MaySignal, MayEnd, Leads, Comes}
 use Rattle.view_laws.specs.Learning.{with_begin, with_signal, with_end, with_output, with_below, learnt, with_most}
 use Rattle.view_laws.specs.Messages.{Note, BeginNote, SignalNote, EndNote, due_in}
 use Rattle.view_laws.specs.Queues.{Engine, has, by_kind}
-use Rattle.view_laws.specs.Runs.{Root, Event, engine}
+use Rattle.view_laws.specs.Runs.{Root, Event}
 
 usable_of : (ts : List Template) (depth : ℕ) (g : Graph) → Served ts depth g → IsUsable g
 usable_of ts zero g served = served.usable
@@ -71,7 +70,7 @@ given_root : (ts : List Template) (depth : ℕ) (k k' : Known) (g : Graph) (inpu
 given_root ts depth k k' g input path tells given well is messages = λ queue_of.
     let p = path.parts in
     let r : Root = record { templates = ts; depth = depth; graph = g; input = input } in
-    let x : Engine Note Event = messages_of ts depth g input queue_of in
+    let x : Engine Note Event = root_engine ts depth g input queue_of in
     let last : List Note = if is_root p then [] else end_note is.over in
     let came : filter (λ m. not (has x (due_in ts depth k g input) m)) (due_in ts depth k' g input) ≡ map (push_all p) (last ++ is.added)
     = merges_new x itself one (due_in ts depth k g input) (map (push_all p) (last ++ is.added)) (due_in ts depth k' g input) is.due (λ m. due_once r queue_of ts depth k' g input well m) in
@@ -204,5 +203,5 @@ completed_given ts clock root item c g s s' given items happening = λ depth k k
     (subst (λ j. IsGivenAlong ts depth (with_most most k) j g input around scope happens.tells) then_known along) happens.messages in
     λ queue_of.
     gives queue_of
-    ∙ ap (λ old. map Some (by_kind (messages_of ts depth g input queue_of) (filter (λ m. not (has (messages_of ts depth g input queue_of) old m)) (due_in ts depth k' g input))))
+    ∙ ap (λ old. map Some (by_kind (root_engine ts depth g input queue_of) (filter (λ m. not (has (root_engine ts depth g input queue_of) old m)) (due_in ts depth k' g input))))
     (due_most ts depth k most counted.items g input well (counted_covers k counted) enough (omega arith))

@@ -37,3 +37,4 @@ pub mod SignalGiven
 pub mod BeginGiven
 pub mod MoreDueLooked
 pub mod Given
+pub mod PutGiven

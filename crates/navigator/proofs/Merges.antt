@@ -1,11 +1,11 @@
 -- Lists that are made of an old list and of what was added to it, each in its order.
-use Rattle.std.proofs.Common.{◌≡◌, ◌≢◌, ℕ, zero, suc, ◌+◌, ◌≤◌, ◌<◌, Bool, true, false, if◌then◌else◌, List, [], ◌∷◌, ◌++◌, map, Option, Some, None, ◌⊎◌, refl, ap, sym, ◌∙◌, subst, arith, inl, inr}
+use Rattle.std.proofs.Common.{◌≡◌, ◌≢◌, ℕ, zero, suc, ◌+◌, ◌≤◌, ◌<◌, Bool, true, false, List, [], ◌∷◌, ◌++◌, map, Some, None, ◌⊎◌, refl, ap, sym, ◌∙◌, subst, arith, inl, inr}
 use Rattle.std.specs.Prelude.{not, slice_get}
 use Rattle.std.specs.List.{filter, flat_map}
 use Rattle.std.proofs.Math.Arith.{lt_of_le-ne}
 use Rattle.std.proofs.lemmas.Bool.Decides.{eqb_tells}
 use Rattle.flow_model.specs.ScopeContainers.{up_to}
-use Rattle.view_laws.proofs.Counting.{has_times, times_has, has_none}
+use Rattle.view_laws.proofs.Counting.{has_times, times_has}
 use Rattle.view_laws.specs.Queues.{Engine, has, times}
 
 -- the third list is made of the first and of what was added
@@ -23,11 +23,13 @@ pub merges_all : {X : Type 0} (xs : List X) → Merges [] xs xs
 merges_all [] = (refl, refl)
 merges_all (x ∷ xs) = inr (xs, refl, merges_all xs)
 
+-- one list behind the other
 pub merges_append : {X : Type 0} (olds adds ns olds' adds' ns' : List X) → Merges olds adds ns → Merges olds' adds' ns' → Merges (olds ++ olds') (adds ++ adds') (ns ++ ns')
 merges_append olds adds [] olds' adds' ns' m m' = rw (m.0, m.1) m'
 merges_append olds adds (n ∷ ns) olds' adds' ns' (inl m) m' = inl (m.0 ++ olds', ap (λ l. l ++ olds') m.1, merges_append m.0 adds ns olds' adds' ns' m.2 m')
 merges_append olds adds (n ∷ ns) olds' adds' ns' (inr m) m' = inr (m.0 ++ adds', ap (λ l. l ++ adds') m.1, merges_append olds m.0 ns olds' adds' ns' m.2 m')
 
+-- of each element something else
 pub merges_map : {X Y : Type 0} (f : X → Y) (olds adds ns : List X) → Merges olds adds ns → Merges (map f olds) (map f adds) (map f ns)
 merges_map f olds adds [] m = (ap (map f) m.0, ap (map f) m.1)
 merges_map f olds adds (n ∷ ns) (inl m) = inl (map f m.0, ap (map f) m.1, merges_map f m.0 adds ns m.2)
@@ -42,6 +44,7 @@ merges_flat F adds F' (suc n) j each =
     (each j (omega arith) (omega arith))
     (merges_flat F adds F' n (j + 1) (λ a low high. each a (omega arith) (omega arith)))
 
+-- the same of each element
 pub flat_same : {X S : Type 0} (F F' : S → List X) (ss : List S) → ((c : ℕ) (s : S) → slice_get ss c ≡ Some s → F' s ≡ F s) → flat_map F' ss ≡ flat_map F ss
 flat_same F F' [] same = refl
 flat_same F F' (s ∷ ss) same = let here = same 0 s refl in let rest = flat_same F F' ss (λ c t at. same (suc c) t at) in ap (λ l. l ++ flat_map F' ss) here ∙ ap (λ l. F s ++ l) rest
@@ -70,12 +73,14 @@ merges_one F F' adds (x ∷ ss) (suc i) s at same m =
 
 -- ---- places of which one has something
 
+-- nothing at any place
 pub flat_nothing : {X : Type 0} (F : ℕ → List X) (n j : ℕ) → ((a : ℕ) → j ≤ a → a < n + j → F a ≡ []) → flat_map F (up_to n j) ≡ []
 flat_nothing F zero j none = refl
 flat_nothing F (suc n) j none =
     let here = none j (omega arith) (omega arith) in
     ap (λ l. l ++ flat_map F (up_to n (j + 1))) here ∙ flat_nothing F n (j + 1) (λ a low high. none a (omega arith) (omega arith))
 
+-- something at one place alone
 pub flat_only : {X : Type 0} (F : ℕ → List X) (b n j : ℕ) → ((a : ℕ) → (a ≡ b → ⊥) → F a ≡ []) → j ≤ b → b < n + j → flat_map F (up_to n j) ≡ F b
 flat_only F b zero j none low high = absurd (omega arith)
 flat_only F b (suc n) j none low high = elim (eqb_tells j b) [

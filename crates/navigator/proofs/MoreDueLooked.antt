@@ -1,5 +1,5 @@
 -- Where more attempts are looked at, the same is due, and an item that may be completed is still ready.
-use Rattle.std.proofs.Common.{◌≡◌, ℕ, zero, suc, ◌+◌, ◌≤◌, ◌<◌, Bool, true, false, ◌&&◌, if◌then◌else◌, List, [], ◌∷◌, ◌++◌, map, length, Option, Some, None, refl, ap, sym, ◌∙◌, arith}
+use Rattle.std.proofs.Common.{◌≡◌, ℕ, zero, suc, ◌≤◌, List, [], ◌∷◌, ◌++◌, length, Option, Some, None, refl, ap, ◌∙◌, arith}
 use Rattle.std.specs.Prelude.{slice_get}
 use Rattle.std.specs.List.{flat_map}
 use Rattle.fate_laws.proofs.ItemsBelow.{Covers, strip, covers_at, strip_at_most}
@@ -18,7 +18,7 @@ use Rattle.navigator.proofs.Merges.{flat_same}
 use Rattle.navigator.proofs.MoreLooked.{most_output, IsSameView, same_view}
 use Rattle.navigator.proofs.Stepping.{counted_covers, counted_at}
 use Rattle.navigator.specs.Showing.{IsCounted}
-use Rattle.view_laws.specs.Coming.{started_in, MayComplete, IsOpenAttempt, Leads}
+use Rattle.view_laws.specs.Coming.{started_in, MayComplete, Leads}
 use Rattle.view_laws.specs.Learning.{with_most}
 use Rattle.view_laws.specs.Messages.{Note, due_with, due_at, due_in}
 

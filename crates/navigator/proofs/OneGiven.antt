@@ -1,7 +1,6 @@
 -- What an event gives that settles one activity, begins its next scope, or changes only what it shows by itself.
-use Rattle.std.proofs.Common.{◌≡◌, ℕ, zero, suc, ◌+◌, ◌-◌, ◌<◌, ◌==◌, Bool, true, false, if◌then◌else◌, List, [], ◌∷◌, ◌++◌, length, Option, Some, None, refl, ap, sym, ◌∙◌, subst, arith, inl, inr}
+use Rattle.std.proofs.Common.{◌≡◌, ℕ, ◌+◌, ◌-◌, ◌==◌, Bool, true, false, if◌then◌else◌, List, [], ◌∷◌, ◌++◌, length, Option, Some, None, refl, ap, sym, ◌∙◌, subst, inl, inr}
 use Rattle.std.specs.Prelude.{slice_get, slice_set}
-use Rattle.std.proofs.lemmas.Bool.Decides.{eqb_tells}
 use Rattle.fate_laws.specs.WellFormed.{Well}
 use Rattle.flow_model.specs.Rows.{below}
 use Rattle.flow_model.specs.ScopeContainers.{graph_in}
@@ -16,7 +15,7 @@ use Rattle.flow_model.specs.declared.instances.Path.{Path}
 use Rattle.flow_model.specs.declared.instances.SourceEnd.{SourceEnd}
 use Rattle.flow_model.specs.declared.instances.SourceEnd.TheVariants.{Unsettled}
 use Rattle.navigator.proofs.DueParts.{scopes_in}
-use Rattle.navigator.proofs.FreshHere.{IsGivenAt, begin_notes, Grown}
+use Rattle.navigator.proofs.FreshHere.{IsGivenAt, Grown}
 use Rattle.navigator.proofs.SettledHere.{grown_one, opens_given, settles_given}
 use Rattle.navigator.proofs.ShownAgain.{IsSameInside}
 use Rattle.navigator.proofs.ToldNotes.{AreTold, none_told}

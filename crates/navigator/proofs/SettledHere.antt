@@ -1,5 +1,5 @@
 -- What an event gives that changes one activity of a scope: it is settled, or one more of its attempts begins.
-use Rattle.std.proofs.Common.{◌≡◌, ℕ, zero, suc, ◌+◌, ◌-◌, ◌<◌, ◌==◌, Bool, true, false, ◌&&◌, if◌then◌else◌, List, [], ◌∷◌, ◌++◌, length, Option, Some, None, refl, ap, sym, ◌∙◌, subst, arith, inl, inr, append-nil}
+use Rattle.std.proofs.Common.{◌≡◌, ℕ, zero, suc, ◌-◌, ◌<◌, ◌==◌, Bool, true, false, ◌&&◌, if◌then◌else◌, List, [], ◌∷◌, length, Option, Some, None, refl, ap, sym, ◌∙◌, subst, arith, inl, inr, append-nil}
 use Rattle.std.specs.Prelude.{not, slice_get, slice_set, unwrap_or}
 use Rattle.std.specs.List.{flat_map}
 use Rattle.std.proofs.Math.Path.{fun_ext}
@@ -9,7 +9,7 @@ use Rattle.blocks_subprocs.specs.Ends.{ends_of}
 use Rattle.dead_paths.specs.Signals.{signals}
 use Rattle.flow_model.specs.Fates.{Ends, is_settled}
 use Rattle.flow_model.specs.ScopeContainers.{up_to}
-use Rattle.flow_model.specs.Scopes.{Known, at, output, tree_ends}
+use Rattle.flow_model.specs.Scopes.{Known, at, tree_ends}
 use Rattle.flow_model.specs.declared.graphs.Activity.{Activity}
 use Rattle.flow_model.specs.declared.graphs.Container.{Container}
 use Rattle.flow_model.specs.declared.graphs.Control.{Control}
@@ -36,7 +36,7 @@ use Rattle.navigator.specs.Views.{Shows}
 use Rattle.navigator.specs.declared.scopes.ActivityState.{ActivityState}
 use Rattle.navigator.specs.declared.scopes.ScopeState.{ScopeState, out-ScopeState}
 use Rattle.fate_laws.specs.WellFormed.{Well}
-use Rattle.view_laws.specs.Messages.{Note, EndNote}
+use Rattle.view_laws.specs.Messages.{EndNote}
 
 -- ---- lists of states and ends
 
@@ -68,6 +68,7 @@ set_ends es a now x less = elim (eqb_tells x a) [
   | inr other ↦ rw other.0 (ap (λ o. unwrap_or o Unsettled) (set_other es a x now other.1))
 ]
 
+-- connectors lead to activities, at any depth
 pub targets_of : (ts : List Template) (depth : ℕ) (g : Graph) → Linked ts depth g → (i : ℕ) (c : Control) → slice_get (out-Graph g).controls i ≡ Some c → c.to < length (out-Graph g).activities
 targets_of ts zero g linked = linked.targets
 targets_of ts (suc depth) g linked = linked.targets

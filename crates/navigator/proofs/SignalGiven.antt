@@ -1,13 +1,13 @@
 -- What a SIGNAL gives.
-use Rattle.std.proofs.Common.{◌≡◌, ℕ, zero, suc, ◌+◌, ◌-◌, ◌<◌, Bool, true, false, if◌then◌else◌, List, [], ◌∷◌, ◌++◌, length, Option, Some, None, refl, ap, sym, ◌∙◌, subst, arith, inl, inr}
-use Rattle.std.specs.Prelude.{slice_get, slice_set, is_none}
+use Rattle.std.proofs.Common.{◌≡◌, ℕ, ◌<◌, Bool, true, false, List, [], ◌∷◌, ◌++◌, length, Option, Some, None, refl, ap, ◌∙◌, subst, arith}
+use Rattle.std.specs.Prelude.{slice_get, is_none}
 use Rattle.std.specs.List.{list_any}
-use Rattle.activity_states.specs.States.{State, made_ready}
+use Rattle.activity_states.specs.States.{made_ready}
 use Rattle.blocks_subprocs.specs.Ends.{ends_of}
 use Rattle.dead_paths.specs.Tallies.{Counts}
 use Rattle.dead_paths.specs.declared.joins.Tally.{Tally}
 use Rattle.fate_laws.specs.WellFormed.{Well}
-use Rattle.flow_model.specs.Fates.{Ends, joined, fate_by, ended}
+use Rattle.flow_model.specs.Fates.{Ends, joined, ended}
 use Rattle.flow_model.specs.ScopeContainers.{base_of, graph_in}
 use Rattle.flow_model.specs.Scopes.{Known, at, values_at, attempts, fate_given, output, tree_ends}
 use Rattle.flow_model.specs.declared.graphs.Activity.{Activity}
@@ -32,7 +32,7 @@ use Rattle.navigator.specs.Events.{nothing, Receives, Signals}
 use Rattle.navigator.specs.Giving.{Linked}
 use Rattle.navigator.specs.Reading.{place_of}
 use Rattle.navigator.specs.Serving.{Served}
-use Rattle.navigator.specs.Steps.{Told, Fields, fields, with_state, changed_at, settled, at_stage, dead_state, Begins, Opens, Decides, TakesSignal}
+use Rattle.navigator.specs.Steps.{Told, Fields, fields, changed_at, settled, at_stage, dead_state, Begins, Opens, Decides, TakesSignal}
 use Rattle.navigator.specs.Views.{Shows}
 use Rattle.navigator.specs.declared.scopes.ActivityState.{ActivityState, Program, Nested}
 use Rattle.navigator.specs.declared.scopes.NestedStage.TheVariants as stages

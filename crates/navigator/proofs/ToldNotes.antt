@@ -1,9 +1,9 @@
 -- Messages that are told in a scope, against the notes of it: SIGNALs of an activity that has ended, BEGINs and ENDs.
-use Rattle.std.proofs.Common.{◌≡◌, ℕ, zero, suc, ◌+◌, ◌<◌, ◌==◌, Bool, true, false, if◌then◌else◌, List, [], ◌∷◌, ◌++◌, map, length, Option, Some, None, refl, ap, sym, ◌∙◌, subst, arith, inl, inr}
+use Rattle.std.proofs.Common.{◌≡◌, ℕ, suc, ◌<◌, ◌==◌, Bool, true, false, if◌then◌else◌, List, [], ◌∷◌, ◌++◌, map, length, Option, Some, None, refl, ap, sym, ◌∙◌, inl, inr}
 use Rattle.std.specs.Prelude.{slice_get, filter_map}
 use Rattle.std.specs.List.{filter}
 use Rattle.std.proofs.lemmas.Bool.Decides.{eqb_tells}
-use Rattle.dead_paths.specs.Signals.{signal, signal_of, signals}
+use Rattle.dead_paths.specs.Signals.{signal_of, signals}
 use Rattle.flow_model.specs.Fates.{Ends, connector_value}
 use Rattle.flow_model.specs.declared.graphs.Activity.{Activity}
 use Rattle.flow_model.specs.declared.graphs.Control.{Control}
@@ -37,9 +37,11 @@ abbrev pub AreTold : Graph → Path → List Message → List Note → Type 0
 AreTold g path [] ns = ns ≡ []
 AreTold g path (m ∷ ms) ns = (n : Note) × (rest : List Note) × (ns ≡ n ∷ rest) × IsTold g path m n × AreTold g path ms rest
 
+-- no message is told
 pub none_told : (g : Graph) (path : Path) (ms : List Message) → ms ≡ [] → AreTold g path ms []
 none_told g path ms is = rw is refl
 
+-- messages behind others
 pub told_append : (g : Graph) (path : Path) (ms : List Message) (ns : List Note) (ms' : List Message) (ns' : List Note) → AreTold g path ms ns → AreTold g path ms' ns'
     → AreTold g path (ms ++ ms') (ns ++ ns')
 told_append g path [] ns ms' ns' is is' = rw is is'
@@ -84,6 +86,7 @@ told_notes ts g h path (m ∷ ms) ns along is =
 abbrev pub kind_only : ℕ → List Note → List Note
 kind_only n ms = filter (λ m. kind m == n) ms
 
+-- the notes of a kind in two lists
 pub kind_append : (n : ℕ) (ms ns : List Note) → kind_only n (ms ++ ns) ≡ kind_only n ms ++ kind_only n ns
 kind_append n [] ns = refl
 kind_append n (m ∷ ms) ns = go (kind m == n) refl (kind_append n ms ns)
@@ -101,6 +104,7 @@ kind_pushed (q ∷ p) m = one (push_all p m) ∙ kind_pushed p m
     one (SignalNote r a b v) = refl
     one (EndNote r) = refl
 
+-- the kind of a note doesn't depend on where its path begins
 pub kind_along : (n : ℕ) (p : List Part) (ms : List Note) → kind_only n (map (push_all p) ms) ≡ map (push_all p) (kind_only n ms)
 kind_along n p [] = refl
 kind_along n p (m ∷ ms) = go (kind m == n) refl (kind_along n p ms)
@@ -133,6 +137,7 @@ notes_merge controls (c ∷ cs) e a now was =
       | inr other ↦ rw other.0 (merges_same (note_of c (connector_value controls c (e c.from))))
     ]
 
+-- they are SIGNALs
 pub sent_kinds : (controls cs : List Control) (a : ℕ) (now : SourceEnd) → (n : ℕ) → kind_only n (sent_notes controls cs a now) ≡ (if 0 == n then sent_notes controls cs a now else [])
 sent_kinds controls [] a now n = go [] (0 == n)
   where

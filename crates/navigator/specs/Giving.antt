@@ -17,7 +17,7 @@ use Rattle.navigator.specs.Views.{Shows}
 use Rattle.navigator.specs.declared.scopes.ScopeState.{ScopeState}
 use Rattle.view_laws.specs.Coming.{Comes, ComesOutput}
 use Rattle.view_laws.specs.Messages.{Note, due_in}
-use Rattle.view_laws.specs.Queues.{Engine, has, by_kind}
+use Rattle.view_laws.specs.Queues.{Engine, has, by_kind, put}
 use Rattle.view_laws.specs.Runs.{Root, Event, engine}
 
 -- ---- connectors lead to activities
@@ -35,8 +35,8 @@ Linked ts (suc depth) g = IsLinked ts g (Linked ts depth)
 -- ---- what came to be due
 
 -- the messages of a root, in queues by any rule
-abbrev pub messages_of : List Template → ℕ → Graph → Container → (Note → ℕ) → Engine Note Event
-messages_of ts depth g input queue_of = engine (record { templates = ts; depth = depth; graph = g; input = input }) queue_of
+abbrev pub root_engine : List Template → ℕ → Graph → Container → (Note → ℕ) → Engine Note Event
+root_engine ts depth g input queue_of = engine (record { templates = ts; depth = depth; graph = g; input = input }) queue_of
 
 -- what is due by what is known then, and wasn't by what was known before
 abbrev pub came_due : Engine Note Event → List Template → ℕ → Graph → Container → Known → Known → List Note
@@ -47,7 +47,7 @@ abbrev pub GivesDue : List Template → ℕ → Graph → Container → Known �
 GivesDue ts depth g input k k' given =
     (queue_of : Note → ℕ)
     → map (note_in ts g) given
-    ≡ map Some (by_kind (messages_of ts depth g input queue_of) (came_due (messages_of ts depth g input queue_of) ts depth g input k k'))
+    ≡ map Some (by_kind (root_engine ts depth g input queue_of) (came_due (root_engine ts depth g input queue_of) ts depth g input k k'))
 
 -- ---- what an event gives
 
@@ -65,3 +65,9 @@ GivesTaken ts g message s given =
 -- an item that may be completed is
 abbrev pub GivesCompleted : List Template → Graph → List Part → Container → ScopeState → List Message → Type 0
 GivesCompleted ts g item out s given = GivesWhatCame (λ depth k input k'. ComesOutput ts depth k g input item out k') ts g s given
+
+-- ---- in a run
+
+-- what the next event of the run of a root gives is what it puts
+abbrev pub GivesPut : Root → List Event → Event → List Message → Type 0
+GivesPut r h e given = (queue_of : Note → ℕ) → map (note_in r.templates r.graph) given ≡ map Some (put (engine r queue_of) e h)
