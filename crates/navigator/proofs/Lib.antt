@@ -15,6 +15,16 @@ pub mod OneActivity
 pub mod Completing
 pub mod EndedScopes
 pub mod Ending
+pub mod Merges
+pub mod DueParts
+pub mod ToldNotes
+pub mod FreshHere
+pub mod FreshBelow
+pub mod FreshAlong
+pub mod SettledHere
+pub mod CompleteGiven
+pub mod OneGiven
+pub mod EndGiven
 pub mod Held
 pub mod Replaced
 pub mod Opened
@@ -24,3 +34,8 @@ pub mod Signalled
 pub mod Begun
 pub mod TakesShown
 pub mod ShownResults
+pub mod SignalGiven
+pub mod BeginGiven
+pub mod MoreDueLooked
+pub mod Given
+pub mod PutGiven

@@ -8,3 +8,4 @@ pub mod ViewRows
 pub mod Events
 pub mod Serving
 pub mod Showing
+pub mod Giving
