@@ -27,7 +27,7 @@ use Rattle.navigator.proofs.SettledHere.{grown_one, opens_given, settles_given}
 use Rattle.navigator.proofs.ShownAgain.{IsSameInside}
 use Rattle.navigator.proofs.ToldNotes.{none_told}
 use Rattle.navigator.specs.Events.{Receives, Completes as Completion}
-use Rattle.navigator.specs.Giving.{Linked}
+use Rattle.view_laws.specs.NextEvents.{Aimed}
 use Rattle.navigator.specs.Reading.{place_of}
 use Rattle.navigator.specs.Serving.{Served}
 use Rattle.navigator.specs.Steps.{Told, Fields, fields, CompletesBy}
@@ -61,7 +61,7 @@ same_completed : (q : Part) (out : Container) (k : Known) (r : Part) → IsSameI
 same_completed q out k r = record { most = refl; begun = refl; sent = refl; below = λ p. refl }
 
 module _ (ts : List Template) (depth : ℕ) (k : Known) (g : Graph) (input : Container) (s s' : ScopeState) (path : Path) (clock : ℕ) (tells : Told) (q : Part) (by : Completed)
-    (well : Well ts depth g) (served : Served ts depth g) (linked : Linked ts depth g) (may : IsReadyAt ts depth k g input q)
+    (well : Well ts depth g) (served : Served ts depth g) (aimed : Aimed ts depth g) (may : IsReadyAt ts depth k g input q)
     (shows : Shows ts depth k g input s) (shows_then : Shows ts depth (with_output q by.output k) g input s') (receives : Receives ts path clock (Completion q.name by) nothing tells g s s') where
   abbrev k' : Known
   k' = with_output q by.output k
@@ -100,12 +100,12 @@ module _ (ts : List Template) (depth : ℕ) (k : Known) (g : Graph) (input : Con
 
   completes_given : (b : Bool) → CompletesBy b g path clock place may.activity program_before.0 by (fields s) (fields s') nothing tells → IsGivenAt ts depth k k' g input path tells
   completes_given true is =
-      settles_given ts depth k k' g input s s' path tells well served linked shows shows_then (same_completed q by.output k) place may.activity may.is None
+      settles_given ts depth k k' g input s s' path tells well served aimed shows shows_then (same_completed q by.output k) place may.activity may.is None
       (ap (λ (f : Fields). f.begun) is.0) (grown (completed program_before.0 by true clock) (ap (λ (f : Fields). f.states) is.0)) (none_told g path tells.begins (ap (λ (t : Told). t.begins) is.1))
       (end.Finished by.output) was (ap (λ (f : Fields). f.begun) is.0 ∙ shows.begun ∙ may.begun) (ap (λ (f : Fields). f.ends) is.0) (ap (λ (f : Fields). f.unsettled) is.0)
       (ap (λ (t : Told). t.signals) is.1) (ap (λ (t : Told). t.ends) is.1)
   completes_given false is =
-      opens_given ts depth k k' g input s s' path tells well served linked shows shows_then (same_completed q by.output k) place may.activity may.is None
+      opens_given ts depth k k' g input s s' path tells well served aimed shows shows_then (same_completed q by.output k) place may.activity may.is None
       (ap (λ (f : Fields). f.begun) is.0) (grown (completed program_before.0 by false clock) (ap (λ (f : Fields). f.states) is.0)) (none_told g path tells.begins (ap (λ (t : Told). t.begins) is.1))
       (ap (λ (f : Fields). f.ends) is.0) (ap (λ (f : Fields). f.unsettled) is.0) (ap (λ (t : Told). t.signals) is.1) (ap (λ (t : Told). t.ends) is.1)
 

@@ -30,7 +30,7 @@ use Rattle.navigator.proofs.RowLists.{started_numbered}
 use Rattle.navigator.proofs.SameActivities.{step_is, named_of, place_found}
 use Rattle.navigator.proofs.ShownAgain.{IsSameInside}
 use Rattle.navigator.specs.Events.{nothing, Receives, Ends as Ending}
-use Rattle.navigator.specs.Giving.{Linked}
+use Rattle.view_laws.specs.NextEvents.{Aimed}
 use Rattle.navigator.specs.Reading.{place_of, inner_of}
 use Rattle.navigator.specs.Serving.{Served}
 use Rattle.navigator.specs.Steps.{Told, fields, changed_at, settled, EndsBy, given_by, finished_state, at_stage}
@@ -94,7 +94,7 @@ same_ended : (q : Part) (k : Known) (r : Part) → IsSameInside (at r k) (at r (
 same_ended q k r = record { most = refl; begun = refl; sent = refl; below = λ p. refl }
 
 module _ (ts : List Template) (depth : ℕ) (k : Known) (g : Graph) (input : Container) (s s' : ScopeState) (path : Path) (clock : ℕ) (tells : Told) (q : Part)
-    (well : Well ts depth g) (served : Served ts depth g) (linked : Linked ts depth g) (may : MayEnd ts depth k g input q)
+    (well : Well ts depth g) (served : Served ts depth g) (aimed : Aimed ts depth g) (may : MayEnd ts depth k g input q)
     (shows : Shows ts depth k g input s) (shows_then : Shows ts depth (with_end q k) g input s') (receives : Receives ts path clock (Ending q.name q.attempt) nothing tells g s s') where
   abbrev k' : Known
   k' = with_end q k
@@ -188,11 +188,11 @@ module _ (ts : List Template) (depth : ℕ) (k : Known) (g : Graph) (input : Con
 
   ends_given : (b : Bool) → EndsBy b g may.graph path a activity (Nested n) out (fields s) (fields s') nothing tells → IsGivenAt ts depth k k' g input path tells
   ends_given true is =
-      settled_given ts depth k k' g input s s' path tells well served linked shows shows_then (same_ended q k) a activity may.is (fields s) itself (Nested n) stands_nested
+      settled_given ts depth k k' g input s s' path tells well served aimed shows shows_then (same_ended q k) a activity may.is (fields s) itself (Nested n) stands_nested
       (end.Finished out) (finished_state (Nested n)) (finished_scopes n) was (shows.begun ∙ may.begun)
       (is.0 ∙ ap (λ o. settled a (end.Finished out) (changed_at finished_state a o (fields s))) stands_nested) is.1
   ends_given false is =
-      next_given ts depth k k' g input s s' path tells well served linked shows shows_then (same_ended q k) a activity may.is (fields s) itself n stands_nested may.graph _ may.of is
+      next_given ts depth k k' g input s s' path tells well served aimed shows shows_then (same_ended q k) a activity may.is (fields s) itself n stands_nested may.graph _ may.of is
 
   -- what the END of an attempt gives
   pub end_given : IsGivenAt ts depth k k' g input path tells

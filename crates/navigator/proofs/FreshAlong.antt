@@ -23,7 +23,7 @@ use Rattle.navigator.proofs.ShownAgain.{IsSameScope, ends_as_before, starts_as_b
 use Rattle.navigator.proofs.Stepping.{counted_at, IsLocal}
 use Rattle.navigator.proofs.ToldNotes.{AreTold, push_all, kind_only}
 use Rattle.navigator.specs.Events.{ScopeChange, ChangesState, ChangesInside, ChangesAt}
-use Rattle.navigator.specs.Giving.{Linked}
+use Rattle.view_laws.specs.NextEvents.{Aimed}
 use Rattle.navigator.specs.Reading.{place_of, attempt_place}
 use Rattle.navigator.specs.Serving.{Served}
 use Rattle.navigator.specs.Showing.{IsCounted, graph_under, graph_along}
@@ -231,12 +231,12 @@ learnt_closed f local (q ∷ p) k = refl
 
 -- where each event of a scope gives what came to be due there, so does one of a scope further in
 pub path_given : (ts : List Template) (change : ScopeChange) (fact : ScopeFact) (f : Known → Known) (path : Path) (tells : Told) → IsLocal f
-    → ((depth : ℕ) (k : Known) (g : Graph) (input : Container) (s s' : ScopeState) → Well ts depth g → Served ts depth g → Linked ts depth g → IsCounted k → fact depth k g input
+    → ((depth : ℕ) (k : Known) (g : Graph) (input : Container) (s s' : ScopeState) → Well ts depth g → Served ts depth g → Aimed ts depth g → IsCounted k → fact depth k g input
     → Shows ts depth k g input s → Shows ts depth (f k) g input s' → change g s s' → IsGivenAt ts depth k (f k) g input path tells)
-    → (p : List Part) (depth : ℕ) (k : Known) (g : Graph) (input : Container) (s s' : ScopeState) → Well ts depth g → Served ts depth g → Linked ts depth g → IsCounted k
+    → (p : List Part) (depth : ℕ) (k : Known) (g : Graph) (input : Container) (s s' : ScopeState) → Well ts depth g → Served ts depth g → Aimed ts depth g → IsCounted k
     → Leads fact ts depth k g input p → Shows ts depth k g input s → Shows ts depth (learnt f p k) g input s' → ChangesAt ts change p g s s' → IsGivenAlong ts depth k (learnt f p k) g input p path tells
-path_given ts change fact f path tells local here [] depth k g input s s' well served linked counted leads shows shows' changes =
-    let is = here depth k g input s s' well served linked counted leads shows shows' changes in
+path_given ts change fact f path tells local here [] depth k g input s s' well served aimed counted leads shows shows' changes =
+    let is = here depth k g input s s' well served aimed counted leads shows shows' changes in
     record {
       graph = g;
       along = refl;
@@ -249,15 +249,15 @@ path_given ts change fact f path tells local here [] depth k g input s s' well s
       none = is.none;
       ends = is.ends;
     }
-path_given ts change fact f path tells local here (q ∷ p) zero k g input s s' well served linked counted leads shows shows' changes = absurd leads
-path_given ts change fact f path tells local here (q ∷ p) (suc depth) k g input s s' well served linked counted leads shows shows' changes =
+path_given ts change fact f path tells local here (q ∷ p) zero k g input s s' well served aimed counted leads shows shows' changes = absurd leads
+path_given ts change fact f path tells local here (q ∷ p) (suc depth) k g input s s' well served aimed counted leads shows shows' changes =
     let j : Known = learnt f p (at q k) in
     let h : Graph = leads.graph in
     let i : Container = leads.start.input in
     let scope = inside_of ts depth k j g input q p s s' change well.named (λ h i. Leads fact ts depth (at q k) h i p) (learnt_most f local p (at q k)) (learnt_given f local p (at q k)) (learnt_closed f local p (at q k))
     leads shows shows' changes in
     let inner = path_given ts change fact f path tells local here p depth (at q k) h i scope.before scope.after
-    (well.inside leads.place leads.activity leads.is h leads.of) (served.inside leads.place leads.activity h leads.is leads.of) (linked.inside leads.place leads.activity h leads.is leads.of)
+    (well.inside leads.place leads.activity leads.is h leads.of) (served.inside leads.place leads.activity h leads.is leads.of) (aimed.inside leads.place leads.activity leads.is h leads.of)
     (counted_at q k counted) leads.within scope.shows scope.shows_then scope.changes in
     let under = under_is ts depth k j g input q p s s' change well.named (λ h i. Leads fact ts depth (at q k) h i p) (learnt_most f local p (at q k)) (learnt_given f local p (at q k)) (learnt_closed f local p (at q k))
     leads shows shows' changes in

@@ -26,7 +26,8 @@ use Rattle.navigator.proofs.Stepping.{IsLocal, leads_along, counted_covers, coun
 use Rattle.navigator.proofs.TakesShown.{taken_shown, completed_shown}
 use Rattle.navigator.proofs.ToldNotes.{told_append, push_all, told_notes, kind_only, kind_append, kind_along}
 use Rattle.navigator.specs.Events.{Begins, Signals, Ends as EndsOf, Completes, IsUsable, Receives, Happens, Takes, nothing}
-use Rattle.navigator.specs.Giving.{Linked, root_engine, GivesDue, GivesTaken, GivesCompleted}
+use Rattle.view_laws.specs.NextEvents.{Aimed}
+use Rattle.navigator.specs.Giving.{root_engine, GivesDue, GivesTaken, GivesCompleted}
 use Rattle.navigator.specs.Reading.{place_of}
 use Rattle.navigator.specs.Serving.{Served}
 use Rattle.navigator.specs.Showing.{graph_along, signal_between, signal_in, note_in, IsCounted}
@@ -108,54 +109,54 @@ output_local q out = record { most = λ k. refl; given = λ k. refl; closed = λ
 -- a message that may come gives what came to be due by it
 pub taken_given : (ts : List Template) (clock : ℕ) (message : Message) (g : Graph) (s s' : ScopeState) (given : List Message) (items : List Path) → Takes ts clock message g s s' given items
     → GivesTaken ts g message s given
-taken_given ts clock (Begin path) g s s' given items takes = λ note is depth k k' input well served linked counted comes shows.
+taken_given ts clock (Begin path) g s s' given items takes = λ note is depth k k' input well served aimed counted comes shows.
     let shown = taken_shown ts clock (Begin path) g s s' given items takes note is depth k k' input well served counted comes shows in
     let note_is : note ≡ BeginNote path.parts = cc in
     let now = subst (λ n. Comes ts depth k g input n k') note_is comes in
     given_root ts depth k k' g input path takes.tells given well
     (subst (λ j. IsGivenAlong ts depth k j g input path.parts path takes.tells) (sym now.1)
     (path_given ts (λ h t t'. IsUsable h → Receives ts path clock Begins nothing takes.tells h t t') (MayBegin ts) with_begin path takes.tells begin_local
-    (λ d j h i t t' well' served' linked' counted' may was after receives.
+    (λ d j h i t t' well' served' aimed' counted' may was after receives.
     begin_given ts d j h i t t' path clock takes.tells well' served' may was after (receives (usable_of ts d h served')))
-    path.parts depth k g input s s' well served linked counted now.0 shows (subst (λ j. Shows ts depth j g input s') now.1 shown) takes.changes))
+    path.parts depth k g input s s' well served aimed counted now.0 shows (subst (λ j. Shows ts depth j g input s') now.1 shown) takes.changes))
     takes.messages
-taken_given ts clock (Signal path from to v) g s s' given items takes = λ note is depth k k' input well served linked counted comes shows.
-    by (graph_along ts path.parts g) refl note is depth k k' input well served linked counted comes shows
+taken_given ts clock (Signal path from to v) g s s' given items takes = λ note is depth k k' input well served aimed counted comes shows.
+    by (graph_along ts path.parts g) refl note is depth k k' input well served aimed counted comes shows
     (taken_shown ts clock (Signal path from to v) g s s' given items takes note is depth k k' input well served counted comes shows)
   where
     known : (h : Graph) → graph_along ts path.parts g ≡ Some h → (a b : ℕ) → place_of h to ≡ Some b → (depth : ℕ) (k : Known) (input : Container)
-        → Well ts depth g → Served ts depth g → Linked ts depth g → IsCounted k → Leads (λ d j h' i. MaySignal ts d j h' i a b v) ts depth k g input path.parts
+        → Well ts depth g → Served ts depth g → Aimed ts depth g → IsCounted k → Leads (λ d j h' i. MaySignal ts d j h' i a b v) ts depth k g input path.parts
         → Shows ts depth k g input s → Shows ts depth (learnt (with_signal a b v) path.parts k) g input s'
         → IsGivenAlong ts depth k (learnt (with_signal a b v) path.parts k) g input path.parts path takes.tells
-    known h along a b place depth k input well served linked counted leads shows shown =
+    known h along a b place depth k input well served aimed counted leads shows shown =
         path_given ts (λ h' t t'. IsUsable h' → Receives ts path clock (Signals to v) nothing takes.tells h' t t')
         (λ d j h' i. MaySignal ts d j h' i a b v × (place_of h' to ≡ Some b)) (with_signal a b v) path takes.tells (signal_local a b v)
-        (λ d j h' i t t' well' served' linked' counted' may was after receives.
-        signal_given ts d j h' i t t' path clock takes.tells a b v to well' served' linked' counted'.messages may.0 may.1 was after (receives (usable_of ts d h' served')))
-        path.parts depth k g input s s' well served linked counted
+        (λ d j h' i t t' well' served' aimed' counted' may was after receives.
+        signal_given ts d j h' i t t' path clock takes.tells a b v to well' served' aimed' counted'.messages may.0 may.1 was after (receives (usable_of ts d h' served')))
+        path.parts depth k g input s s' well served aimed counted
         (leads_along ts (λ d j h' i. MaySignal ts d j h' i a b v) (λ h'. place_of h' to ≡ Some b) h place path.parts depth k g input well along leads)
         shows shown takes.changes
 
     between : (h : Graph) → graph_along ts path.parts g ≡ Some h → (oa ob : Option ℕ) → place_of h to ≡ ob → (note : Note) → signal_between path.parts v oa ob ≡ Some note
-        → (depth : ℕ) (k k' : Known) (input : Container) → Well ts depth g → Served ts depth g → Linked ts depth g → IsCounted k → Comes ts depth k g input note k'
+        → (depth : ℕ) (k k' : Known) (input : Container) → Well ts depth g → Served ts depth g → Aimed ts depth g → IsCounted k → Comes ts depth k g input note k'
         → Shows ts depth k g input s → Shows ts depth k' g input s' → GivesDue ts depth g input k k' given
-    between h along None ob place note is depth k k' input well served linked counted comes shows shown = let n : ⊥ = cc in absurd n
-    between h along (Some a) None place note is depth k k' input well served linked counted comes shows shown = let n : ⊥ = cc in absurd n
-    between h along (Some a) (Some b) place note is depth k k' input well served linked counted comes shows shown =
+    between h along None ob place note is depth k k' input well served aimed counted comes shows shown = let n : ⊥ = cc in absurd n
+    between h along (Some a) None place note is depth k k' input well served aimed counted comes shows shown = let n : ⊥ = cc in absurd n
+    between h along (Some a) (Some b) place note is depth k k' input well served aimed counted comes shows shown =
         let note_is : note ≡ SignalNote path.parts a b v = cc in
         let now = subst (λ n. Comes ts depth k g input n k') note_is comes in
         given_root ts depth k k' g input path takes.tells given well
         (subst (λ j. IsGivenAlong ts depth k j g input path.parts path takes.tells) (sym now.1)
-        (known h along a b place depth k input well served linked counted now.0 shows (subst (λ j. Shows ts depth j g input s') now.1 shown)))
+        (known h along a b place depth k input well served aimed counted now.0 shows (subst (λ j. Shows ts depth j g input s') now.1 shown)))
         takes.messages
 
     by : (o : Option Graph) → graph_along ts path.parts g ≡ o → (note : Note) → signal_in path.parts from to v (graph_along ts path.parts g) ≡ Some note
-        → (depth : ℕ) (k k' : Known) (input : Container) → Well ts depth g → Served ts depth g → Linked ts depth g → IsCounted k → Comes ts depth k g input note k'
+        → (depth : ℕ) (k k' : Known) (input : Container) → Well ts depth g → Served ts depth g → Aimed ts depth g → IsCounted k → Comes ts depth k g input note k'
         → Shows ts depth k g input s → Shows ts depth k' g input s' → GivesDue ts depth g input k k' given
-    by None along note is depth k k' input well served linked counted comes shows shown = let wrong : None ≡ Some note = rw along at is in let n : ⊥ = cc in absurd n
-    by (Some h) along note is depth k k' input well served linked counted comes shows shown =
-        between h along (place_of h from) (place_of h to) refl note (rw along at is) depth k k' input well served linked counted comes shows shown
-taken_given ts clock (End path) g s s' given items takes = λ note is depth k k' input well served linked counted comes shows.
+    by None along note is depth k k' input well served aimed counted comes shows shown = let wrong : None ≡ Some note = rw along at is in let n : ⊥ = cc in absurd n
+    by (Some h) along note is depth k k' input well served aimed counted comes shows shown =
+        between h along (place_of h from) (place_of h to) refl note (rw along at is) depth k k' input well served aimed counted comes shows shown
+taken_given ts clock (End path) g s s' given items takes = λ note is depth k k' input well served aimed counted comes shows.
     let shown = taken_shown ts clock (End path) g s s' given items takes note is depth k k' input well served counted comes shows in
     let note_is : note ≡ EndNote path.parts = cc in
     let now = subst (λ n. Comes ts depth k g input n k') note_is comes in
@@ -167,9 +168,9 @@ taken_given ts clock (End path) g s s' given items takes = λ note is depth k k'
     (subst (λ j. IsGivenAlong ts depth k j g input around scope happens.tells) (sym now.4)
     (path_given ts (λ h t t'. IsUsable h → Receives ts scope clock (EndsOf q.name q.attempt) nothing happens.tells h t t')
     (λ d j h i. MayEnd ts d j h i q) (with_end q) scope happens.tells (end_local q)
-    (λ d j h i t t' well' served' linked' counted' may was after receives.
-    end_given ts d j h i t t' scope clock happens.tells q well' served' linked' may was after (receives (usable_of ts d h served')))
-    around depth k g input s s' well served linked counted now.3 shows (subst (λ j. Shows ts depth j g input s') now.4 shown) happens.changes))
+    (λ d j h i t t' well' served' aimed' counted' may was after receives.
+    end_given ts d j h i t t' scope clock happens.tells q well' served' aimed' may was after (receives (usable_of ts d h served')))
+    around depth k g input s s' well served aimed counted now.3 shows (subst (λ j. Shows ts depth j g input s') now.4 shown) happens.changes))
     happens.messages
 
 -- ---- completions
@@ -182,7 +183,7 @@ output_most q out most (r ∷ p) k = ap (λ j. with_below r j (with_most most k)
 pub completed_given : (ts : List Template) (clock root : ℕ) (item : List Part) (c : Completed) (g : Graph) (s s' : ScopeState) (given : List Message) (items : List Path)
     → ((around : List Part) (q : Part) → item ≡ around ++ q ∷ [] → Happens ts (record { root = root; parts = around }) clock (Completes q.name c) g s s' given items)
     → GivesCompleted ts g item c.output s given
-completed_given ts clock root item c g s s' given items happening = λ depth k k' input well served linked counted comes shows.
+completed_given ts clock root item c g s s' given items happening = λ depth k k' input well served aimed counted comes shows.
     let shown = completed_shown ts clock root item c g s s' given items happening depth k k' input well served counted comes shows in
     let around = comes.0 in
     let q = comes.1 in
@@ -194,9 +195,9 @@ completed_given ts clock root item c g s s' given items happening = λ depth k k
     let then_known : learnt (with_output q c.output) around (with_most most k) ≡ k' = output_most q c.output most around k ∙ sym comes.4 in
     let along = path_given ts (λ h t t'. IsUsable h → Receives ts scope clock (Completes q.name c) nothing happens.tells h t t')
     (λ d j h i. IsReadyAt ts d j h i q) (with_output q c.output) scope happens.tells (output_local q c.output)
-    (λ d j h i t t' well' served' linked' counted' may was after receives.
-    complete_given ts d j h i t t' scope clock happens.tells q c well' served' linked' may was after (receives (usable_of ts d h served')))
-    around depth (with_most most k) g input s s' well served linked (counted_most most k (omega arith) counted)
+    (λ d j h i t t' well' served' aimed' counted' may was after receives.
+    complete_given ts d j h i t t' scope clock happens.tells q c well' served' aimed' may was after (receives (usable_of ts d h served')))
+    around depth (with_most most k) g input s s' well served aimed (counted_most most k (omega arith) counted)
     (leads_ready ts q most around depth k g input well counted (omega arith) comes.3) larger (subst (λ j. Shows ts depth j g input s') (sym then_known) shown) happens.changes in
     let gives : GivesDue ts depth g input (with_most most k) k' given
     = given_root ts depth (with_most most k) k' g input scope happens.tells given well

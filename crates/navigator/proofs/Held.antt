@@ -1,11 +1,11 @@
 -- A change of who holds an item changes nothing of what is shown.
-use Rattle.std.proofs.Common.{◌≡◌, ℕ, zero, suc, ◌<◌, Bool, true, List, [], ◌∷◌, map, length, Option, Some, None, refl, ap, sym, ◌∙◌, subst, arith, inl, inr, get_or}
+use Rattle.std.proofs.Common.{◌≡◌, ℕ, zero, suc, ◌<◌, List, map, length, Option, Some, refl, ap, sym, ◌∙◌, subst, arith, inl, inr, get_or}
 use Rattle.std.specs.Prelude.{not, slice_get, slice_set, count_by}
 use Rattle.std.proofs.lemmas.Bool.Decides.{eqb_tells}
 use Rattle.std.proofs.lemmas.Option.{slice_get_within, slice_get_read}
-use Rattle.activity_states.specs.States.{State, waiting, dead, opened, finished, fate_of, held, taken, completions}
+use Rattle.activity_states.specs.States.{State, waiting, dead, opened, finished, held, taken}
 use Rattle.blocks_subprocs.specs.Ends.{ends_of}
-use Rattle.flow_model.specs.Fates.{is_open, is_settled}
+use Rattle.flow_model.specs.Fates.{is_settled}
 use Rattle.flow_model.specs.ScopeContainers.{graph_in}
 use Rattle.flow_model.specs.Scopes.{Known, Start, output, scope_ends}
 use Rattle.flow_model.specs.declared.graphs.Activity.{Activity}
@@ -15,14 +15,13 @@ use Rattle.flow_model.specs.declared.graphs.Template.{Template}
 use Rattle.flow_model.specs.declared.graphs.Work.{Work, Program as RunsProgram, Block', Process}
 use Rattle.flow_model.specs.declared.instances.Fate.{Fate}
 use Rattle.flow_model.specs.declared.instances.Hold.{Hold}
-use Rattle.flow_model.specs.declared.instances.Hold.TheVariants.{Nobody}
 use Rattle.flow_model.specs.declared.names.Name.{Name}
 use Rattle.navigator.specs.Showing.{DiffersInHold, StaysShown, StaysShownNested, StaysShownWork}
 use Rattle.navigator.specs.Steps.{Fields, fields, with_state}
-use Rattle.navigator.specs.Views.{ShowsProgram, ShowsNested, ShowsWork, ShowsStart, shows_attempt, ShowsActivity, ShowsEnds, ShowsWithin, Shows}
+use Rattle.navigator.specs.Views.{ShowsProgram, ShowsNested, ShowsWork, ShowsStart, shows_attempt, ShowsActivity, ShowsWithin, Shows}
 use Rattle.navigator.specs.declared.scopes.ActivityState.{ActivityState, Program, Nested}
 use Rattle.navigator.specs.declared.scopes.NestedState.{NestedState, out-NestedState}
-use Rattle.navigator.specs.declared.scopes.ScopeState.{ScopeState, out-ScopeState}
+use Rattle.navigator.specs.declared.scopes.ScopeState.{ScopeState}
 use Rattle.navigator.proofs.Leading.{set_other, set_long}
 use Rattle.navigator.proofs.Places.{set_read}
 

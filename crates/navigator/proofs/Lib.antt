@@ -39,3 +39,4 @@ pub mod BeginGiven
 pub mod MoreDueLooked
 pub mod Given
 pub mod PutGiven
+pub mod DrivenShown

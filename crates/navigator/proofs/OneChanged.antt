@@ -53,7 +53,7 @@ same_attempt below k k' same name (Some h) start s is = subst (λ j. below j h s
 
 -- ---- a scope that is new
 
-incoming_of : (ts : List Template) (depth : ℕ) (g : Graph) → Served ts depth g → IsIncoming g
+pub incoming_of : (ts : List Template) (depth : ℕ) (g : Graph) → Served ts depth g → IsIncoming g
 incoming_of ts zero g served = served.incoming
 incoming_of ts (suc depth) g served = served.incoming
 
@@ -61,7 +61,7 @@ pub graphs_of : (ts : List Template) (depth : ℕ) (g : Graph) → Served ts dep
 graphs_of ts zero g served = served.graphs
 graphs_of ts (suc depth) g served = served.graphs
 
-few_of : (ts : List Template) (depth : ℕ) (g : Graph) → Served ts depth g → length (out-Graph g).controls < 2 ^ 32
+pub few_of : (ts : List Template) (depth : ℕ) (g : Graph) → Served ts depth g → length (out-Graph g).controls < 2 ^ 32
 few_of ts zero g served = served.few
 few_of ts (suc depth) g served = served.few
 

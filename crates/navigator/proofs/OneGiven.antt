@@ -20,7 +20,7 @@ use Rattle.navigator.proofs.SettledHere.{grown_one, opens_given, settles_given}
 use Rattle.navigator.proofs.ShownAgain.{IsSameInside}
 use Rattle.navigator.proofs.ToldNotes.{AreTold, none_told}
 use Rattle.navigator.specs.Events.{nothing}
-use Rattle.navigator.specs.Giving.{Linked}
+use Rattle.view_laws.specs.NextEvents.{Aimed}
 use Rattle.navigator.specs.Serving.{Served}
 use Rattle.navigator.specs.Steps.{Told, Fields, fields, with_state, settled, tell_settled, end_after, BeginsNext, GrowsState}
 use Rattle.navigator.specs.Views.{Shows}
@@ -57,12 +57,12 @@ grown_none ts states states' a same x y was now before after =
     either r false = refl
 
 module _ (ts : List Template) (depth : ℕ) (k k' : Known) (g : Graph) (input : Container) (s s' : ScopeState) (path : Path) (tells : Told)
-    (well : Well ts depth g) (served : Served ts depth g) (linked : Linked ts depth g) (shows : Shows ts depth k g input s) (shows' : Shows ts depth k' g input s')
+    (well : Well ts depth g) (served : Served ts depth g) (aimed : Aimed ts depth g) (shows : Shows ts depth k g input s) (shows' : Shows ts depth k' g input s')
     (inside : (r : Part) → IsSameInside (at r k) (at r k')) (a : ℕ) (activity : Activity) (there : slice_get (out-Graph g).activities a ≡ Some activity) (old : Fields) (of : IsOf s old) where
   -- nothing follows from it
   pub still_given : fields s' ≡ old → tells ≡ nothing → IsGivenAt ts depth k k' g input path tells
   still_given same silent =
-      opens_given ts depth k k' g input s s' path tells well served linked shows shows' inside a activity there None
+      opens_given ts depth k k' g input s s' path tells well served aimed shows shows' inside a activity there None
       (ap (λ (f : Fields). f.begun) same ∙ of.begun)
       (λ x y was now is before after. grown_none ts (out-ScopeState s).states.items (out-ScopeState s').states.items a (ap (λ (f : Fields). f.states) same ∙ of.states) x y was now before after)
       (none_told g path tells.begins (ap (λ (t : Told). t.begins) silent))
@@ -73,7 +73,7 @@ module _ (ts : List Template) (depth : ℕ) (k k' : Known) (g : Graph) (input : 
     pub state_given : (state : ActivityState) → scopes_in state ≡ scopes_in was → fields s' ≡ with_state a state old → tells.signals ≡ [] → tells.begins ≡ [] → tells.ends ≡ []
         → IsGivenAt ts depth k k' g input path tells
     state_given state same is signals begins ends =
-        opens_given ts depth k k' g input s s' path tells well served linked shows shows' inside a activity there None
+        opens_given ts depth k k' g input s s' path tells well served aimed shows shows' inside a activity there None
         (ap (λ (f : Fields). f.begun) is ∙ of.begun)
         (grown_one ts g (out-ScopeState s).states.items (out-ScopeState s').states.items a activity was state None there stands
         (ap (λ (f : Fields). f.states) is ∙ ap (λ l. slice_set l a state) of.states) (inl (same, refl)))
@@ -83,7 +83,7 @@ module _ (ts : List Template) (depth : ℕ) (k k' : Known) (g : Graph) (input : 
     pub settled_given : (now : SourceEnd) (state : ActivityState) → scopes_in state ≡ scopes_in was → tree_ends ts depth k g input a ≡ Unsettled → (out-ScopeState s).begun ≡ true
         → fields s' ≡ settled a now (with_state a state old) → tells ≡ tell_settled g path a now (old.unsettled - 1) nothing → IsGivenAt ts depth k k' g input path tells
     settled_given now state same unsettled begun is told =
-        settles_given ts depth k k' g input s s' path tells well served linked shows shows' inside a activity there None
+        settles_given ts depth k k' g input s s' path tells well served aimed shows shows' inside a activity there None
         (ap (λ (f : Fields). f.begun) is ∙ of.begun)
         (grown_one ts g (out-ScopeState s).states.items (out-ScopeState s').states.items a activity was state None there stands
         (ap (λ (f : Fields). f.states) is ∙ ap (λ l. slice_set l a state) of.states) (inl (same, refl)))
@@ -97,7 +97,7 @@ module _ (ts : List Template) (depth : ℕ) (k k' : Known) (g : Graph) (input : 
       → BeginsNext h i path a activity (Nested n) old (fields s') nothing tells → IsGivenAt ts depth k k' g input path tells
   next_given n stands h i runs is =
       let r : Part = part activity.name (length (out-NestedState n).scopes.items + 1) in
-      opens_given ts depth k k' g input s s' path tells well served linked shows shows' inside a activity there (Some (r ∷ []))
+      opens_given ts depth k k' g input s s' path tells well served aimed shows shows' inside a activity there (Some (r ∷ []))
       (ap (λ (f : Fields). f.begun) is.scope ∙ of.begun)
       (grown_one ts g (out-ScopeState s).states.items (out-ScopeState s').states.items a activity (Nested n) is.state (Some (r ∷ [])) there stands
       (ap (λ (f : Fields). f.states) is.scope ∙ ap (λ l. slice_set l a is.state) of.states)

@@ -29,7 +29,7 @@ use Rattle.navigator.proofs.Places.{present, set_read}
 use Rattle.navigator.proofs.SameActivities.{named_of}
 use Rattle.navigator.proofs.ShownAgain.{IsSameInside}
 use Rattle.navigator.proofs.ToldNotes.{AreTold, kind_only, sent_notes, sent_kinds, notes_merge, told_signals}
-use Rattle.navigator.specs.Giving.{Linked}
+use Rattle.view_laws.specs.NextEvents.{Aimed}
 use Rattle.navigator.specs.Serving.{Served}
 use Rattle.navigator.specs.Steps.{Told, end_after, is_root}
 use Rattle.navigator.specs.Views.{Shows}
@@ -69,14 +69,14 @@ set_ends es a now x less = elim (eqb_tells x a) [
 ]
 
 -- connectors lead to activities, at any depth
-pub targets_of : (ts : List Template) (depth : ℕ) (g : Graph) → Linked ts depth g → (i : ℕ) (c : Control) → slice_get (out-Graph g).controls i ≡ Some c → c.to < length (out-Graph g).activities
-targets_of ts zero g linked = linked.targets
-targets_of ts (suc depth) g linked = linked.targets
+pub targets_of : (ts : List Template) (depth : ℕ) (g : Graph) → Aimed ts depth g → (i : ℕ) (c : Control) → slice_get (out-Graph g).controls i ≡ Some c → c.to < length (out-Graph g).activities
+targets_of ts zero g aimed = aimed.each
+targets_of ts (suc depth) g aimed = aimed.each
 
 -- ---- one activity
 
 module _ (ts : List Template) (depth : ℕ) (k k' : Known) (g : Graph) (input : Container) (s s' : ScopeState) (path : Path) (tells : Told)
-    (well : Well ts depth g) (served : Served ts depth g) (linked : Linked ts depth g) (shows : Shows ts depth k g input s) (shows' : Shows ts depth k' g input s')
+    (well : Well ts depth g) (served : Served ts depth g) (aimed : Aimed ts depth g) (shows : Shows ts depth k g input s) (shows' : Shows ts depth k' g input s')
     (inside : (r : Part) → IsSameInside (at r k) (at r k')) (a : ℕ) (activity : Activity) (there : slice_get (out-Graph g).activities a ≡ Some activity) (o : Option (List Part))
     (begun : (out-ScopeState s').begun ≡ (out-ScopeState s).begun)
     (grown : (x : ℕ) (y : Activity) (was now : ActivityState) → slice_get (out-Graph g).activities x ≡ Some y → slice_get (out-ScopeState s).states.items x ≡ Some was
@@ -139,7 +139,7 @@ module _ (ts : List Template) (depth : ℕ) (k k' : Known) (g : Graph) (input : 
       (subst (λ (f : Ends). Merges (own_notes g e) (sent_notes controls controls a now) (own_notes g f)) (sym same) (notes_merge controls controls e a now was))
       opens grown (sent_kinds controls controls a now)
       (subst (λ ms. AreTold g path ms (sent_notes controls controls a now)) (sym sends)
-      (told_signals g path (named_of ts depth g well) a activity there now (targets_of ts depth g linked)))
+      (told_signals g path (named_of ts depth g well) a activity there now (targets_of ts depth g aimed)))
       begins_here ((out-ScopeState s).unsettled - 1 == 0)
       (subst (λ b. Merges (end_note b) (end_note ((out-ScopeState s).unsettled - 1 == 0)) (end_note (is_over ts depth k' g input))) (sym before)
       (subst (λ b. Merges [] (end_note ((out-ScopeState s).unsettled - 1 == 0)) (end_note b)) (sym after) (merges_all (end_note ((out-ScopeState s).unsettled - 1 == 0)))))

@@ -29,7 +29,7 @@ use Rattle.navigator.proofs.SettledHere.{targets_of}
 use Rattle.navigator.proofs.ShownAgain.{IsSameInside}
 use Rattle.navigator.proofs.SignalValues.{IsTold, value_told}
 use Rattle.navigator.specs.Events.{nothing, Receives, Signals}
-use Rattle.navigator.specs.Giving.{Linked}
+use Rattle.view_laws.specs.NextEvents.{Aimed}
 use Rattle.navigator.specs.Reading.{place_of}
 use Rattle.navigator.specs.Serving.{Served}
 use Rattle.navigator.specs.Steps.{Told, Fields, fields, changed_at, settled, at_stage, dead_state, Begins, Opens, Decides, TakesSignal}
@@ -60,7 +60,7 @@ same_signalled : (a b : ℕ) (v : Bool) (k : Known) (r : Part) → IsSameInside 
 same_signalled a b v k r = record { most = refl; begun = refl; sent = refl; below = λ p. refl }
 
 module _ (ts : List Template) (depth : ℕ) (k : Known) (g : Graph) (input : Container) (s s' : ScopeState) (path : Path) (clock : ℕ) (tells : Told) (a b : ℕ) (v : Bool) (name : Name)
-    (well : Well ts depth g) (served : Served ts depth g) (linked : Linked ts depth g) (messages : IsByMessages k) (may : MaySignal ts depth k g input a b v) (place : place_of g name ≡ Some b)
+    (well : Well ts depth g) (served : Served ts depth g) (aimed : Aimed ts depth g) (messages : IsByMessages k) (may : MaySignal ts depth k g input a b v) (place : place_of g name ≡ Some b)
     (shows : Shows ts depth k g input s) (shows_then : Shows ts depth (with_signal a b v k) g input s') (receives : Receives ts path clock (Signals name v) nothing tells g s s') where
   abbrev k' : Known
   k' = with_signal a b v k
@@ -69,7 +69,7 @@ module _ (ts : List Template) (depth : ℕ) (k : Known) (g : Graph) (input : Con
   e = tree_ends ts depth k g input
 
   within : b < length (out-Graph g).activities
-  within = let target = targets_of ts depth g linked may.number may.connector may.among in let to = may.to in omega arith
+  within = let target = targets_of ts depth g aimed may.number may.connector may.among in let to = may.to in omega arith
 
   found : (activity : Activity) × (slice_get (out-Graph g).activities b ≡ Some activity)
   found = present (out-Graph g).activities b within
@@ -110,21 +110,21 @@ module _ (ts : List Template) (depth : ℕ) (k : Known) (g : Graph) (input : Con
   opened : (st : ActivityState) → slice_get (out-ScopeState s).states.items b ≡ Some st → Opens ts g path clock b activity (Some st) takes.middle (fields s') nothing tells
       → IsGivenAt ts depth k k' g input path tells
   opened (Program p) at is =
-      state_given ts depth k k' g input s s' path tells well served linked shows shows_then (same_signalled a b v k) b activity found.1 takes.middle of (Program p) at
+      state_given ts depth k k' g input s s' path tells well served aimed shows shows_then (same_signalled a b v k) b activity found.1 takes.middle of (Program p) at
       (Program (made_ready p clock)) refl is.0 (ap (λ (t : Told). t.signals) is.1) (ap (λ (t : Told). t.begins) is.1) (ap (λ (t : Told). t.ends) is.1)
   opened (Nested n) at is = go (graph_in ts activity.work) refl is
     where
       go : (o : Option Graph) → graph_in ts activity.work ≡ o
           → Begins o (base_of g activity b takes.middle.input (ends_of takes.middle.ends)) path b activity (Nested n) takes.middle (fields s') nothing tells → IsGivenAt ts depth k k' g input path tells
-      go None none begins = still_given ts depth k k' g input s s' path tells well served linked shows shows_then (same_signalled a b v k) b activity found.1 takes.middle of begins.0 begins.1
+      go None none begins = still_given ts depth k k' g input s s' path tells well served aimed shows shows_then (same_signalled a b v k) b activity found.1 takes.middle of begins.0 begins.1
       go (Some h) runs begins =
-          next_given ts depth k k' g input s s' path tells well served linked shows shows_then (same_signalled a b v k) b activity found.1 takes.middle of n at h _ runs begins
+          next_given ts depth k k' g input s s' path tells well served aimed shows shows_then (same_signalled a b v k) b activity found.1 takes.middle of n at h _ runs begins
 
   decided : (o : Option Bool) → Decides ts g path clock b activity o takes.middle (fields s') nothing tells → IsGivenAt ts depth k k' g input path tells
-  decided None is = still_given ts depth k k' g input s s' path tells well served linked shows shows_then (same_signalled a b v k) b activity found.1 takes.middle of is.0 is.1
+  decided None is = still_given ts depth k k' g input s s' path tells well served aimed shows shows_then (same_signalled a b v k) b activity found.1 takes.middle of is.0 is.1
   decided (Some true) is = opened state.0 state.1 (subst (λ o. Opens ts g path clock b activity o takes.middle (fields s') nothing tells) stands is)
   decided (Some false) is =
-      settled_given ts depth k k' g input s s' path tells well served linked shows shows_then (same_signalled a b v k) b activity found.1 takes.middle of state.0 state.1
+      settled_given ts depth k k' g input s s' path tells well served aimed shows shows_then (same_signalled a b v k) b activity found.1 takes.middle of state.0 state.1
       end.Dead (dead_state state.0) (dead_same state.0) was (shows.begun ∙ may.begun)
       (is.0 ∙ ap (λ o. settled b end.Dead (changed_at dead_state b o takes.middle)) stands) is.1
 

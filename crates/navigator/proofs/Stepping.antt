@@ -1,14 +1,12 @@
 -- The scope to which a path leads goes on showing the view, and so do those on the way: for any event of a scope.
-use Rattle.std.proofs.Common.{◌≡◌, ℕ, zero, suc, ◌+◌, ◌≤◌, ◌<◌, List, [], ◌∷◌, length, Option, Some, None, refl, ap, sym, ◌∙◌, subst, arith, inl, inr, get_or}
-use Rattle.std.specs.Prelude.{slice_get}
+use Rattle.std.proofs.Common.{◌≡◌, ℕ, zero, suc, ◌≤◌, ◌<◌, List, [], ◌∷◌, length, Some, refl, ap, sym, ◌∙◌, subst, arith, inl, inr, get_or}
 use Rattle.std.specs.List.{Contains}
 use Rattle.fate_laws.proofs.ItemsBelow.{Among, Covers, strip, covers_at, strip_at_most}
 use Rattle.fate_laws.specs.StartedScopes.{ScopeFact}
 use Rattle.fate_laws.specs.WellFormed.{Well}
-use Rattle.flow_model.specs.ScopeContainers.{graph_in}
-use Rattle.flow_model.specs.Scopes.{Known, at, part}
+use Rattle.flow_model.specs.Scopes.{Known, at}
 use Rattle.flow_model.specs.declared.graphs.Container.{Container}
-use Rattle.flow_model.specs.declared.graphs.Graph.{Graph, out-Graph}
+use Rattle.flow_model.specs.declared.graphs.Graph.{Graph}
 use Rattle.flow_model.specs.declared.graphs.Template.{Template}
 use Rattle.flow_model.specs.declared.instances.Part.{Part}
 use Rattle.navigator.specs.Events.{ScopeChange, ChangesAt}
@@ -18,8 +16,8 @@ use Rattle.navigator.specs.Showing.{IsCounted, graph_under, graph_along}
 use Rattle.navigator.specs.Views.{Shows}
 use Rattle.navigator.specs.declared.scopes.ScopeState.{ScopeState}
 use Rattle.navigator.proofs.Leading.{way_shows}
-use Rattle.navigator.proofs.SameActivities.{place_found, named_of}
-use Rattle.view_laws.specs.Coming.{IsOpenAttempt, Leads}
+use Rattle.navigator.proofs.SameActivities.{place_found}
+use Rattle.view_laws.specs.Coming.{Leads}
 use Rattle.view_laws.specs.Learning.{learnt, with_most}
 
 -- ---- what is counted
@@ -32,7 +30,7 @@ among_at p (x ∷ xs) (suc i) less is = inr (among_at p xs i (omega arith) is)
 among_of : (p : List Part) (items : List (List Part)) → Contains items p → Among p items
 among_of p items is = among_at p items is.0 is.1 is.2
 
-contains_of : (p : List Part) (items : List (List Part)) → Among p items → Contains items p
+pub contains_of : (p : List Part) (items : List (List Part)) → Among p items → Contains items p
 contains_of p [] is = absurd is
 contains_of p (x ∷ xs) (inl is) = (0, omega arith, is)
 contains_of p (x ∷ xs) (inr is) = let there = contains_of p xs is in (suc there.0, omega (arith, there.1), there.2)

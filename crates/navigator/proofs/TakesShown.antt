@@ -1,30 +1,28 @@
 -- A message that may come, or an item that may be completed, keeps what the state of a root shows.
-use Rattle.std.proofs.Common.{◌≡◌, ℕ, zero, suc, ◌+◌, ◌≤◌, Bool, true, false, ◌&&◌, List, [], ◌∷◌, ◌++◌, length, Option, Some, None, refl, ap, sym, ◌∙◌, subst, arith, cond}
-use Rattle.std.specs.Prelude.{if◌then◌else◌, slice_get, is_none}
+use Rattle.std.proofs.Common.{◌≡◌, ℕ, zero, suc, ◌+◌, ◌≤◌, Bool, true, false, List, [], ◌∷◌, ◌++◌, length, Option, Some, None, refl, ap, ◌∙◌, subst, arith, cond}
+use Rattle.std.specs.Prelude.{slice_get}
 use Rattle.std.specs.List.{last_or}
 use Rattle.activity_states.specs.declared.states.Completed.{Completed}
-use Rattle.fate_laws.proofs.ItemsBelow.{Covers, strip, covers_at, strip_at_most}
+use Rattle.fate_laws.proofs.ItemsBelow.{strip, covers_at, strip_at_most}
 use Rattle.fate_laws.specs.WellFormed.{Well}
 use Rattle.flow_model.specs.Conditions.{holds}
 use Rattle.flow_model.specs.Fates.{Ends, goes_on, tried, fate_by, joined}
-use Rattle.flow_model.specs.ScopeContainers.{base_of, graph_in}
-use Rattle.flow_model.specs.Scopes.{Known, at, part, Gives, Runs, Trial, and_then, tries, gives, is_fed, trial, values_at, attempts_at, fate_at, fate_given, started_at, output, tree_ends, tree_fate}
+use Rattle.flow_model.specs.ScopeContainers.{base_of}
+use Rattle.flow_model.specs.Scopes.{Known, at, part, Gives, Runs, Trial, and_then, tries, gives, is_fed, trial, values_at, attempts_at, fate_given, started_at, output, tree_ends, tree_fate}
 use Rattle.flow_model.specs.declared.graphs.Activity.{Activity}
 use Rattle.flow_model.specs.declared.graphs.Container.{Container}
 use Rattle.flow_model.specs.declared.graphs.Graph.{Graph, out-Graph}
 use Rattle.flow_model.specs.declared.graphs.Template.{Template}
 use Rattle.flow_model.specs.declared.graphs.Work.{Work, Program as RunsProgram, Block', Process}
-use Rattle.flow_model.specs.declared.instances.Fate.{Fate}
-use Rattle.flow_model.specs.declared.instances.Fate.TheVariants.{Waiting, Ready}
+use Rattle.flow_model.specs.declared.instances.Fate.TheVariants.{Ready}
 use Rattle.flow_model.specs.declared.instances.Message.{Message}
 use Rattle.flow_model.specs.declared.instances.Message.TheVariants.{Begin, Signal, End}
 use Rattle.flow_model.specs.declared.instances.Part.{Part}
 use Rattle.flow_model.specs.declared.instances.Path.{Path}
-use Rattle.flow_model.specs.declared.names.Name.{Name}
-use Rattle.navigator.specs.Events.{Happening, Begins, Signals, Ends as EndsOf, Completes, IsUsable, Receives, ScopeChange, ChangesAt, Happens, Takes, nothing}
+use Rattle.navigator.specs.Events.{Begins, Signals, Ends as EndsOf, Completes, IsUsable, Receives, Happens, Takes, nothing}
 use Rattle.navigator.specs.Reading.{place_of}
-use Rattle.navigator.specs.Serving.{IsServed, Served}
-use Rattle.navigator.specs.Showing.{graph_along, signal_between, signal_in, note_in, IsCounted, GoesOnShowing, ShowsTaken, ShowsCompleted}
+use Rattle.navigator.specs.Serving.{Served}
+use Rattle.navigator.specs.Showing.{graph_along, signal_between, signal_in, IsCounted, ShowsTaken, ShowsCompleted}
 use Rattle.navigator.specs.Steps.{Told}
 use Rattle.navigator.specs.Views.{Shows}
 use Rattle.navigator.specs.declared.scopes.ScopeState.{ScopeState}
@@ -34,7 +32,7 @@ use Rattle.navigator.proofs.Ending.{end_shows}
 use Rattle.navigator.proofs.MoreLooked.{most_output, most_shows, IsSameView, same_view}
 use Rattle.navigator.proofs.Signalled.{signal_shows}
 use Rattle.navigator.proofs.Stepping.{IsLocal, path_shows, leads_along, counted_covers, counted_at, counted_most}
-use Rattle.view_laws.specs.Coming.{IsUntouched, IsNew, IsFedWhereKnown, started_in, MayBegin, MaySignal, MayEnd, MayComplete, IsOpenAttempt, Leads, Comes, ComesOutput}
+use Rattle.view_laws.specs.Coming.{IsNew, IsFedWhereKnown, started_in, MayBegin, MaySignal, MayEnd, MayComplete, Leads, Comes}
 use Rattle.view_laws.specs.Learning.{with_begin, with_signal, with_end, with_output, with_below, learnt, with_most}
 use Rattle.view_laws.specs.Messages.{Note, BeginNote, SignalNote, EndNote}
 
@@ -169,20 +167,22 @@ leads_now : (ts : List Template) (q : Part) (most : ℕ) (p : List Part) (depth 
 leads_now ts q most [] depth k g input well counted le may =
     let enough = counted.enough in
     let same = same_view ts depth k most counted.items g input well (counted_covers k counted) enough (omega arith) in
-    let few = ready_short ts k (output ts depth) g input (tree_ends ts depth k g input) may.place may.activity q.attempt may.is may.ready in
-    (record {
-      begun = may.begun;
-      fed = fed_most ts depth most k g input same.ends may.fed;
-      place = may.place;
-      activity = may.activity;
-      program = may.program;
-      is = may.is;
-      runs = may.runs;
-      name = may.name;
-      ready = fate_most ts depth most k g input same may.place ∙ may.ready;
-      ungiven = may.ungiven;
-      unstarted = new_most most k (part may.activity.name (q.attempt + 1)) may.unstarted;
-    }, omega arith)
+    let few = ready_short ts k (output ts depth) g input (tree_ends ts depth k g input) may.place may.activity q.attempt may.is may.ready in (
+      record {
+        begun = may.begun;
+        fed = fed_most ts depth most k g input same.ends may.fed;
+        place = may.place;
+        activity = may.activity;
+        program = may.program;
+        is = may.is;
+        runs = may.runs;
+        name = may.name;
+        ready = fate_most ts depth most k g input same may.place ∙ may.ready;
+        ungiven = may.ungiven;
+        unstarted = new_most most k (part may.activity.name (q.attempt + 1)) may.unstarted;
+      },
+      omega arith,
+    )
 leads_now ts q most (r ∷ p) zero k g input well counted le leads = absurd leads
 leads_now ts q most (r ∷ p) (suc depth) k g input well counted le leads =
     let enough = counted.enough in

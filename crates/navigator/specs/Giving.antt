@@ -1,13 +1,10 @@
 -- What an event gives: the messages that came to be due by it.
-use Rattle.std.specs.Prelude.{◌≡◌, ℕ, zero, suc, ◌<◌, not, Some, List, map, length, slice_get}
+use Rattle.std.specs.Prelude.{◌≡◌, ℕ, not, Some, List, map}
 use Rattle.std.specs.List.{filter}
 use Rattle.fate_laws.specs.WellFormed.{Well}
-use Rattle.flow_model.specs.ScopeContainers.{graph_in}
 use Rattle.flow_model.specs.Scopes.{Known}
-use Rattle.flow_model.specs.declared.graphs.Activity.{Activity}
 use Rattle.flow_model.specs.declared.graphs.Container.{Container}
-use Rattle.flow_model.specs.declared.graphs.Control.{Control}
-use Rattle.flow_model.specs.declared.graphs.Graph.{Graph, out-Graph}
+use Rattle.flow_model.specs.declared.graphs.Graph.{Graph}
 use Rattle.flow_model.specs.declared.graphs.Template.{Template}
 use Rattle.flow_model.specs.declared.instances.Message.{Message}
 use Rattle.flow_model.specs.declared.instances.Part.{Part}
@@ -18,19 +15,8 @@ use Rattle.navigator.specs.declared.scopes.ScopeState.{ScopeState}
 use Rattle.view_laws.specs.Coming.{Comes, ComesOutput}
 use Rattle.view_laws.specs.Messages.{Note, due_in}
 use Rattle.view_laws.specs.Queues.{Engine, has, by_kind, put}
+use Rattle.view_laws.specs.NextEvents.{Aimed}
 use Rattle.view_laws.specs.Runs.{Root, Event, engine}
-
--- ---- connectors lead to activities
-
--- a graph whose connectors lead to its activities, and whose blocks and subprocesses have this property
-pub record IsLinked (ts : List Template) (g : Graph) (inner : Graph → Type 0) : Type 0 where
-  pub targets : (i : ℕ) (c : Control) → slice_get (out-Graph g).controls i ≡ Some c → c.to < length (out-Graph g).activities
-  pub inside : (a : ℕ) (activity : Activity) (h : Graph) → slice_get (out-Graph g).activities a ≡ Some activity → graph_in ts activity.work ≡ Some h → inner h
-
--- so is the graph, and so are those inside, to this depth
-abbrev pub Linked : List Template → ℕ → Graph → Type 0
-Linked ts zero g = IsLinked ts g (λ h. Unit {0})
-Linked ts (suc depth) g = IsLinked ts g (Linked ts depth)
 
 -- ---- what came to be due
 
@@ -54,7 +40,7 @@ GivesDue ts depth g input k k' given =
 -- whatever is known: where the state shows it, what is given came to be due by the event
 abbrev pub GivesWhatCame : (ℕ → Known → Container → Known → Type 0) → List Template → Graph → ScopeState → List Message → Type 0
 GivesWhatCame comes ts g s given =
-    (depth : ℕ) (k k' : Known) (input : Container) → Well ts depth g → Served ts depth g → Linked ts depth g → IsCounted k → comes depth k input k'
+    (depth : ℕ) (k k' : Known) (input : Container) → Well ts depth g → Served ts depth g → Aimed ts depth g → IsCounted k → comes depth k input k'
     → Shows ts depth k g input s → GivesDue ts depth g input k k' given
 
 -- a message that may come is taken

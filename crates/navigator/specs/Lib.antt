@@ -9,3 +9,4 @@ pub mod Events
 pub mod Serving
 pub mod Showing
 pub mod Giving
+pub mod Driven

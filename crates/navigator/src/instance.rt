@@ -9,6 +9,7 @@ ghost use Rattle.flow_model.specs.declared.graphs.Template.{Template};
 ghost use Rattle.flow_model.specs.declared.instances.Message.TheVariants.{End};
 ghost use Rattle.flow_model.specs.declared.instances.Part.{Part as Step};
 ghost use Rattle.navigator.specs.Events.{Completes, happening, Happens, Takes};
+ghost use Rattle.navigator.specs.Giving.{GivesTaken, GivesCompleted};
 ghost use Rattle.navigator.specs.Instances.{mode_of, Starts};
 ghost use Rattle.navigator.specs.Items.{stand, entry_of, attempts_in as attempts_of_fate, entry_of_state, entry_here, entry_at, phase_of};
 ghost use Rattle.navigator.specs.Showing.{ShowsTaken, ShowsCompleted, DiffersInHold, StaysShown, StaysShownItem, StaysShownNested, StaysShownWork};
@@ -258,6 +259,7 @@ impl Instance {
         ensures kept { self.new ≡ record self.old { scope = self.new.scope } }
         ensures takes { self.old.terminated ≡ false → IfOk result (λ given. (g : Process) → template_graph library.now.templates self.old.template ≡ Some g → Takes library.now.templates clock message.now g self.old.scope self.new.scope given.0 given.1.items) }
         ensures shows { self.old.terminated ≡ false → OnOk result ((g : Process) → template_graph library.now.templates self.old.template ≡ Some g → ShowsTaken library.now.templates g message.now self.old.scope self.new.scope) }
+        ensures gives { self.old.terminated ≡ false → IfOk result (λ given. (g : Process) → template_graph library.now.templates self.old.template ≡ Some g → GivesTaken library.now.templates g message.now self.old.scope given.0) }
     {
         if self.terminated {
             return Ok((List::new(alloc), Vec::new(alloc)));
@@ -310,6 +312,7 @@ impl Instance {
         ensures kept { self.new ≡ record self.old { scope = self.new.scope } }
         ensures completes { IfOk result (λ given. (g : Process) → template_graph library.now.templates self.old.template ≡ Some g → (parts : Seq Step) → (q : Step) → item.now.parts ≡ parts ++ q ∷ [] → Happens library.now.templates (record { root = item.now.root; parts = parts }) clock (Completes q.name (record { output = output; performer = performer })) g self.old.scope self.new.scope given.0 given.1.items) }
         ensures shows { OnOk result ((g : Process) → template_graph library.now.templates self.old.template ≡ Some g → ShowsCompleted library.now.templates g item.now.parts output self.old.scope self.new.scope) }
+        ensures gives { IfOk result (λ given. (g : Process) → template_graph library.now.templates self.old.template ≡ Some g → GivesCompleted library.now.templates g item.now.parts output self.old.scope given.0) }
     {
         let with = Context {
             alloc,

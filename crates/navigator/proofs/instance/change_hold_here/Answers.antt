@@ -1,4 +1,4 @@
-use Rattle.std.proofs.Common.{◌≡◌, refl}
+use Rattle.std.proofs.Common.{refl}
 use Rattle.std.specs.Vec.{with_item}
 use Rattle.navigator.specs.declared.scopes.ScopeState.{ScopeState, out-ScopeState, roll-ScopeState}
 use Rattle.navigator.proofs.Held.{stays_by_state}

@@ -1,13 +1,10 @@
-use Rattle.std.proofs.Common.{◌≡◌, ◌<◌, ℕ, Option, Some, length, refl, ap, sym, ◌∙◌, subst}
+use Rattle.std.proofs.Common.{◌≡◌, Some, refl, ap, sym, ◌∙◌, subst}
 use Rattle.std.specs.Prelude.{slice_get}
 use Rattle.std.specs.Vec.{with_item}
-use Rattle.flow_model.specs.declared.graphs.Activity.{Activity}
-use Rattle.flow_model.specs.declared.graphs.Graph.{Graph, out-Graph}
-use Rattle.flow_model.specs.Scopes.{output, scope_ends, fate_given, attempts, started_at}
 use Rattle.flow_model.specs.ScopeContainers.{graph_in}
-use Rattle.navigator.specs.Showing.{StaysShown, StaysShownWork}
+use Rattle.navigator.specs.Showing.{StaysShownWork}
 use Rattle.navigator.specs.declared.scopes.ActivityState.{ActivityState, Nested}
-use Rattle.navigator.specs.declared.scopes.NestedState.{NestedState, out-NestedState, out-roll-NestedState}
+use Rattle.navigator.specs.declared.scopes.NestedState.{out-roll-NestedState}
 use Rattle.navigator.specs.declared.scopes.ScopeState.{ScopeState, out-ScopeState, roll-ScopeState}
 use Rattle.navigator.proofs.Held.{stays_by_state, nested_stays, work_stays, activity_stays}
 use Rattle.navigator.proofs.Places.{same_at}
