@@ -1,11 +1,11 @@
 -- A message that may come, or an item that may be completed, gives the messages that came to be due by it.
-use Rattle.std.proofs.Common.{◌≡◌, ℕ, zero, suc, ◌==◌, Bool, true, false, if◌then◌else◌, List, [], ◌∷◌, ◌++◌, map, Option, Some, None, refl, ap, sym, ◌∙◌, subst, arith, append-nil}
+use Rattle.std.proofs.Common.{◌≡◌, ℕ, suc, ◌==◌, Bool, true, false, if◌then◌else◌, List, [], ◌∷◌, ◌++◌, map, Option, Some, None, refl, ap, sym, ◌∙◌, subst, arith, append-nil}
 use Rattle.std.specs.Prelude.{not}
 use Rattle.std.specs.List.{filter}
 use Rattle.std.proofs.lemmas.List.{map-append}
 use Rattle.activity_states.specs.declared.states.Completed.{Completed}
 use Rattle.fate_laws.specs.WellFormed.{Well}
-use Rattle.flow_model.specs.Scopes.{Known, at}
+use Rattle.flow_model.specs.Scopes.{Known}
 use Rattle.flow_model.specs.declared.graphs.Container.{Container}
 use Rattle.flow_model.specs.declared.graphs.Graph.{Graph}
 use Rattle.flow_model.specs.declared.graphs.Template.{Template}
@@ -22,8 +22,8 @@ use Rattle.navigator.proofs.Merges.{merges_new}
 use Rattle.navigator.proofs.MoreDueLooked.{due_most, leads_ready}
 use Rattle.navigator.proofs.MoreLooked.{most_shows}
 use Rattle.navigator.proofs.SignalGiven.{signal_given}
-use Rattle.navigator.proofs.Stepping.{IsLocal, leads_along, counted_covers, counted_most}
-use Rattle.navigator.proofs.TakesShown.{taken_shown, completed_shown}
+use Rattle.navigator.proofs.Stepping.{leads_along, counted_covers, counted_most}
+use Rattle.navigator.proofs.TakesShown.{usable_of, begin_local, signal_local, end_local, output_local, output_most, taken_shown, completed_shown}
 use Rattle.navigator.proofs.ToldNotes.{told_append, push_all, told_notes, kind_only, kind_append, kind_along}
 use Rattle.navigator.specs.Events.{Begins, Signals, Ends as EndsOf, Completes, IsUsable, Receives, Happens, Takes, nothing}
 use Rattle.view_laws.specs.NextEvents.{Aimed}
@@ -37,14 +37,10 @@ use Rattle.navigator.specs.declared.scopes.ScopeState.{ScopeState}
 use Rattle.view_laws.proofs.SameNotes.{itself, one}
 use Rattle.view_laws.proofs.Trusting.{due_once}
 use Rattle.view_laws.specs.Coming.{MayBegin, MaySignal, MayEnd, Leads, Comes}
-use Rattle.view_laws.specs.Learning.{with_begin, with_signal, with_end, with_output, with_below, learnt, with_most}
+use Rattle.view_laws.specs.Learning.{with_begin, with_signal, with_end, with_output, learnt, with_most}
 use Rattle.view_laws.specs.Messages.{Note, BeginNote, SignalNote, EndNote, due_in}
 use Rattle.view_laws.specs.Queues.{Engine, has, by_kind}
 use Rattle.view_laws.specs.Runs.{Root, Event}
-
-usable_of : (ts : List Template) (depth : ℕ) (g : Graph) → Served ts depth g → IsUsable g
-usable_of ts zero g served = served.usable
-usable_of ts (suc depth) g served = served.usable
 
 -- ---- from the scope to the root
 
@@ -94,19 +90,6 @@ given_root ts depth k k' g input path tells given well is messages = λ queue_of
 
 -- ---- messages
 
-begin_local : IsLocal with_begin
-begin_local = record { most = λ k. refl; given = λ k. refl; closed = λ k. refl }
-
-signal_local : (a b : ℕ) (v : Bool) → IsLocal (with_signal a b v)
-signal_local a b v = record { most = λ k. refl; given = λ k. refl; closed = λ k. refl }
-
-end_local : (q : Part) → IsLocal (with_end q)
-end_local q = record { most = λ k. refl; given = λ k. refl; closed = λ k. refl }
-
-output_local : (q : Part) (out : Container) → IsLocal (with_output q out)
-output_local q out = record { most = λ k. refl; given = λ k. refl; closed = λ k. refl }
-
--- a message that may come gives what came to be due by it
 pub taken_given : (ts : List Template) (clock : ℕ) (message : Message) (g : Graph) (s s' : ScopeState) (given : List Message) (items : List Path) → Takes ts clock message g s s' given items
     → GivesTaken ts g message s given
 taken_given ts clock (Begin path) g s s' given items takes = λ note is depth k k' input well served aimed counted comes shows.
@@ -175,11 +158,6 @@ taken_given ts clock (End path) g s s' given items takes = λ note is depth k k'
 
 -- ---- completions
 
-output_most : (q : Part) (out : Container) (most : ℕ) (p : List Part) (k : Known) → learnt (with_output q out) p (with_most most k) ≡ with_most most (learnt (with_output q out) p k)
-output_most q out most [] k = refl
-output_most q out most (r ∷ p) k = ap (λ j. with_below r j (with_most most k)) (output_most q out most p (at r k))
-
--- an item that may be completed gives what came to be due by it
 pub completed_given : (ts : List Template) (clock root : ℕ) (item : List Part) (c : Completed) (g : Graph) (s s' : ScopeState) (given : List Message) (items : List Path)
     → ((around : List Part) (q : Part) → item ≡ around ++ q ∷ [] → Happens ts (record { root = root; parts = around }) clock (Completes q.name c) g s s' given items)
     → GivesCompleted ts g item c.output s given

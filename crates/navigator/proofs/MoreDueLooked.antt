@@ -15,10 +15,10 @@ use Rattle.flow_model.specs.declared.instances.Part.{Part}
 use Rattle.navigator.proofs.CompleteGiven.{IsReadyAt}
 use Rattle.navigator.proofs.DueParts.{own_notes, due_place, due_start, due_by}
 use Rattle.navigator.proofs.Merges.{flat_same}
-use Rattle.navigator.proofs.MoreLooked.{most_output, IsSameView, same_view}
+use Rattle.navigator.proofs.MoreLooked.{most_output, same_view, starts_most}
 use Rattle.navigator.proofs.Stepping.{counted_covers, counted_at}
 use Rattle.navigator.specs.Showing.{IsCounted}
-use Rattle.view_laws.specs.Coming.{started_in, MayComplete, Leads}
+use Rattle.view_laws.specs.Coming.{MayComplete, Leads}
 use Rattle.view_laws.specs.Learning.{with_most}
 use Rattle.view_laws.specs.Messages.{Note, due_with, due_at, due_in}
 
@@ -27,11 +27,6 @@ use Rattle.view_laws.specs.Messages.{Note, due_with, due_at, due_in}
 by_most : (runs : Runs) (below : Known → Graph → Container → List Note) (r : Part) (h : Graph) (i : Container) (most : ℕ) (j : Known)
     → runs (with_most most j) h i ≡ runs j h i → below (with_most most j) h i ≡ below j h i → due_by runs below r h i (with_most most j) ≡ due_by runs below r h i j
 by_most runs below r h i most j gave due = rw (gave, due) refl
-
-starts_most : (ts : List Template) (depth most : ℕ) (k : Known) (g : Graph) (input : Container) → IsSameView ts depth k most g input → (a : ℕ) (activity : Activity)
-    → slice_get (out-Graph g).activities a ≡ Some activity → started_in ts depth (with_most most k) g input a activity ≡ started_in ts depth k g input a activity
-starts_most ts depth most k g input same a activity is =
-    ap (λ e. started_at ts (with_most most k) (output ts depth) g input e a activity) same.ends ∙ same.starts (tree_ends ts depth k g input) a activity is
 
 -- the same is due
 pub due_most : (ts : List Template) (depth : ℕ) (k : Known) (most : ℕ) (items : List (List Part)) (g : Graph) (input : Container) → Well ts depth g → Covers k items

@@ -21,6 +21,7 @@ use Rattle.flow_model.specs.declared.names.Name.{Name}
 use Rattle.navigator.specs.Views.{ShowsScope, shows_attempt, ShowsEnds, ShowsWithin, Shows}
 use Rattle.navigator.specs.declared.scopes.ScopeState.{ScopeState}
 use Rattle.navigator.proofs.ShownAgain.{shown_again}
+use Rattle.view_laws.specs.Coming.{started_in}
 use Rattle.view_laws.specs.Learning.{with_most}
 
 no_some : (o : Container) → None ≡ Some o → ⊥
@@ -222,3 +223,10 @@ same_view ts (suc depth) k most items g input well covers enough enough' =
       fates = most_fate ts k most (output ts (suc depth)) (Well ts depth) items covers enough enough' same own g well input;
       starts = most_starts ts k most (output ts (suc depth)) (Well ts depth) items covers enough enough' same own g well input;
     }
+
+-- the same attempts have started
+pub starts_most : (ts : List Template) (depth most : ℕ) (k : Known) (g : Graph) (input : Container) → IsSameView ts depth k most g input → (a : ℕ) (activity : Activity)
+    → slice_get (out-Graph g).activities a ≡ Some activity → started_in ts depth (with_most most k) g input a activity ≡ started_in ts depth k g input a activity
+starts_most ts depth most k g input same a activity is =
+    ap (λ e. started_at ts (with_most most k) (output ts depth) g input e a activity) same.ends
+    ∙ same.starts (tree_ends ts depth k g input) a activity is

@@ -3,12 +3,11 @@ use Rattle.std.proofs.Common.{◌≡◌, ℕ, ◌+◌, ◌-◌, ◌<◌, Bool, t
 use Rattle.std.specs.Prelude.{◌==◌, ◌≢◌, if◌then◌else◌, not, slice_get, slice_set, count_by, unwrap_or}
 use Rattle.std.specs.List.{filter}
 use Rattle.std.proofs.Math.Path.{fun_ext}
-use Rattle.std.proofs.lemmas.Bool.{cases_lt}
 use Rattle.std.proofs.lemmas.Bool.Decides.{eqb_tells}
 use Rattle.std.proofs.lemmas.Grind.{get_or-set_at}
-use Rattle.std.proofs.lemmas.List.{length-set, get_or-set_other, set-get_or}
+use Rattle.std.proofs.lemmas.List.{length-set, set-get_or}
 use Rattle.std.proofs.lemmas.List.Sums.{sum_by-set}
-use Rattle.std.proofs.lemmas.Option.{slice_get_within, slice_get_past, slice_get-get_or, unwrap_or-slice_get}
+use Rattle.std.proofs.lemmas.Option.{slice_get_within, slice_get-get_or, unwrap_or-slice_get}
 use Rattle.blocks_subprocs.specs.Ends.{ends_of}
 use Rattle.dead_paths.specs.Tallies.{Counts}
 use Rattle.fate_laws.proofs.Extends.{Extends}
@@ -27,6 +26,7 @@ use Rattle.flow_model.specs.declared.instances.Part.{Part}
 use Rattle.flow_model.specs.declared.instances.SourceEnd.{SourceEnd}
 use Rattle.flow_model.specs.declared.instances.SourceEnd.TheVariants.{Unsettled}
 use Rattle.flow_model.specs.declared.names.Name.{Name}
+use Rattle.navigator.proofs.Leading.{set_other}
 use Rattle.navigator.proofs.Places.{set_read}
 use Rattle.navigator.proofs.SameActivities.{IsSameActivity, same_activity, step_is, ends_by_steps, named_of}
 use Rattle.navigator.proofs.ShownAgain.{shown_again}
@@ -36,16 +36,7 @@ use Rattle.navigator.specs.declared.scopes.ActivityState.{ActivityState}
 use Rattle.navigator.specs.declared.scopes.ScopeState.{ScopeState, out-ScopeState}
 use Rattle.view_laws.specs.Coming.{IsByMessages, IsFedWhereKnown}
 
--- ---- lists
-
-set_other : {X : Type 0} (xs : List X) (i j : ℕ) (y : X) → j ≢ i → slice_get (slice_set xs i y) j ≡ slice_get xs j
-set_other xs i j y other =
-    let same : length (slice_set xs i y) ≡ length xs = length-set xs i y in
-    elim (cases_lt j (length xs)) [
-      | inl inside ↦
-          slice_get-get_or (slice_set xs i y) j y (omega arith) ∙ ap Some (get_or-set_other xs i j y y other) ∙ sym (slice_get-get_or xs j y inside)
-      | inr outside ↦ slice_get_past (slice_set xs i y) j (omega arith) ∙ sym (slice_get_past xs j outside)
-    ]
+-- ---- ends
 
 -- one activity has ended so, and the others as before
 abbrev pub ends_with : ℕ → SourceEnd → Ends → Ends
@@ -57,7 +48,8 @@ there_ends a s e x same = elim (eqb_tells x a) [ inl is ↦ rw is.0 refl | inr o
 elsewhere_ends : (a : ℕ) (s : SourceEnd) (e : Ends) (x : ℕ) → x ≢ a → ends_with a s e x ≡ e x
 elsewhere_ends a s e x apart = elim (eqb_tells x a) [ inl is ↦ absurd (apart is.1) | inr other ↦ rw other.0 refl ]
 
-set_ends : (es : List SourceEnd) (a : ℕ) (s : SourceEnd) (x : ℕ) → a < length es → ends_of (slice_set es a s) x ≡ ends_with a s (ends_of es) x
+-- so they stand in the list where the end of one is put
+pub set_ends : (es : List SourceEnd) (a : ℕ) (s : SourceEnd) (x : ℕ) → a < length es → ends_of (slice_set es a s) x ≡ ends_with a s (ends_of es) x
 set_ends es a s x less = elim (eqb_tells x a) [
   | inl is ↦ unwrap_or-slice_get (slice_set es a s) x Unsettled ∙ get_or-set_at es a x s Unsettled is.1 less ∙ sym (there_ends a s (ends_of es) x is.1)
   | inr other ↦ ap (λ o. unwrap_or o Unsettled) (set_other es a x s other.1) ∙ sym (elsewhere_ends a s (ends_of es) x other.1)

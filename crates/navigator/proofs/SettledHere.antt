@@ -1,6 +1,6 @@
 -- What an event gives that changes one activity of a scope: it is settled, or one more of its attempts begins.
 use Rattle.std.proofs.Common.{◌≡◌, ℕ, zero, suc, ◌-◌, ◌<◌, ◌==◌, Bool, true, false, ◌&&◌, if◌then◌else◌, List, [], ◌∷◌, length, Option, Some, None, refl, ap, sym, ◌∙◌, subst, arith, inl, inr, append-nil}
-use Rattle.std.specs.Prelude.{not, slice_get, slice_set, unwrap_or}
+use Rattle.std.specs.Prelude.{not, slice_get, slice_set}
 use Rattle.std.specs.List.{flat_map}
 use Rattle.std.proofs.Math.Path.{fun_ext}
 use Rattle.std.proofs.lemmas.Bool.Decides.{eqb_tells}
@@ -24,8 +24,8 @@ use Rattle.navigator.proofs.DueParts.{own_notes, end_note, is_over, scopes_in}
 use Rattle.navigator.proofs.FreshHere.{IsGivenAt, begin_notes, Grown, over_is, not_over, given_here}
 use Rattle.navigator.proofs.Leading.{set_other}
 use Rattle.navigator.proofs.Merges.{Merges, merges_same, merges_all, flat_only}
-use Rattle.navigator.proofs.OneActivity.{ends_with}
-use Rattle.navigator.proofs.Places.{present, set_read}
+use Rattle.navigator.proofs.OneActivity.{ends_with, set_ends}
+use Rattle.navigator.proofs.Places.{set_read}
 use Rattle.navigator.proofs.SameActivities.{named_of}
 use Rattle.navigator.proofs.ShownAgain.{IsSameInside}
 use Rattle.navigator.proofs.ToldNotes.{AreTold, kind_only, sent_notes, sent_kinds, notes_merge, told_signals}
@@ -58,14 +58,6 @@ grown_one ts g states states' a activity old new o there stands set grown x y wa
       let both : Some now ≡ Some was = sym after ∙ ap (λ l. slice_get l x) set ∙ set_other states a x new apart.1 ∙ before in
       let that : now ≡ was = cc in
       rw apart.0 (inl (ap scopes_in that, refl))
-]
-
-set_ends : (es : List SourceEnd) (a : ℕ) (now : SourceEnd) (x : ℕ) → a < length es → ends_of (slice_set es a now) x ≡ ends_with a now (ends_of es) x
-set_ends es a now x less = elim (eqb_tells x a) [
-  | inl is ↦
-      let old = present es a less in
-      rw is.0 (ap (ends_of (slice_set es a now)) is.1 ∙ ap (λ o. unwrap_or o Unsettled) (set_read es a old.0 now old.1))
-  | inr other ↦ rw other.0 (ap (λ o. unwrap_or o Unsettled) (set_other es a x now other.1))
 ]
 
 -- connectors lead to activities, at any depth

@@ -8,7 +8,7 @@ use Rattle.fate_laws.specs.WellFormed.{Well}
 use Rattle.flow_model.specs.Conditions.{holds}
 use Rattle.flow_model.specs.Fates.{Ends, goes_on, tried, fate_by, joined}
 use Rattle.flow_model.specs.ScopeContainers.{base_of}
-use Rattle.flow_model.specs.Scopes.{Known, at, part, Gives, Runs, Trial, and_then, tries, gives, is_fed, trial, values_at, attempts_at, fate_given, started_at, output, tree_ends, tree_fate}
+use Rattle.flow_model.specs.Scopes.{Known, at, part, Gives, Runs, Trial, and_then, tries, gives, is_fed, trial, values_at, attempts_at, fate_given, output, tree_ends, tree_fate}
 use Rattle.flow_model.specs.declared.graphs.Activity.{Activity}
 use Rattle.flow_model.specs.declared.graphs.Container.{Container}
 use Rattle.flow_model.specs.declared.graphs.Graph.{Graph, out-Graph}
@@ -29,14 +29,14 @@ use Rattle.navigator.specs.declared.scopes.ScopeState.{ScopeState}
 use Rattle.navigator.proofs.Begun.{begin_shows}
 use Rattle.navigator.proofs.Completing.{complete_shows}
 use Rattle.navigator.proofs.Ending.{end_shows}
-use Rattle.navigator.proofs.MoreLooked.{most_output, most_shows, IsSameView, same_view}
+use Rattle.navigator.proofs.MoreLooked.{most_output, most_shows, IsSameView, same_view, starts_most}
 use Rattle.navigator.proofs.Signalled.{signal_shows}
 use Rattle.navigator.proofs.Stepping.{IsLocal, path_shows, leads_along, counted_covers, counted_at, counted_most}
-use Rattle.view_laws.specs.Coming.{IsNew, IsFedWhereKnown, started_in, MayBegin, MaySignal, MayEnd, MayComplete, Leads, Comes}
+use Rattle.view_laws.specs.Coming.{IsNew, IsFedWhereKnown, MayBegin, MaySignal, MayEnd, MayComplete, Leads, Comes}
 use Rattle.view_laws.specs.Learning.{with_begin, with_signal, with_end, with_output, with_below, learnt, with_most}
 use Rattle.view_laws.specs.Messages.{Note, BeginNote, SignalNote, EndNote}
 
-usable_of : (ts : List Template) (depth : ℕ) (g : Graph) → Served ts depth g → IsUsable g
+pub usable_of : (ts : List Template) (depth : ℕ) (g : Graph) → Served ts depth g → IsUsable g
 usable_of ts zero g served = served.usable
 usable_of ts (suc depth) g served = served.usable
 
@@ -52,12 +52,6 @@ new_most most k q is = record {
 fed_most : (ts : List Template) (depth most : ℕ) (k : Known) (g : Graph) (input : Container) → tree_ends ts depth (with_most most k) g input ≡ tree_ends ts depth k g input
     → IsFedWhereKnown ts depth k g input → IsFedWhereKnown ts depth (with_most most k) g input
 fed_most ts depth most k g input ends fed = λ a activity is known. rw ends (fed a activity is (rw ends at known))
-
-starts_most : (ts : List Template) (depth most : ℕ) (k : Known) (g : Graph) (input : Container) → IsSameView ts depth k most g input → (a : ℕ) (activity : Activity)
-    → slice_get (out-Graph g).activities a ≡ Some activity → started_in ts depth (with_most most k) g input a activity ≡ started_in ts depth k g input a activity
-starts_most ts depth most k g input same a activity is =
-    ap (λ e. started_at ts (with_most most k) (output ts depth) g input e a activity) same.ends
-    ∙ same.starts (tree_ends ts depth k g input) a activity is
 
 fate_most : (ts : List Template) (depth most : ℕ) (k : Known) (g : Graph) (input : Container) → IsSameView ts depth k most g input → (a : ℕ)
     → tree_fate ts depth (with_most most k) g input a ≡ tree_fate ts depth k g input a
@@ -201,22 +195,22 @@ leads_now ts q most (r ∷ p) (suc depth) k g input well counted le leads =
       within = leads_now ts q most p depth (at r k) leads.graph leads.start.input (well.inside leads.place leads.activity leads.is leads.graph leads.of) (counted_at r k counted) le leads.within;
     }
 
-output_most : (q : Part) (out : Container) (most : ℕ) (p : List Part) (k : Known) → learnt (with_output q out) p (with_most most k) ≡ with_most most (learnt (with_output q out) p k)
+pub output_most : (q : Part) (out : Container) (most : ℕ) (p : List Part) (k : Known) → learnt (with_output q out) p (with_most most k) ≡ with_most most (learnt (with_output q out) p k)
 output_most q out most [] k = refl
 output_most q out most (r ∷ p) k = ap (λ j. with_below r j (with_most most k)) (output_most q out most p (at r k))
 
 -- ---- messages
 
-begin_local : IsLocal with_begin
+pub begin_local : IsLocal with_begin
 begin_local = record { most = λ k. refl; given = λ k. refl; closed = λ k. refl }
 
-signal_local : (a b : ℕ) (v : Bool) → IsLocal (with_signal a b v)
+pub signal_local : (a b : ℕ) (v : Bool) → IsLocal (with_signal a b v)
 signal_local a b v = record { most = λ k. refl; given = λ k. refl; closed = λ k. refl }
 
-end_local : (q : Part) → IsLocal (with_end q)
+pub end_local : (q : Part) → IsLocal (with_end q)
 end_local q = record { most = λ k. refl; given = λ k. refl; closed = λ k. refl }
 
-output_local : (q : Part) (out : Container) → IsLocal (with_output q out)
+pub output_local : (q : Part) (out : Container) → IsLocal (with_output q out)
 output_local q out = record { most = λ k. refl; given = λ k. refl; closed = λ k. refl }
 
 pub taken_shown : (ts : List Template) (clock : ℕ) (message : Message) (g : Graph) (s s' : ScopeState) (given : List Message) (items : List Path) → Takes ts clock message g s s' given items
