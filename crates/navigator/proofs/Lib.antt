@@ -40,3 +40,4 @@ pub mod MoreDueLooked
 pub mod Given
 pub mod PutGiven
 pub mod DrivenShown
+pub mod AttemptInputs

@@ -10,3 +10,4 @@ pub mod Serving
 pub mod Showing
 pub mod Giving
 pub mod Driven
+pub mod ItemInputs

@@ -11,6 +11,7 @@ ghost use Rattle.flow_model.specs.declared.graphs.Graph.{Graph as Process, out-G
 ghost use Rattle.flow_model.specs.declared.instances.Fate.{Fate as Stands};
 ghost use Rattle.flow_model.specs.declared.graphs.MapEnd.TheVariants.{Border};
 ghost use Rattle.flow_model.specs.declared.graphs.Template.{Template};
+ghost use Rattle.navigator.specs.ItemInputs.{ReadsAttempt};
 ghost use Rattle.navigator.specs.Items.{item_input};
 ghost use Rattle.navigator.specs.Reading.{state_fate};
 ghost use Rattle.navigator.specs.ViewRows.{AreNumbered, attempt_rows, inner_rows, rows_within, view_rows};
@@ -154,8 +155,8 @@ impl Instance {
 }
 
 impl<'a> Item<'a> {
-    /// The input of the item: the base input, with the LOOP maps from the output of the attempt before it.
-    pub fn input(&self, alloc: Global) -> Result<Container, AllocError>
+    /// The base input, with the LOOP maps from the output of the attempt before.
+    fn looped_input(&self, alloc: Global) -> Result<Container, AllocError>
         ensures { self.now.number < 2 ^ 32 → IsFeeding self.now.place.graph.now → IsLooping self.now.place.graph.now → IfOk result (λ c. c ≡ item_input self.now.place.graph.now self.now.place.scope.now self.now.number self.now.state.now self.now.attempt) }
     {
         let (graph, scope) = (self.place.graph, self.place.scope);
@@ -165,6 +166,14 @@ impl<'a> Item<'a> {
             None => Ok(base),
             Some(last) => next_input(alloc, graph, number, base, last),
         }
+    }
+
+    /// The input of the item: the base input, with the LOOP maps from the output of the attempt before it.
+    pub fn input(&self, alloc: Global) -> Result<Container, AllocError>
+        ensures state { self.now.number < 2 ^ 32 → IsFeeding self.now.place.graph.now → IsLooping self.now.place.graph.now → IfOk result (λ c. c ≡ item_input self.now.place.graph.now self.now.place.scope.now self.now.number self.now.state.now self.now.attempt) }
+        ensures shows { self.now.number < 2 ^ 32 → IsFeeding self.now.place.graph.now → IsLooping self.now.place.graph.now → IfOk result (λ c. ReadsAttempt self.now.place.graph.now self.now.place.scope.now self.now.number self.now.state.now self.now.attempt c) }
+    {
+        self.looped_input(alloc)
     }
 
     /// The fate of the item's activity.
