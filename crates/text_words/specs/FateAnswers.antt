@@ -20,6 +20,8 @@ use Rattle.text_words.specs.declared.check.Answer.{Answer}
 use Rattle.text_words.specs.declared.completions.LineFault.{LineFault}
 use Rattle.text_words.specs.declared.completions.LineFault.TheVariants.{Word, Target, Value}
 use Rattle.text_words.specs.declared.completions.Read.{Read}
+use Rattle.text_words.specs.declared.input.Numbered.{Numbered}
+use Rattle.text_words.specs.Completions.{IsFrom}
 
 -- DONE where the root has an output, else OPEN
 abbrev pub state_word : Option Container → List ℕ
@@ -81,15 +83,15 @@ pub record IsOfLast (answer : Answer) (ts : List Template) (last : Template) (re
   pub there : slice_get ts (length ts - 1) ≡ Some last
   pub answers : AnswersRead answer ts last.graph read
 
--- the answer over the processes of a text: there is none, or the last one is asked
-abbrev pub AnswersLibrary : Answer → List Template → Type 0
-AnswersLibrary answer ts = ((ts ≡ []) × Refuses answer (codes "PROCESS") []) ⊎ (last : Template) × (read : Read) × IsOfLast answer ts last read
+-- the answer over the processes of a text: there is none, or the last one is asked by completions of the lines behind it
+abbrev pub AnswersLibrary : Answer → List Template → List Numbered → Type 0
+AnswersLibrary answer ts behind = ((ts ≡ []) × Refuses answer (codes "PROCESS") []) ⊎ (last : Template) × (read : Read) × IsOfLast answer ts last read × IsFrom behind read
 
 -- the processes of a text, which are laid out to be passed through
-pub record IsAnsweredBy (answer : Answer) (ts : List Template) : Type 0 where
+pub record IsAnsweredBy (answer : Answer) (ts : List Template) (behind : List Numbered) : Type 0 where
   pub laid : AreLaidAlone ts
-  pub answers : AnswersLibrary answer ts
+  pub answers : AnswersLibrary answer ts behind
 
 -- the answer to a text that has an end: the refusal of a rule, or the answer over its processes
-abbrev pub AnswersText : Answer → Type 0
-AnswersText answer = ((fault : RuleFault) × RefusesRule answer fault) ⊎ (ts : List Template) × IsAnsweredBy answer ts
+abbrev pub AnswersText : Answer → List Numbered → Type 0
+AnswersText answer behind = ((fault : RuleFault) × RefusesRule answer fault) ⊎ (ts : List Template) × IsAnsweredBy answer ts behind

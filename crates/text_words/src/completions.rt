@@ -1,6 +1,6 @@
 //! The completion lines of `fate`, as far as the first one that can't be accepted.
 ghost use Rattle.std.specs.Prelude.{◌≡◌, [], ◌∷◌, ◌++◌, length, IfOk, IfSome, OnOk};
-ghost use Rattle.text_words.specs.Completions.{IsOfOne, KeepsRead};
+ghost use Rattle.text_words.specs.Completions.{IsOfOne, IsFrom, KeepsRead, KeepsFrom};
 
 use crate::input::Numbered;
 use blocks_subprocs::graph_of;
@@ -107,14 +107,16 @@ fn item_of(alloc: Global, facts: &[Fact], target: &Target) -> Result<Option<Path
 
 impl Read {
     fn stop(&mut self, line: u64, fault: LineFault)
-        ensures { (self.new.facts ≡ self.old.facts) × (self.new.lines ≡ self.old.lines) }
+        ensures same { (self.new.facts ≡ self.old.facts) × (self.new.lines ≡ self.old.lines) }
+        ensures from { KeepsFrom line self.old self.new }
     {
         self.fault = Some((line, fault));
     }
 
     fn accept(&mut self, line: u64, fact: Fact) -> Result<(), AllocError>
         requires { fact.item.root ≡ 1 }
-        ensures { OnOk result (KeepsRead self.old self.new) }
+        ensures of_one { OnOk result (KeepsRead self.old self.new) }
+        ensures from { OnOk result (KeepsFrom line self.old self.new) }
     {
         self.facts.push(fact)?;
         self.lines.push(line)?;
@@ -132,7 +134,8 @@ impl Read {
         outcome: &Outcome,
     ) -> Result<(), AllocError>
         requires { item.root ≡ 1 }
-        ensures { OnOk result (KeepsRead self.old self.new) }
+        ensures of_one { OnOk result (KeepsRead self.old self.new) }
+        ensures from { OnOk result (KeepsFrom line self.old self.new) }
     {
         let output = fresh(alloc, &activity.output)?;
         let settings = outcome.settings.as_slice();
@@ -157,7 +160,8 @@ impl Read {
         line: u64,
         completion: &Completion,
     ) -> Result<(), AllocError>
-        ensures { OnOk result (KeepsRead self.old self.new) }
+        ensures of_one { OnOk result (KeepsRead self.old self.new) }
+        ensures from { OnOk result (KeepsFrom line self.old self.new) }
     {
         let Some(item) = item_of(alloc, &self.facts, &completion.target)? else {
             self.stop(line, LineFault::Target);
@@ -180,7 +184,8 @@ pub fn read_completions(
     graph: &Graph,
     lines: &[Numbered],
 ) -> Result<Read, AllocError>
-    ensures { IfOk result IsOfOne }
+    ensures of_one { IfOk result IsOfOne }
+    ensures from { IfOk result (IsFrom lines.now) }
 {
     let mut read = Read {
         facts: Vec::new(alloc),

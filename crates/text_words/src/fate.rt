@@ -150,7 +150,7 @@ fn by_completions(
 /// The answer over an accepted text.
 fn over_library(alloc: Global, library: &Library, input: &Input) -> Result<Answer, AllocError>
     requires { AreLaidAlone library.now.templates }
-    ensures { IfOk result (λ answer. AnswersLibrary answer library.now.templates) }
+    ensures { IfOk result (λ answer. AnswersLibrary answer library.now.templates input.now.behind.items) }
 {
     let count = library.templates.len();
     let place = count.saturating_sub(1);
@@ -168,7 +168,7 @@ fn over_library(alloc: Global, library: &Library, input: &Input) -> Result<Answe
 pub fn fated(alloc: Global, input: &Input) -> Result<Answer, AllocError>
     ensures long { (line : ℕ) → input.now.too_long ≡ Some line → IfOk result (λ answer. Refuses answer (codes "LINE") (line ∷ [])) }
     ensures unended { input.now.too_long ≡ None → input.now.is_ended ≡ false → IfOk result (λ answer. Refuses answer (codes "UNENDED") []) }
-    ensures judged { input.now.too_long ≡ None → input.now.is_ended ≡ true → IfOk result AnswersText }
+    ensures judged { input.now.too_long ≡ None → input.now.is_ended ≡ true → IfOk result (λ answer. AnswersText answer input.now.behind.items) }
 {
     if let Some(line) = input.too_long {
         return refusal(alloc, b"LINE", &[line]);
