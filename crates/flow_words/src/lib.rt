@@ -4,11 +4,7 @@
 //! tokens or gates. Begin with [`run_pure`].
 #![tactic(auto)]
 
-mod check;
-mod completions;
-mod fate;
 mod following;
-mod input;
 mod load;
 mod looking;
 mod numbers;

@@ -5,7 +5,6 @@ ghost use Rattle.flow_session.specs.Runs.{KeepsStore};
 ghost use Rattle.flow_words.specs.Crashes.{IsFailing};
 ghost use Rattle.flow_words.specs.declared.status.Status.TheVariants.{Done as DoneStatus, Refused as RefusedStatus};
 
-use crate::input::all_lines;
 use crate::script::{line_status, print};
 use crate::status::Status;
 use crate::stored::refuse;
@@ -16,6 +15,7 @@ use flow_disk::Disk;
 use flow_io::{Sink, Source};
 use flow_session::reopen;
 use std::alloc::Global;
+use text_words::all_lines;
 
 /// Prints an answer, and says whether it is a refusal.
 pub fn print_answer<K: Sink>(out: &mut K, text: &[u8], is_refused: bool) -> Result<Status, Status>

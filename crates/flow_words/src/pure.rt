@@ -2,15 +2,13 @@
 ghost use Rattle.std.specs.Prelude.{◌≡◌, ℕ};
 ghost use Rattle.flow_words.specs.Endings.{PrintCause, RunCause, EndCause};
 
-use crate::check::{Answer, checked};
-use crate::fate::fated;
-use crate::input::Input;
 use crate::load::load;
 use crate::numbers::{Settings, number_in, settings_of};
 use crate::script::{line_status, print, try_script};
 use crate::status::Status;
 use flow_io::{Sink, Source};
 use std::alloc::{AllocError, Global};
+use text_words::{Answer, Input, checked, fated};
 
 /// A load begins with a number below 2^31 and makes at most so many roots.
 const MOST_SEED: u64 = 2_147_483_647;

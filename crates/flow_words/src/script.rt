@@ -5,12 +5,12 @@ ghost use Rattle.flow_session.specs.Serving.{Makes};
 ghost use Rattle.flow_words.specs.Crashes.{IsFailing};
 ghost use Rattle.flow_words.specs.Endings.{PrintCause, RunCause, status_of};
 
-use crate::input::MOST_BYTES;
 use crate::numbers::Settings;
 use crate::status::Status;
 use flow_io::{IoStop, Line, Lines, Sink, Source, put_all};
 use flow_session::{Input, Journal, NoJournal, Session, Stop};
 use std::alloc::Global;
+use text_words::MOST_BYTES;
 
 /// Prints a text.
 pub fn print<K: Sink>(out: &mut K, text: &[u8]) -> Result<(), Status>

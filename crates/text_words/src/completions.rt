@@ -1,4 +1,7 @@
 //! The completion lines of `fate`, as far as the first one that can't be accepted.
+ghost use Rattle.std.specs.Prelude.{◌≡◌, [], ◌∷◌, ◌++◌, length, IfOk, IfSome, OnOk};
+ghost use Rattle.text_words.specs.Completions.{IsOfOne, IsFrom, KeepsRead, KeepsFrom};
+
 use crate::input::Numbered;
 use blocks_subprocs::graph_of;
 use command_lang::{CommandFault, read_completion};
@@ -67,7 +70,9 @@ fn is_of(fact: &Fact, name: &Name) -> bool {
 }
 
 /// The ready attempt of an activity of the root scope, if it has one: the one after those that were completed.
-fn named_item(alloc: Global, facts: &[Fact], name: &Name) -> Result<Path, AllocError> {
+fn named_item(alloc: Global, facts: &[Fact], name: &Name) -> Result<Path, AllocError>
+    ensures { IfOk result (λ path. path.root ≡ 1) }
+{
     let done = facts.iter().filter(|fact| is_of(fact, name)).count() as u64;
     let mut parts = List::new(alloc);
     parts.push(Part {
@@ -86,7 +91,9 @@ pub fn unquoted(token: &[u8]) -> &[u8] {
 }
 
 /// The item that a line completes; None where it is none of root 1.
-fn item_of(alloc: Global, facts: &[Fact], target: &Target) -> Result<Option<Path>, AllocError> {
+fn item_of(alloc: Global, facts: &[Fact], target: &Target) -> Result<Option<Path>, AllocError>
+    ensures { IfOk result (λ item. IfSome item (λ path. path.root ≡ 1)) }
+{
     match target {
         Target::Activity(name) => Ok(Some(named_item(alloc, facts, name)?)),
         Target::Item(token) => match path_of(alloc, unquoted(token.as_slice())) {
@@ -99,11 +106,18 @@ fn item_of(alloc: Global, facts: &[Fact], target: &Target) -> Result<Option<Path
 }
 
 impl Read {
-    fn stop(&mut self, line: u64, fault: LineFault) {
+    fn stop(&mut self, line: u64, fault: LineFault)
+        ensures same { (self.new.facts ≡ self.old.facts) × (self.new.lines ≡ self.old.lines) }
+        ensures from { KeepsFrom line self.old self.new }
+    {
         self.fault = Some((line, fault));
     }
 
-    fn accept(&mut self, line: u64, fact: Fact) -> Result<(), AllocError> {
+    fn accept(&mut self, line: u64, fact: Fact) -> Result<(), AllocError>
+        requires { fact.item.root ≡ 1 }
+        ensures of_one { OnOk result (KeepsRead self.old self.new) }
+        ensures from { OnOk result (KeepsFrom line self.old self.new) }
+    {
         self.facts.push(fact)?;
         self.lines.push(line)?;
         Ok(())
@@ -118,7 +132,11 @@ impl Read {
         item: Path,
         activity: &Activity,
         outcome: &Outcome,
-    ) -> Result<(), AllocError> {
+    ) -> Result<(), AllocError>
+        requires { item.root ≡ 1 }
+        ensures of_one { OnOk result (KeepsRead self.old self.new) }
+        ensures from { OnOk result (KeepsFrom line self.old self.new) }
+    {
         let output = fresh(alloc, &activity.output)?;
         let settings = outcome.settings.as_slice();
         match settings_of(alloc, &activity.output, outcome.rc.as_ref(), settings)? {
@@ -141,7 +159,10 @@ impl Read {
         graph: &Graph,
         line: u64,
         completion: &Completion,
-    ) -> Result<(), AllocError> {
+    ) -> Result<(), AllocError>
+        ensures of_one { OnOk result (KeepsRead self.old self.new) }
+        ensures from { OnOk result (KeepsFrom line self.old self.new) }
+    {
         let Some(item) = item_of(alloc, &self.facts, &completion.target)? else {
             self.stop(line, LineFault::Target);
             return Ok(());
@@ -162,7 +183,10 @@ pub fn read_completions(
     library: &Library,
     graph: &Graph,
     lines: &[Numbered],
-) -> Result<Read, AllocError> {
+) -> Result<Read, AllocError>
+    ensures of_one { IfOk result IsOfOne }
+    ensures from { IfOk result (IsFrom lines.now) }
+{
     let mut read = Read {
         facts: Vec::new(alloc),
         lines: Vec::new(alloc),

@@ -1,0 +1,94 @@
+-- How the answers of the parts of `fate` are answers of the whole.
+use Rattle.std.proofs.Common.{◌≡◌, ℕ, ◌-◌, Option, Some, List, [], ◌∷◌, Result, IfOk, codes, length, slice_get, unwrap_or, inl, inr, subst}
+use Rattle.std.specs.List.{All}
+use Rattle.std.proofs.lemmas.Option.{get_or_from_slice_get, slice_get_within}
+use Rattle.std.proofs.lemmas.Result.{IfOk-weaker}
+use Rattle.fate_eval.specs.Passing.{AreFates}
+use Rattle.fate_eval.specs.Refusals.{AreOf, IsWithin, IsBehindReady, IsFirstUnready}
+use Rattle.fate_eval.specs.declared.results.FateFault.{FateFault}
+use Rattle.fate_eval.specs.declared.results.FateFault.TheVariants.{NotReady}
+use Rattle.fate_laws.specs.Layout.{Laid}
+use Rattle.fate_laws.specs.WellFormed.{Well}
+use Rattle.flow_model.specs.Containers.{fresh}
+use Rattle.flow_model.specs.Rows.{deepest, AreReady}
+use Rattle.flow_model.specs.declared.graphs.Container.{Container}
+use Rattle.flow_model.specs.declared.graphs.Graph.{Graph, out-Graph}
+use Rattle.flow_model.specs.declared.graphs.Leaves.{Leaves}
+use Rattle.flow_model.specs.declared.graphs.Template.{Template}
+use Rattle.flow_model.specs.declared.instances.Fact.{Fact}
+use Rattle.flow_model.specs.declared.instances.FateRow.{FateRow}
+use Rattle.template_check.specs.Built.{AreLaidAlone}
+use Rattle.template_check.proofs.Together.{laid_together}
+use Rattle.text_words.specs.Answers.{Refuses}
+use Rattle.text_words.specs.FateAnswers.{fates_text, fates_by, TellsFates, IsOfLast}
+use Rattle.text_words.specs.declared.check.Answer.{Answer}
+use Rattle.text_words.specs.declared.completions.Read.{Read}
+
+-- what holds of all holds of the one at a place
+all_there : {X : Type 0} (P : X → Type 0) (xs : List X) (i : ℕ) (x : X) → All P xs → slice_get xs i ≡ Some x → P x
+all_there P xs i x all is = subst P (get_or_from_slice_get xs i x x is) (all i x (slice_get_within xs i x is))
+
+-- completions that are all of root 1
+pub all_of_one : (facts : List Fact) → All (λ (fact : Fact). fact.item.root ≡ 1) facts → AreOf 1 facts
+all_of_one facts all = λ i f is. all_there (λ (fact : Fact). fact.item.root ≡ 1) facts i f all is
+
+-- a process of a text is laid with those that it runs
+pub laid_there : (ts : List Template) (n : ℕ) (t : Template) → AreLaidAlone ts → slice_get ts n ≡ Some t → Laid ts deepest t.graph
+laid_there ts n t alone is = all_there (λ (t : Template). Laid ts deepest t.graph) ts n t (laid_together ts alone deepest) is
+
+same_text : (of : Leaves) {a b : List FateRow} {o p : Option Container} → a ≡ b → o ≡ p → fates_text of a o ≡ fates_text of b p
+same_text of e f = cc
+
+-- what a fault tells
+pub record HasFault (ts : List Template) (g : Graph) (input : Container) (facts : List Fact) (fault : FateFault) : Type 0 where
+  pub within : IsWithin (length facts) fault
+  pub behind : IsBehindReady ts deepest g 1 input facts fault
+  pub first : Well ts deepest g → IsFirstUnready ts g 1 input facts fault
+
+-- what fates tell
+pub record HasFates (ts : List Template) (g : Graph) (input : Container) (facts : List Fact) (shown : List FateRow) (out : Option Container) : Type 0 where
+  pub ready : AreReady ts g 1 input facts (length facts)
+  pub fates : AreFates ts deepest g 1 input facts shown out
+
+module _ {E : Type 0} (r : Result Answer E) (ts : List Template) (t : Template) (read : Read) (input : Container) (facts : List Fact) where
+  -- a completion isn't ready
+  pub answers_not_ready : (fault : FateFault) (n line : ℕ) → slice_get ts (length ts - 1) ≡ Some t → input ≡ fresh (out-Graph t.graph).input → facts ≡ read.facts.items → fault ≡ NotReady n
+      → line ≡ unwrap_or (slice_get read.lines.items n) 0 → HasFault ts t.graph input facts fault
+      → IfOk r (λ answer. Refuses answer (codes "NOTREADY") (line ∷ []))
+      → IfOk r (λ answer. IsOfLast answer ts t read)
+  answers_not_ready fault n line there same these is line_is has h =
+      let g = t.graph in
+      let one = subst (λ (f : FateFault). HasFault ts g input facts f) is has in
+      let two = subst (λ (fs : List Fact). HasFault ts g input fs (NotReady n)) these one in
+      let three = subst (λ (i : Container). HasFault ts g i read.facts.items (NotReady n)) same two in
+      IfOk-weaker r (λ (answer : Answer). Refuses answer (codes "NOTREADY") (line ∷ [])) (λ (answer : Answer). IsOfLast answer ts t read)
+      (λ (answer : Answer) says.
+      record {
+        there = there;
+        answers = inr (
+          n,
+          record {
+            within = three.within;
+            before = three.behind;
+            here = λ well. (three.first well).1;
+            refuses = subst (λ (l : ℕ). Refuses answer (codes "NOTREADY") (l ∷ [])) line_is says;
+          },
+        );
+      }) h
+
+  -- the fates are told, or a line can't be accepted
+  pub answers_accepted : (shown : List FateRow) (out : Option Container) → slice_get ts (length ts - 1) ≡ Some t → input ≡ fresh (out-Graph t.graph).input → facts ≡ read.facts.items
+      → HasFates ts t.graph input facts shown out
+      → IfOk r (λ answer. TellsFates answer (fates_text (out-Graph t.graph).output shown out) read.fault)
+      → IfOk r (λ answer. IsOfLast answer ts t read)
+  answers_accepted shown out there same these has h =
+      let g = t.graph in
+      let one = subst (λ (fs : List Fact). HasFates ts g input fs shown out) these has in
+      let two = subst (λ (i : Container). HasFates ts g i read.facts.items shown out) same one in
+      let text : fates_text (out-Graph g).output shown out ≡ fates_by ts g read.facts.items = same_text (out-Graph g).output two.fates.rows two.fates.output in
+      IfOk-weaker r (λ (answer : Answer). TellsFates answer (fates_text (out-Graph g).output shown out) read.fault) (λ (answer : Answer). IsOfLast answer ts t read)
+      (λ (answer : Answer) says.
+      record {
+        there = there;
+        answers = inl (record { ready = two.ready; tells = subst (λ (l : List ℕ). TellsFates answer l read.fault) text says });
+      }) h

@@ -1,0 +1,97 @@
+-- What the word `fate` answers.
+use Rattle.std.specs.Prelude.{◌≡◌, ℕ, ◌<◌, ◌-◌, ◌⊎◌, Option, Some, None, List, [], ◌∷◌, ◌++◌, codes, length, slice_get, unwrap_or}
+use Rattle.std.specs.List.{flat_map}
+use Rattle.std.specs.Fmt.{decimal}
+use Rattle.flow_model.specs.Containers.{fresh}
+use Rattle.flow_model.specs.Rows.{deepest, fate_rows, fate_output, AreReady, IsReadyBy}
+use Rattle.flow_model.specs.declared.graphs.Container.{Container}
+use Rattle.flow_model.specs.declared.graphs.Graph.{Graph, out-Graph}
+use Rattle.flow_model.specs.declared.graphs.Leaves.{Leaves}
+use Rattle.flow_model.specs.declared.graphs.Template.{Template}
+use Rattle.flow_model.specs.declared.instances.Fact.{Fact}
+use Rattle.flow_model.specs.declared.instances.FateRow.{FateRow}
+use Rattle.fate_laws.specs.WellFormed.{Well}
+use Rattle.reply_text.specs.Leaves.{container_text}
+use Rattle.reply_text.specs.Replies.{row_text}
+use Rattle.text_words.specs.Answers.{Tells, Refuses, RefusesRule}
+use Rattle.template_check.specs.declared.faults.RuleFault.{RuleFault}
+use Rattle.template_check.specs.Built.{AreLaidAlone}
+use Rattle.text_words.specs.declared.check.Answer.{Answer}
+use Rattle.text_words.specs.declared.completions.LineFault.{LineFault}
+use Rattle.text_words.specs.declared.completions.LineFault.TheVariants.{Word, Target, Value}
+use Rattle.text_words.specs.declared.completions.Read.{Read}
+use Rattle.text_words.specs.declared.input.Numbered.{Numbered}
+use Rattle.text_words.specs.Completions.{IsFrom}
+
+-- DONE where the root has an output, else OPEN
+abbrev pub state_word : Option Container → List ℕ
+state_word (Some output) = codes "DONE "
+state_word None = codes "OPEN "
+
+-- a line that ends with a number
+abbrev pub counted : List ℕ → ℕ → List ℕ
+counted words number = words ++ decimal number ++ 10 ∷ []
+
+-- a line with the number of values, and a line for each
+abbrev pub complete_text : Leaves → Container → List ℕ
+complete_text of output = counted (codes "ok OUTPUT 1 ") (length output.values) ++ container_text of output
+
+-- the output of a root, where it has one
+abbrev pub output_text : Leaves → Option Container → List ℕ
+output_text of None = []
+output_text of (Some output) = complete_text of output
+
+-- the state and the number of rows, a line for each row, and the output of a root that is complete
+abbrev pub fates_text : Leaves → List FateRow → Option Container → List ℕ
+fates_text of rows output = codes "ok FATE " ++ state_word output ++ decimal (length rows) ++ 10 ∷ [] ++ flat_map row_text rows ++ output_text of output
+
+-- the fates of root 1 of a process by these completions
+abbrev pub fates_by : List Template → Graph → List Fact → List ℕ
+fates_by ts g facts =
+    let input = fresh (out-Graph g).input in
+    fates_text (out-Graph g).output (fate_rows ts g 1 input (length facts) facts) (fate_output ts g input (length facts) facts)
+
+-- the refusal of a line whose item could be ready
+abbrev pub RefusesLine : Answer → ℕ → LineFault → Type 0
+RefusesLine answer line (Word place) = Refuses answer (codes "WORD") (line ∷ place ∷ [])
+RefusesLine answer line Target = Refuses answer (codes "NOTREADY") (line ∷ [])
+RefusesLine answer line (Value place) = Refuses answer (codes "VALUE") (line ∷ place ∷ [])
+
+-- the text of the fates, unless a line can't be accepted
+abbrev pub TellsFates : Answer → List ℕ → Option (ℕ × LineFault) → Type 0
+TellsFates answer text None = Tells answer text
+TellsFates answer text (Some fault) = RefusesLine answer fault.0 fault.1
+
+-- each completion is ready by those before it, and so the fates are told
+pub record IsAccepted (answer : Answer) (ts : List Template) (g : Graph) (read : Read) : Type 0 where
+  pub ready : AreReady ts g 1 (fresh (out-Graph g).input) read.facts.items (length read.facts.items)
+  pub tells : TellsFates answer (fates_by ts g read.facts.items) read.fault
+
+-- completion n is the first that isn't ready by those before it, and its line is named
+pub record IsNotReady (answer : Answer) (ts : List Template) (g : Graph) (read : Read) (n : ℕ) : Type 0 where
+  pub within : n < length read.facts.items
+  pub before : AreReady ts g 1 (fresh (out-Graph g).input) read.facts.items n
+  pub here : Well ts deepest g → (f : Fact) → slice_get read.facts.items n ≡ Some f → IsReadyBy ts g 1 (fresh (out-Graph g).input) read.facts.items n f → ⊥
+  pub refuses : Refuses answer (codes "NOTREADY") (unwrap_or (slice_get read.lines.items n) 0 ∷ [])
+
+-- the answer to the completions that were read
+abbrev pub AnswersRead : Answer → List Template → Graph → Read → Type 0
+AnswersRead answer ts g read = IsAccepted answer ts g read ⊎ (n : ℕ) × IsNotReady answer ts g read n
+
+-- the last process of the text, by the completions that were read
+pub record IsOfLast (answer : Answer) (ts : List Template) (last : Template) (read : Read) : Type 0 where
+  pub there : slice_get ts (length ts - 1) ≡ Some last
+  pub answers : AnswersRead answer ts last.graph read
+
+-- the answer over the processes of a text: there is none, or the last one is asked by completions of the lines behind it
+abbrev pub AnswersLibrary : Answer → List Template → List Numbered → Type 0
+AnswersLibrary answer ts behind = ((ts ≡ []) × Refuses answer (codes "PROCESS") []) ⊎ (last : Template) × (read : Read) × IsOfLast answer ts last read × IsFrom behind read
+
+-- the processes of a text, which are laid out to be passed through
+pub record IsAnsweredBy (answer : Answer) (ts : List Template) (behind : List Numbered) : Type 0 where
+  pub laid : AreLaidAlone ts
+  pub answers : AnswersLibrary answer ts behind
+
+-- the answer to a text that has an end: the refusal of a rule, or the answer over its processes
+abbrev pub AnswersText : Answer → List Numbered → Type 0
+AnswersText answer behind = ((fault : RuleFault) × RefusesRule answer fault) ⊎ (ts : List Template) × IsAnsweredBy answer ts behind

@@ -1,0 +1,14 @@
+//! What do the words `check` and `fate` answer to a text?
+//!
+//! Knows the order of reading and judging, and what is printed; never a store, an engine or who asks. Begin with
+//! [`fated`] and [`checked`], and with `specs/FateAnswers.antt`, which says what `fate` prints.
+#![tactic(auto)]
+
+mod check;
+mod completions;
+mod fate;
+mod input;
+
+pub use check::{Answer, checked};
+pub use fate::fated;
+pub use input::{Input, MOST_BYTES, Numbered, all_lines};
