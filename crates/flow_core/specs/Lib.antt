@@ -1,3 +1,4 @@
 pub mod Summaries
 pub mod Verdicts
 pub mod Replies
+pub mod Answers

@@ -1,53 +1,20 @@
 //! Replies to queries and to transactions.
-ghost use Rattle.std.specs.Prelude.{◌≡◌, ◌++◌, ◌∷◌, [], OnOk};
-ghost use Rattle.std.specs.Fmt.{decimal as digits_of};
-ghost use Rattle.flow_core.specs.Replies.{note_text, applied_text};
+ghost use Rattle.std.specs.Prelude.{◌≡◌, ◌++◌, Some, OnOk, IfOk};
+ghost use Rattle.template_check.specs.Imports.{IsIndexed, latest_person};
+ghost use Rattle.flow_core.specs.Replies.{note_text, applied_text, refusal_text};
+ghost use Rattle.flow_core.specs.Answers.{templates_text as text_of_templates, queue_answer, audit_answer, instance_of, IsShown, IsListed, IsAnswer};
+ghost use Rattle.flow_core.specs.declared.refusals.Refusal.TheVariants.{Item};
 
-use crate::applying::{Applied, Note, transaction_root};
+use crate::applying::{Applied, Note};
+use crate::listings::{write_audit, write_queue, write_templates, write_view, write_worklist};
 use crate::paths::unquoted;
-use crate::refusals::{Refusal, Stop, write_refusal};
+use crate::refusals::{Refusal, write_refusal};
 use crate::state::Core;
-use audit_trail::{audit, write_message};
-use flow_model::{Bytes, Mode, Name, PathFault, Query, Setting, Transaction, Value, path_of};
-use flow_text::{decimal, quoted_name};
-use reply_text::{write_container, write_fate, write_mode, write_quoted_path, write_row};
+use crate::words::{end_line, numbered};
+use audit_trail::write_message;
+use flow_model::{Bytes, Mode, Name, PathFault, PersonDef, Query, path_of};
+use reply_text::{write_container, write_fate, write_mode, write_quoted_path};
 use std::alloc::AllocError;
-
-/// The return code that settings give.
-fn return_code(settings: &[Setting]) -> i64 {
-    let mut code = 0;
-    for setting in settings {
-        if setting.leaf == 0 {
-            if let Value::Whole(number) = &setting.value {
-                code = *number;
-            }
-        }
-    }
-    code
-}
-
-/// The return code of a completion; 0 of other transactions.
-fn code_of(t: &Transaction) -> i64 {
-    match t {
-        Transaction::Done(_, _, settings) => return_code(settings.as_slice()),
-        Transaction::Force(_, settings) => return_code(settings.as_slice()),
-        _ => 0,
-    }
-}
-
-fn numbered(out: &mut Vec<u8>, words: &[u8], number: u64) -> Result<(), AllocError>
-    ensures { OnOk result (out.new.items ≡ out.old.items ++ (words.now ++ digits_of number)) }
-{
-    out.extend_from_slice(words)?;
-    decimal(out, number)
-}
-
-fn end_line(out: &mut Vec<u8>) -> Result<(), AllocError>
-    ensures { OnOk result (out.new.items ≡ out.old.items ++ 10 ∷ []) }
-{
-    out.push(b'\n')?;
-    Ok(())
-}
 
 /// Appends what the reply of a transaction says behind its number.
 fn write_note(out: &mut Vec<u8>, note: &Note) -> Result<(), AllocError>
@@ -80,153 +47,128 @@ pub fn write_applied(out: &mut Vec<u8>, applied: &Applied) -> Result<(), AllocEr
 }
 
 impl Core {
-    fn show(&self, root: u64, out: &mut Vec<u8>) -> Result<(), Stop> {
+    fn refused(&self, refusal: &Refusal) -> Result<Vec<u8>, AllocError>
+        ensures { IfOk result (λ out. out.items ≡ refusal_text refusal.now) }
+    {
+        let mut out = Vec::new(self.alloc);
+        write_refusal(&mut out, refusal)?;
+        Ok(out)
+    }
+
+    fn show(&self, root: u64) -> Result<Vec<u8>, AllocError>
+        ensures { IfOk result (λ out. IsShown root (instance_of self.now root) out.items) }
+    {
         let Some(instance) = self.instance(root) else {
-            return Err(Stop::Refused(Refusal::Root(root)));
+            return self.refused(&Refusal::Root(root));
         };
         let rows = instance.rows(self.alloc, self.library())?;
-        numbered(out, b"ok SHOW ", root)?;
-        out.push(b' ')?;
-        write_mode(out, instance.mode())?;
-        numbered(out, b" ", rows.len() as u64)?;
-        end_line(out)?;
-        for row in rows.as_slice() {
-            write_row(out, row)?;
-        }
-        Ok(())
+        let mut out = Vec::new(self.alloc);
+        write_view(&mut out, root, instance.mode(), rows.as_slice())?;
+        Ok(out)
     }
 
-    fn output_text(&self, root: u64, out: &mut Vec<u8>) -> Result<(), Stop> {
+    fn output_text(&self, root: u64) -> Result<Vec<u8>, AllocError> {
         let (Some(instance), Some(graph)) = (self.instance(root), self.root_graph(root)) else {
-            return Err(Stop::Refused(Refusal::Root(root)));
+            return self.refused(&Refusal::Root(root));
         };
         if instance.mode() != Mode::Done {
-            return Err(Stop::Refused(Refusal::Mode(instance.mode())));
+            return self.refused(&Refusal::Mode(instance.mode()));
         }
         let output = instance.output(self.alloc, self.library())?;
-        numbered(out, b"ok OUTPUT ", root)?;
-        numbered(out, b" ", output.values.len() as u64)?;
-        end_line(out)?;
-        Ok(write_container(out, &graph.output, &output)?)
+        let mut out = Vec::new(self.alloc);
+        numbered(&mut out, b"ok OUTPUT ", root)?;
+        numbered(&mut out, b" ", output.values.len() as u64)?;
+        end_line(&mut out)?;
+        write_container(&mut out, &graph.output, &output)?;
+        Ok(out)
     }
 
-    fn no_such_item(&self, token: &Bytes) -> Stop {
-        match token.copy(self.alloc) {
-            Ok(token) => Stop::Refused(Refusal::Item(token)),
-            Err(_) => Stop::NoMemory,
-        }
+    fn no_such_item(&self, token: &Bytes) -> Result<Vec<u8>, AllocError>
+        ensures { IfOk result (λ out. out.items ≡ refusal_text (Item token.now)) }
+    {
+        self.refused(&Refusal::Item(token.copy(self.alloc)?))
     }
 
-    fn input_text(&self, token: &Bytes, out: &mut Vec<u8>) -> Result<(), Stop> {
+    fn input_text(&self, token: &Bytes) -> Result<Vec<u8>, AllocError> {
         let path = match path_of(self.alloc, unquoted(token.as_slice())) {
             Ok(path) => path,
-            Err(PathFault::NoMemory) => return Err(Stop::NoMemory),
-            Err(PathFault::BadPath) => return Err(self.no_such_item(token)),
+            Err(PathFault::NoMemory) => return Err(AllocError),
+            Err(PathFault::BadPath) => return self.no_such_item(token),
         };
         let Some(known) = self.known(&path) else {
-            return Err(self.no_such_item(token));
+            return self.no_such_item(token);
         };
         let input = known.item.input(self.alloc)?;
+        let mut out = Vec::new(self.alloc);
         out.extend_from_slice(b"ok INPUT ")?;
-        write_quoted_path(out, &path)?;
-        numbered(out, b" ", input.values.len() as u64)?;
-        end_line(out)?;
-        Ok(write_container(out, &known.item.activity.input, &input)?)
+        write_quoted_path(&mut out, &path)?;
+        numbered(&mut out, b" ", input.values.len() as u64)?;
+        end_line(&mut out)?;
+        write_container(&mut out, &known.item.activity.input, &input)?;
+        Ok(out)
     }
 
-    fn worklist_text(&self, name: &Name, out: &mut Vec<u8>) -> Result<(), Stop> {
-        let Some(person) = self.store.person(name) else {
-            return Err(Stop::Refused(Refusal::Person(name.copy(self.alloc)?)));
-        };
+    fn worklist_of(&self, name: &Name, person: &PersonDef) -> Result<Vec<u8>, AllocError>
+        ensures { IfOk result (λ out. IsListed self.now name.now (Some person.now) out.items) }
+    {
         let lines = self.worklists.worklist(person)?;
-        out.extend_from_slice(b"ok WORKLIST ")?;
-        quoted_name(out, name.as_slice())?;
-        numbered(out, b" ", lines.len() as u64)?;
-        end_line(out)?;
-        for line in lines.as_slice() {
-            write_quoted_path(out, &line.item)?;
-            out.extend_from_slice(if line.held {
-                b" HELD\n".as_slice()
-            } else {
-                b" READY\n".as_slice()
-            })?;
-        }
-        Ok(())
+        let mut out = Vec::new(self.alloc);
+        write_worklist(&mut out, name, lines.as_slice())?;
+        Ok(out)
     }
 
-    fn queue_text(&self, number: u64, out: &mut Vec<u8>) -> Result<(), Stop> {
+    fn worklist_text(&self, name: &Name) -> Result<Vec<u8>, AllocError>
+        ensures { IfOk result (λ out. IsIndexed self.now.store.catalog → IsListed self.now name.now (latest_person self.now.store.catalog.library name.now) out.items) }
+    {
+        match self.store.person(name) {
+            None => self.refused(&Refusal::Person(name.copy(self.alloc)?)),
+            Some(person) => self.worklist_of(name, person),
+        }
+    }
+
+    fn queue_text(&self, number: u64) -> Result<Vec<u8>, AllocError>
+        ensures { IfOk result (λ out. out.items ≡ queue_answer self.now number) }
+    {
         let count = self.queues.count();
-        let queue = u8::try_from(number).unwrap_or(0);
-        if queue < 1 || queue > count {
-            return Err(Stop::Refused(Refusal::Queue(count)));
+        if number < 1 || number > u64::from(count) {
+            return self.refused(&Refusal::Queue(count));
         }
-        let len = self.queues.len(queue);
-        numbered(out, b"ok QUEUE ", u64::from(queue))?;
-        numbered(out, b" ", len)?;
-        end_line(out)?;
-        for place in 0..len {
-            if let Some(message) = self.queues.get(queue, place as usize) {
-                write_message(out, message)?;
-                end_line(out)?;
-            }
-        }
-        Ok(())
+        let mut out = Vec::new(self.alloc);
+        write_queue(&mut out, &self.queues, number as u8)?;
+        Ok(out)
     }
 
-    fn audit_text(&self, root: u64, out: &mut Vec<u8>) -> Result<(), Stop> {
+    fn audit_text(&self, root: u64) -> Result<Vec<u8>, AllocError>
+        ensures { IfOk result (λ out. out.items ≡ audit_answer self.now root) }
+    {
         if self.instance(root).is_none() {
-            return Err(Stop::Refused(Refusal::Root(root)));
+            return self.refused(&Refusal::Root(root));
         }
-        let mut count = 0u64;
-        let mut lines = Vec::new(self.alloc);
-        for entry in &self.live {
-            if transaction_root(&entry.transaction) == Some(root) {
-                count = count.saturating_add(1);
-                let code = code_of(&entry.transaction);
-                audit(entry.number, &entry.transaction, code, &mut lines)?;
-            }
-        }
-        numbered(out, b"ok AUDIT ", root)?;
-        numbered(out, b" ", count)?;
-        end_line(out)?;
-        Ok(out.extend_from_slice(&lines)?)
+        let mut out = Vec::new(self.alloc);
+        write_audit(&mut out, root, &self.live)?;
+        Ok(out)
     }
 
-    fn templates_text(&self, out: &mut Vec<u8>) -> Result<(), Stop> {
-        let templates = self.library().templates.as_slice();
-        numbered(out, b"ok TEMPLATES ", templates.len() as u64)?;
-        end_line(out)?;
-        for template in templates {
-            quoted_name(out, template.name.as_slice())?;
-            numbered(out, b" ", u64::from(template.version))?;
-            end_line(out)?;
-        }
-        Ok(())
-    }
-
-    fn answer_to(&self, query: &Query, out: &mut Vec<u8>) -> Result<(), Stop> {
-        match query {
-            Query::Show(root) => self.show(*root, out),
-            Query::Output(root) => self.output_text(*root, out),
-            Query::Input(token) => self.input_text(token, out),
-            Query::Worklist(name) => self.worklist_text(name, out),
-            Query::Queue(queue) => self.queue_text(*queue, out),
-            Query::Audit(root) => self.audit_text(*root, out),
-            Query::Templates => self.templates_text(out),
-        }
+    fn templates_text(&self) -> Result<Vec<u8>, AllocError>
+        ensures { IfOk result (λ out. out.items ≡ text_of_templates self.now.store.catalog.library.templates) }
+    {
+        let mut out = Vec::new(self.alloc);
+        write_templates(&mut out, self.library().templates.as_slice())?;
+        Ok(out)
     }
 
     /// The reply to a query.
-    pub fn answer(&self, query: &Query) -> Result<Vec<u8>, AllocError> {
-        let mut out = Vec::new(self.alloc);
-        match self.answer_to(query, &mut out) {
-            Ok(()) => Ok(out),
-            Err(Stop::NoMemory) => Err(AllocError),
-            Err(Stop::Refused(refusal)) => {
-                let mut out = Vec::new(self.alloc);
-                write_refusal(&mut out, &refusal)?;
-                Ok(out)
-            }
+    pub fn answer(&self, query: &Query) -> Result<Vec<u8>, AllocError>
+        ensures { IfOk result (λ out. IsAnswer self.now query.now out.items) }
+    {
+        match query {
+            Query::Show(root) => self.show(*root),
+            Query::Output(root) => self.output_text(*root),
+            Query::Input(token) => self.input_text(token),
+            Query::Worklist(name) => self.worklist_text(name),
+            Query::Queue(queue) => self.queue_text(*queue),
+            Query::Audit(root) => self.audit_text(*root),
+            Query::Templates => self.templates_text(),
         }
     }
 }

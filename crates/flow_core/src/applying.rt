@@ -110,7 +110,7 @@ pub fn deleted_root(t: &Transaction) -> Option<u64>
 }
 
 /// Whether a transaction is about a root.
-fn is_about(root: u64, numbered: &Numbered) -> bool
+pub fn is_about(root: u64, numbered: &Numbered) -> bool
     ensures { result ≡ is_root root (root_about numbered.now.transaction) }
 {
     match transaction_root(&numbered.transaction) {

@@ -10,11 +10,13 @@ mod answering;
 mod applying;
 mod items;
 mod judging;
+mod listings;
 mod open_items;
 mod paths;
 mod refusals;
 mod state;
 mod views;
+mod words;
 
 pub use adopting::AdoptFault;
 pub use answering::write_applied;

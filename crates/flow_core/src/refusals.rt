@@ -1,8 +1,9 @@
 //! Why a command is refused, and how that is written.
 ghost use Rattle.std.specs.Prelude.{◌≡◌, ◌++◌, IfOk, OnOk};
-ghost use Rattle.flow_core.specs.Replies.{with_number, with_name, owner_text, code_text, refusal_text};
+ghost use Rattle.flow_core.specs.Replies.{with_name, owner_text, code_text, refusal_text};
 ghost use Rattle.flow_core.specs.declared.refusals.Stop.TheVariants.{NoMemory};
 
+use crate::words::numbered;
 use flow_model::{Bytes, Hold, Mode, Name, Phase};
 use flow_text::{decimal, quoted_name};
 use reply_text::{write_mode, write_phase};
@@ -64,14 +65,6 @@ impl From<Refusal> for Stop {
     }
 }
 
-fn numbered(out: &mut Vec<u8>, code: &[u8], number: u64) -> Result<(), AllocError>
-    ensures { OnOk result (out.new.items ≡ out.old.items ++ with_number code.now number) }
-{
-    out.extend_from_slice(code)?;
-    out.push(b' ')?;
-    decimal(out, number)
-}
-
 fn named(out: &mut Vec<u8>, code: &[u8], name: &Name) -> Result<(), AllocError>
     ensures { OnOk result (out.new.items ≡ out.old.items ++ with_name code.now name.now) }
 {
@@ -96,18 +89,18 @@ fn write_code(out: &mut Vec<u8>, refusal: &Refusal) -> Result<(), AllocError>
 {
     match refusal {
         Refusal::Rule(rule, line) => {
-            numbered(out, b"RULE", u64::from(*rule))?;
+            numbered(out, b"RULE ", u64::from(*rule))?;
             out.push(b' ')?;
             decimal(out, u64::from(*line))
         }
         Refusal::Person(name) => named(out, b"PERSON", name),
         Refusal::Process(name) => named(out, b"PROCESS", name),
-        Refusal::Root(root) => numbered(out, b"ROOT", *root),
+        Refusal::Root(root) => numbered(out, b"ROOT ", *root),
         Refusal::Item(token) => {
             out.extend_from_slice(b"ITEM ")?;
             out.extend_from_slice(token.as_slice())
         }
-        Refusal::Queue(count) => numbered(out, b"QUEUE", u64::from(*count)),
+        Refusal::Queue(count) => numbered(out, b"QUEUE ", u64::from(*count)),
         Refusal::Mode(mode) => {
             out.extend_from_slice(b"MODE ")?;
             write_mode(out, *mode)
@@ -117,13 +110,13 @@ fn write_code(out: &mut Vec<u8>, refusal: &Refusal) -> Result<(), AllocError>
             write_phase(out, *phase)
         }
         Refusal::Owner(hold) => owner(out, hold),
-        Refusal::Take(take) => numbered(out, b"TAKE", *take),
+        Refusal::Take(take) => numbered(out, b"TAKE ", *take),
         Refusal::Eligible => out.extend_from_slice(b"ELIGIBLE"),
-        Refusal::Value(place) => numbered(out, b"VALUE", u64::from(*place)),
-        Refusal::Empty(queue) => numbered(out, b"EMPTY", u64::from(*queue)),
-        Refusal::Queued(count) => numbered(out, b"QUEUED", *count),
-        Refusal::Clock(clock) => numbered(out, b"CLOCK", *clock),
-        Refusal::Full(limit) => numbered(out, b"FULL", *limit),
+        Refusal::Value(place) => numbered(out, b"VALUE ", u64::from(*place)),
+        Refusal::Empty(queue) => numbered(out, b"EMPTY ", u64::from(*queue)),
+        Refusal::Queued(count) => numbered(out, b"QUEUED ", *count),
+        Refusal::Clock(clock) => numbered(out, b"CLOCK ", *clock),
+        Refusal::Full(limit) => numbered(out, b"FULL ", *limit),
     }
 }
 

@@ -1,6 +1,7 @@
 //! The state: what the transactions so far come to.
-ghost use Rattle.std.specs.Prelude.{◌≡◌, ◌+◌, ◌<◌, ◌↔◌, ◌≤◌, length, [], IfOk, IsTrue};
+ghost use Rattle.std.specs.Prelude.{◌≡◌, ◌+◌, ◌<◌, ◌↔◌, ◌≤◌, length, [], IfOk, IsTrue, option_copied};
 ghost use Rattle.flow_core.specs.Summaries.{summary};
+ghost use Rattle.flow_core.specs.Answers.{instance_of};
 
 use flow_model::{Graph, Library, Mode, Name, Numbered};
 use indexmap::IndexMap;
@@ -135,12 +136,16 @@ impl Core {
     }
 
     /// The library of the imports so far.
-    pub fn library(&self) -> &Library {
+    pub fn library(&self) -> &Library
+        ensures { result.now ≡ self.now.store.catalog.library }
+    {
         self.store.library()
     }
 
     /// The instance of a live root.
-    pub(crate) fn instance(&self, root: u64) -> Option<&Instance> {
+    pub(crate) fn instance(&self, root: u64) -> Option<&Instance>
+        ensures { option_copied result ≡ instance_of self.now root }
+    {
         match self.live_roots.get(&root) {
             None => None,
             Some(found) => Some(&found.instance),
