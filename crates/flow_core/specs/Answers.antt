@@ -6,6 +6,11 @@ use Rattle.std.specs.Ordering.{nat_cmp}
 use Rattle.std.specs.BTreeMap as tree
 use Rattle.flow_model.specs.declared.commands.Query.{Query}
 use Rattle.flow_model.specs.declared.commands.Query.TheVariants as ask
+use Rattle.flow_model.specs.ScopeContainers.{graph_of}
+use Rattle.flow_model.specs.Scopes.{Known}
+use Rattle.flow_model.specs.declared.graphs.Container.{Container}
+use Rattle.flow_model.specs.declared.graphs.Graph.{Graph}
+use Rattle.flow_model.specs.declared.graphs.Library.{Library}
 use Rattle.flow_model.specs.declared.graphs.PersonDef.{PersonDef}
 use Rattle.flow_model.specs.declared.graphs.Template.{Template}
 use Rattle.flow_model.specs.declared.graphs.Value.{Value}
@@ -25,6 +30,8 @@ use Rattle.recover_queue.specs.Queues.{queue as messages_of}
 use Rattle.template_check.specs.Imports.{IsIndexed, latest_person}
 use Rattle.staff_worklists.specs.Listing.{IsWorklist}
 use Rattle.navigator.specs.Instances.{mode_of}
+use Rattle.navigator.specs.ViewRows.{view_rows}
+use Rattle.navigator.specs.Views.{Shows}
 use Rattle.navigator.specs.declared.instance.Instance.{Instance}
 use Rattle.navigator.specs.declared.scopes.ScopeState.{out-ScopeState}
 use Rattle.flow_core.specs.Replies.{refusal_text}
@@ -122,10 +129,17 @@ queue_answer c number =
 abbrev pub audit_answer : Core → ℕ → List ℕ
 audit_answer c root = if is_some (instance_of c root) then audit_text root c.live.items else refusal_text (refused.Root root)
 
--- SHOW shows rows of a live root, and else is refused
-abbrev pub IsShown : ℕ → Option Instance → List ℕ → Type 0
-IsShown root None text = text ≡ refusal_text (refused.Root root)
-IsShown root (Some i) text = (rows : List FateRow) × (text ≡ view_text root (mode_now i) rows)
+-- the rows are those of the view of what the instance shows
+abbrev pub AreRowsOf : Library → Instance → List FateRow → Type 0
+AreRowsOf library i rows =
+    (g : Graph) → graph_of library.templates i.template ≡ Some g →
+    (depth : ℕ) → (k : Known) → (input : Container) → Shows library.templates depth k g input i.scope →
+    rows ≡ view_rows library.templates depth k g input i.scope (record { root = i.root; parts = [] })
+
+-- SHOW shows the rows of a live root, and else is refused
+abbrev pub IsShown : Library → ℕ → Option Instance → List ℕ → Type 0
+IsShown library root None text = text ≡ refusal_text (refused.Root root)
+IsShown library root (Some i) text = (rows : List FateRow) × AreRowsOf library i rows × (text ≡ view_text root (mode_now i) rows)
 
 -- WORKLIST shows the worklist of a person who is declared, and else is refused
 abbrev pub IsListed : Core → List ℕ → Option PersonDef → List ℕ → Type 0
@@ -134,7 +148,7 @@ IsListed c name (Some person) text = (lines : List WorkLine) × IsWorklist c.wor
 
 -- the reply to a query in this state; nothing is said of OUTPUT and INPUT
 abbrev pub IsAnswer : Core → Query → List ℕ → Type 0
-IsAnswer c (ask.Show root) text = IsShown root (instance_of c root) text
+IsAnswer c (ask.Show root) text = IsShown c.store.catalog.library root (instance_of c root) text
 IsAnswer c (ask.Output root) text = Unit {0}
 IsAnswer c (ask.Input token) text = Unit {0}
 IsAnswer c (ask.Worklist name) text = IsIndexed c.store.catalog → IsListed c name (latest_person c.store.catalog.library name) text

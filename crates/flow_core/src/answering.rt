@@ -2,7 +2,7 @@
 ghost use Rattle.std.specs.Prelude.{◌≡◌, ◌++◌, Some, OnOk, IfOk};
 ghost use Rattle.template_check.specs.Imports.{IsIndexed, latest_person};
 ghost use Rattle.flow_core.specs.Replies.{note_text, applied_text, refusal_text};
-ghost use Rattle.flow_core.specs.Answers.{templates_text as text_of_templates, queue_answer, audit_answer, instance_of, IsShown, IsListed, IsAnswer};
+ghost use Rattle.flow_core.specs.Answers.{templates_text as text_of_templates, queue_answer, audit_answer, instance_of, AreRowsOf, IsShown, IsListed, IsAnswer};
 ghost use Rattle.flow_core.specs.declared.refusals.Refusal.TheVariants.{Item};
 
 use crate::applying::{Applied, Note};
@@ -12,7 +12,8 @@ use crate::refusals::{Refusal, write_refusal};
 use crate::state::Core;
 use crate::words::{end_line, numbered};
 use audit_trail::write_message;
-use flow_model::{Bytes, Mode, Name, PathFault, PersonDef, Query, path_of};
+use flow_model::{Bytes, FateRow, List, Mode, Name, PathFault, PersonDef, Query, path_of};
+use navigator::Instance;
 use reply_text::{write_container, write_fate, write_mode, write_quoted_path};
 use std::alloc::AllocError;
 
@@ -55,16 +56,28 @@ impl Core {
         Ok(out)
     }
 
-    fn show(&self, root: u64) -> Result<Vec<u8>, AllocError>
-        ensures { IfOk result (λ out. IsShown root (instance_of self.now root) out.items) }
+    fn rows_of(&self, instance: &Instance) -> Result<List<FateRow>, AllocError>
+        ensures { IfOk result (AreRowsOf self.now.store.catalog.library instance.now) }
     {
-        let Some(instance) = self.instance(root) else {
-            return self.refused(&Refusal::Root(root));
-        };
-        let rows = instance.rows(self.alloc, self.library())?;
+        instance.rows(self.alloc, self.library())
+    }
+
+    fn view_of(&self, root: u64, instance: &Instance) -> Result<Vec<u8>, AllocError>
+        ensures { IfOk result (λ out. IsShown self.now.store.catalog.library root (Some instance.now) out.items) }
+    {
+        let rows = self.rows_of(instance)?;
         let mut out = Vec::new(self.alloc);
         write_view(&mut out, root, instance.mode(), rows.as_slice())?;
         Ok(out)
+    }
+
+    fn show(&self, root: u64) -> Result<Vec<u8>, AllocError>
+        ensures { IfOk result (λ out. IsShown self.now.store.catalog.library root (instance_of self.now root) out.items) }
+    {
+        match self.instance(root) {
+            None => self.refused(&Refusal::Root(root)),
+            Some(instance) => self.view_of(root, instance),
+        }
     }
 
     fn output_text(&self, root: u64) -> Result<Vec<u8>, AllocError> {
