@@ -48,7 +48,7 @@ pub fn set_value(target: &mut Container, place: usize, value: Value)
 }
 
 /// Sets the value of the leaf at a place, if it is there.
-fn set_if_there(mut target: Container, place: u32, value: Value) -> Container
+pub(crate) fn set_if_there(mut target: Container, place: u32, value: Value) -> Container
     ensures { result ≡ record { values = slice_set target.values place value } }
 {
     if (place as usize) < target.values.len() {

@@ -1,4 +1,8 @@
 //! Settings: what is written for the leaves of a new container.
+ghost use Rattle.std.specs.Prelude.{◌≡◌, ◌≤◌, ◌^◌, length, IfOk, slice_get, option_copied};
+ghost use Rattle.containers.specs.Settings.{filled, written_number, number_place as first_token, value_place as value_token, value_for, setting_by, outcome_by};
+
+use crate::fill::set_if_there;
 use crate::find::find_leaf;
 use flow_model::{
     Container, Kind, Leaf, Leaves, List, NumberAt, RawSetting, RawValue, Setting, Value,
@@ -6,19 +10,25 @@ use flow_model::{
 use std::alloc::{AllocError, Global};
 
 /// The value of a written number; None exactly where it has no 64 bits.
-pub fn number_value(number: &NumberAt) -> Option<i64> {
+pub fn number_value(number: &NumberAt) -> Option<i64>
+    ensures { result ≡ written_number number.now }
+{
     let size = i128::from(number.size);
     let value = if number.minus.is_some() { -size } else { size };
     i64::try_from(value).ok()
 }
 
 /// The place of a number's first token.
-fn number_place(number: &NumberAt) -> u32 {
+fn number_place(number: &NumberAt) -> u32
+    ensures { result ≡ first_token number.now }
+{
     number.minus.unwrap_or(number.place)
 }
 
 /// The place of a value's first token.
-fn value_place(value: &RawValue) -> u32 {
+fn value_place(value: &RawValue) -> u32
+    ensures { result ≡ value_token value.now }
+{
     match value {
         RawValue::Number(number) => number_place(number),
         RawValue::Text(_, place) => *place,
@@ -26,7 +36,9 @@ fn value_place(value: &RawValue) -> u32 {
 }
 
 /// The value for a leaf of this kind; None where it is of another kind or out of range.
-fn value_of(alloc: Global, kind: Kind, value: &RawValue) -> Result<Option<Value>, AllocError> {
+fn value_of(alloc: Global, kind: Kind, value: &RawValue) -> Result<Option<Value>, AllocError>
+    ensures { IfOk result (λ v. v ≡ value_for value.now kind) }
+{
     match value {
         RawValue::Number(number) => match kind {
             Kind::Long => Ok(number_value(number).map(|number| Value::Whole(number))),
@@ -39,7 +51,9 @@ fn value_of(alloc: Global, kind: Kind, value: &RawValue) -> Result<Option<Value>
     }
 }
 
-fn leaf_at(leaves: &Leaves, place: u32) -> Option<&Leaf> {
+fn leaf_at(leaves: &Leaves, place: u32) -> Option<&Leaf>
+    ensures { option_copied result ≡ slice_get leaves.now.leaves place }
+{
     leaves.leaves.as_slice().get(place as usize)
 }
 
@@ -48,7 +62,9 @@ fn setting_of(
     alloc: Global,
     leaves: &Leaves,
     setting: &RawSetting,
-) -> Result<Result<Setting, u32>, AllocError> {
+) -> Result<Result<Setting, u32>, AllocError>
+    ensures { length leaves.now.leaves ≤ 2 ^ 16 → IfOk result (λ made. made ≡ setting_by leaves.now setting.now) }
+{
     let Some(place) = find_leaf(leaves, &setting.leaf) else {
         return Ok(Err(setting.leaf.place));
     };
@@ -73,7 +89,9 @@ pub fn settings_of(
     leaves: &Leaves,
     rc: Option<&NumberAt>,
     written: &[RawSetting],
-) -> Result<Result<List<Setting>, u32>, AllocError> {
+) -> Result<Result<List<Setting>, u32>, AllocError>
+    ensures { length leaves.now.leaves ≤ 2 ^ 16 → IfOk result (λ made. made ≡ outcome_by leaves.now (option_copied rc.entry) written.now) }
+{
     let mut settings = List::new(alloc);
     if let Some(number) = rc {
         let Some(value) = number_value(number) else {
@@ -98,13 +116,12 @@ pub fn with_settings(
     alloc: Global,
     target: Container,
     settings: &[Setting],
-) -> Result<Container, AllocError> {
+) -> Result<Container, AllocError>
+    ensures { IfOk result (λ c. c ≡ filled settings.now target) }
+{
     let mut changed = target;
     for setting in settings {
-        if (setting.leaf as usize) < changed.values.len() {
-            let value = setting.value.copy(alloc)?;
-            changed.values.set(setting.leaf as usize, value);
-        }
+        changed = set_if_there(changed, u32::from(setting.leaf), setting.value.copy(alloc)?);
     }
     Ok(changed)
 }

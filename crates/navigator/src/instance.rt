@@ -257,6 +257,7 @@ impl Instance {
         message: &Message,
     ) -> Result<(List<Message>, Vec<Path>), AllocError>
         ensures kept { self.new ≡ record self.old { scope = self.new.scope } }
+        ensures idle { self.old.terminated ≡ true → (self.new ≡ self.old) × IfOk result (λ given. (given.0 ≡ []) × (given.1.items ≡ [])) }
         ensures takes { self.old.terminated ≡ false → IfOk result (λ given. (g : Process) → template_graph library.now.templates self.old.template ≡ Some g → Takes library.now.templates clock message.now g self.old.scope self.new.scope given.0 given.1.items) }
         ensures shows { self.old.terminated ≡ false → OnOk result ((g : Process) → template_graph library.now.templates self.old.template ≡ Some g → ShowsTaken library.now.templates g message.now self.old.scope self.new.scope) }
         ensures gives { self.old.terminated ≡ false → IfOk result (λ given. (g : Process) → template_graph library.now.templates self.old.template ≡ Some g → GivesTaken library.now.templates g message.now self.old.scope given.0) }
