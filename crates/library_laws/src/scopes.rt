@@ -1,0 +1,24 @@
+ghost use Rattle.library_laws.specs.Laws.{
+    LibraryKeepsEnds, LibraryKeepsDue, LibraryKeepsForm, LibraryKeepsView
+};
+
+/// A scope gives the same in a larger library; its activities end so, have these fates and start
+/// these attempts.
+pub fn library_keeps_ends()
+    ensures { LibraryKeepsEnds }
+{}
+
+/// The same messages are due in a scope.
+pub fn library_keeps_due()
+    ensures { LibraryKeepsDue }
+{}
+
+/// A graph that is well, served or aimed in a library is so in a larger one.
+pub fn library_keeps_form()
+    ensures { LibraryKeepsForm }
+{}
+
+/// A state that shows the view of a scope shows it in a larger library too.
+pub fn library_keeps_view()
+    ensures { LibraryKeepsView }
+{}
