@@ -25,7 +25,7 @@ same_graph ts ts' (Block' b g) agrees there = refl
 same_graph ts ts' (Process t) agrees there = agrees t there.0 there.1 ∙ sym there.1
 
 -- a graph whose activities run the same graphs in both libraries, each of which has this property
-pub record IsSameInside (ts ts' : List Template) (g : Graph) (inner : Graph → Type 0) : Type 0 where
+pub record HasSameGraphs (ts ts' : List Template) (g : Graph) (inner : Graph → Type 0) : Type 0 where
   pub graphs : (a : ℕ) (activity : Activity) → slice_get (out-Graph g).activities a ≡ Some activity → graph_in ts' activity.work ≡ graph_in ts activity.work
   pub inside : (a : ℕ) (activity : Activity) → slice_get (out-Graph g).activities a ≡ Some activity → (h : Graph) → graph_in ts activity.work ≡ Some h → inner h
 
@@ -34,12 +34,12 @@ abbrev pub ServedInside : List Template → ℕ → Graph → Type 0
 ServedInside ts zero h = ⊥
 ServedInside ts (suc levels) h = Served ts levels h
 
-pub same_inside : (ts ts' : List Template) (levels : ℕ) (g : Graph) → Agrees ts ts' → Served ts levels g → IsSameInside ts ts' g (ServedInside ts levels)
-same_inside ts ts' zero g agrees served = record {
+pub same_graphs : (ts ts' : List Template) (levels : ℕ) (g : Graph) → Agrees ts ts' → Served ts levels g → HasSameGraphs ts ts' g (ServedInside ts levels)
+same_graphs ts ts' zero g agrees served = record {
   graphs = λ a activity is. same_graph ts ts' activity.work agrees (served.graphs a activity is);
   inside = λ a activity is h of. served.inside a activity h is of;
 }
-same_inside ts ts' (suc levels) g agrees served = record {
+same_graphs ts ts' (suc levels) g agrees served = record {
   graphs = λ a activity is. same_graph ts ts' activity.work agrees (served.graphs a activity is);
   inside = λ a activity is h of. served.inside a activity h is of;
 }

@@ -26,7 +26,7 @@ LongerAgrees = (ts more : List Template) → Agrees ts (ts ++ more)
 -- ---- scopes
 
 -- in both libraries a scope gives the same, its activities end so, have these fates, and start these attempts
-pub record IsSameScope (ts ts' : List Template) (depth : ℕ) (k : Known) (g : Graph) (input : Container) : Type 0 where
+pub record KeepsScope (ts ts' : List Template) (depth : ℕ) (k : Known) (g : Graph) (input : Container) : Type 0 where
   pub gives : output ts' depth k g input ≡ output ts depth k g input
   pub ends : tree_ends ts' depth k g input ≡ tree_ends ts depth k g input
   pub fates : (a : ℕ) → tree_fate ts' depth k g input a ≡ tree_fate ts depth k g input a
@@ -37,7 +37,7 @@ pub record IsSameScope (ts ts' : List Template) (depth : ℕ) (k : Known) (g : G
 abbrev pub LibraryKeepsEnds : Type 0
 LibraryKeepsEnds =
     (ts ts' : List Template) (levels depth : ℕ) (k : Known) (g : Graph) (input : Container) → Agrees ts ts' → Served ts levels g
-    → IsSameScope ts ts' depth k g input
+    → KeepsScope ts ts' depth k g input
 
 -- the same messages are due in it
 abbrev pub LibraryKeepsDue : Type 0
