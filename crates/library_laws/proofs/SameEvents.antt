@@ -2,7 +2,7 @@
 use Rattle.std.proofs.Common.{◌≡◌, ℕ, zero, suc, Bool, true, false, List, [], ◌∷◌, Option, Some, None, refl, sym, ◌∙◌, subst}
 use Rattle.std.specs.Prelude.{slice_get}
 use Rattle.flow_model.specs.Fates.{joined}
-use Rattle.flow_model.specs.ScopeContainers.{graph_in, base_of}
+use Rattle.flow_model.specs.ScopeContainers.{graph_in}
 use Rattle.flow_model.specs.Scopes.{Known, at, output}
 use Rattle.flow_model.specs.declared.graphs.Activity.{Activity}
 use Rattle.flow_model.specs.declared.graphs.Container.{Container}
@@ -13,7 +13,6 @@ use Rattle.flow_model.specs.declared.instances.Message.{Message}
 use Rattle.flow_model.specs.declared.instances.Message.TheVariants.{Begin, Signal, End}
 use Rattle.flow_model.specs.declared.instances.Part.{Part}
 use Rattle.flow_model.specs.declared.instances.Path.{Path}
-use Rattle.blocks_subprocs.specs.Ends.{ends_of}
 use Rattle.navigator.specs.Driven.{DoesTurn, DoesComplete, Does, Driven, IsDriven}
 use Rattle.navigator.specs.Events.{IsUsable, Happening, Begins, Signals, Ends, Completes, Receives, ChangesScope, ChangesState, ChangesInside, ChangesAt, Happens, Takes, nothing}
 use Rattle.navigator.specs.Serving.{Served}
@@ -34,12 +33,17 @@ use Rattle.library_laws.specs.Larger.{Agrees, moved}
 -- ---- the scope that receives the event
 
 module _ (ts ts' : List Template) (g : Graph) (inner : Graph → Type 0) (inside : HasSameGraphs ts ts' g inner) (path : Path) (clock : ℕ) where
+  begins_kept : (o o' : Option Graph) → o' ≡ o → (input : Container) (a : ℕ) (activity : Activity) (state : ActivityState) (old new : Fields) (before after : Told)
+      → BeginsScope o input path a activity state old new before after → BeginsScope o' input path a activity state old new before after
+  begins_kept o o' same input a activity state old new before after begins =
+      subst (λ x. BeginsScope x input path a activity state old new before after) (sym same) begins
+
   opens_kept : (a : ℕ) (activity : Activity) → slice_get (out-Graph g).activities a ≡ Some activity → (state : Option ActivityState) (old new : Fields) (before after : Told)
       → Opens ts g path clock a activity state old new before after → Opens ts' g path clock a activity state old new before after
   opens_kept a activity is None old new before after opens = opens
   opens_kept a activity is (Some (Program p)) old new before after opens = opens
   opens_kept a activity is (Some (Nested n)) old new before after opens =
-      subst (λ o. BeginsScope o (base_of g activity a old.input (ends_of old.ends)) path a activity (Nested n) old new before after) (sym (inside.graphs a activity is)) opens
+      begins_kept (graph_in ts activity.work) (graph_in ts' activity.work) (inside.graphs a activity is) _ a activity (Nested n) old new before after opens
 
   decides_kept : (a : ℕ) (activity : Activity) → slice_get (out-Graph g).activities a ≡ Some activity → (v : Option Bool) (old new : Fields) (before after : Told)
       → Decides ts g path clock a activity v old new before after → Decides ts' g path clock a activity v old new before after

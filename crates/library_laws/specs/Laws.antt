@@ -8,7 +8,7 @@ use Rattle.flow_model.specs.declared.graphs.Graph.{Graph, out-Graph}
 use Rattle.flow_model.specs.declared.graphs.Template.{Template}
 use Rattle.flow_model.specs.declared.instances.Message.{Message}
 use Rattle.library_laws.specs.Larger.{Agrees, moved}
-use Rattle.navigator.specs.Driven.{IsServedRoot}
+use Rattle.navigator.specs.Driven.{IsServedRoot, IsDriven}
 use Rattle.navigator.specs.Serving.{Served}
 use Rattle.navigator.specs.Showing.{note_in}
 use Rattle.navigator.specs.Views.{Shows}
@@ -76,6 +76,11 @@ abbrev pub LibraryKeepsRuns : Type 0
 LibraryKeepsRuns =
     (ts' : List Template) (r : Root) (q : Note → ℕ) (h : List Event) → Agrees r.templates ts' → Served r.templates r.depth r.graph
     → IsLegal r q h → IsLegal (moved ts' r) q h
+
+-- a run that has brought the scope of a root to a state has brought it there
+abbrev pub LibraryKeepsDriven : Type 0
+LibraryKeepsDriven =
+    (ts' : List Template) (r : Root) (q : Note → ℕ) (h : List Event) (s : ScopeState) → Agrees r.templates ts' → IsDriven r q h s → IsDriven (moved ts' r) q h s
 
 -- a root that has come so far in its library has come as far in this one
 pub record GoesOnIn (ts' : List Template) (r : Root) (q : Note → ℕ) (h : List Event) (s : ScopeState) : Type 0 where

@@ -1,5 +1,5 @@
 ghost use Rattle.library_laws.specs.Laws.{
-    LongerAgrees, LibraryKeepsMessages, LibraryKeepsRuns, LibraryKeepsRoots
+    LongerAgrees, LibraryKeepsMessages, LibraryKeepsRuns, LibraryKeepsDriven, LibraryKeepsRoots
 };
 
 /// A library agrees with each that has more templates behind it.
@@ -15,6 +15,12 @@ pub fn library_keeps_messages()
 /// A legal run is legal in a larger library.
 pub fn library_keeps_runs()
     ensures { LibraryKeepsRuns }
+{}
+
+/// A run, with all that its events have done to the scope of the root, is one of the root in a
+/// larger library, so that later events may be there.
+pub fn library_keeps_driven()
+    ensures { LibraryKeepsDriven }
 {}
 
 /// A root that was started in a library goes on in a larger one.
