@@ -1,8 +1,9 @@
--- Read first: SameGraphs (where the library is read), then SameScopes (one scope and any depth). SameDue, SameForm, SameRuns, SameViews and SameEvents follow.
+-- Read first: SameGraphs (where the library is read), then SameScopes (one scope and any depth). SameDue, SameForm, SameRuns, SameViews, SameRows and SameEvents follow.
 pub mod SameGraphs
 pub mod SameScopes
 pub mod SameDue
 pub mod SameForm
 pub mod SameRuns
 pub mod SameViews
+pub mod SameRows
 pub mod SameEvents

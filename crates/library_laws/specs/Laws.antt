@@ -1,16 +1,19 @@
 -- Laws of roots in a larger library: all that is said of a root in its library is so there.
 use Rattle.std.specs.Prelude.{◌≡◌, ℕ, Some, List, ◌++◌, slice_get}
 use Rattle.fate_laws.specs.WellFormed.{Well}
+use Rattle.flow_model.specs.Rows.{rows}
 use Rattle.flow_model.specs.Scopes.{Known, output, tree_ends, tree_fate}
 use Rattle.flow_model.specs.declared.graphs.Activity.{Activity}
 use Rattle.flow_model.specs.declared.graphs.Container.{Container}
 use Rattle.flow_model.specs.declared.graphs.Graph.{Graph, out-Graph}
 use Rattle.flow_model.specs.declared.graphs.Template.{Template}
 use Rattle.flow_model.specs.declared.instances.Message.{Message}
+use Rattle.flow_model.specs.declared.instances.Path.{Path}
 use Rattle.library_laws.specs.Larger.{Agrees, moved}
 use Rattle.navigator.specs.Driven.{IsServedRoot, IsDriven}
 use Rattle.navigator.specs.Serving.{Served}
 use Rattle.navigator.specs.Showing.{note_in}
+use Rattle.navigator.specs.ViewRows.{view_rows}
 use Rattle.navigator.specs.Views.{Shows}
 use Rattle.navigator.specs.declared.scopes.ScopeState.{ScopeState}
 use Rattle.view_laws.specs.Coming.{started_in}
@@ -59,6 +62,17 @@ abbrev pub LibraryKeepsView : Type 0
 LibraryKeepsView =
     (ts ts' : List Template) (levels depth : ℕ) (k : Known) (g : Graph) (input : Container) (s : ScopeState) → Agrees ts ts' → Served ts levels g
     → Shows ts depth k g input s → Shows ts' depth k g input s
+
+-- the rows of a scope and of those inside it: by what is known, and as its state shows them
+pub record KeepsRows (ts ts' : List Template) (depth : ℕ) (k : Known) (g : Graph) (input : Container) : Type 0 where
+  pub known : (path : Path) → rows ts' depth k g input path ≡ rows ts depth k g input path
+  pub shown : (s : ScopeState) (path : Path) → view_rows ts' depth k g input s path ≡ view_rows ts depth k g input s path
+
+-- are the same
+abbrev pub LibraryKeepsRows : Type 0
+LibraryKeepsRows =
+    (ts ts' : List Template) (levels depth : ℕ) (k : Known) (g : Graph) (input : Container) → Agrees ts ts' → Served ts levels g
+    → KeepsRows ts ts' depth k g input
 
 -- ---- roots
 

@@ -15,4 +15,7 @@ pub use roots::{
     library_keeps_driven, library_keeps_messages, library_keeps_roots, library_keeps_runs,
     longer_agrees,
 };
-pub use scopes::{library_keeps_due, library_keeps_ends, library_keeps_form, library_keeps_view};
+pub use scopes::{
+    library_keeps_due, library_keeps_ends, library_keeps_form, library_keeps_rows,
+    library_keeps_view,
+};

@@ -1,5 +1,5 @@
 ghost use Rattle.library_laws.specs.Laws.{
-    LibraryKeepsEnds, LibraryKeepsDue, LibraryKeepsForm, LibraryKeepsView
+    LibraryKeepsEnds, LibraryKeepsDue, LibraryKeepsForm, LibraryKeepsView, LibraryKeepsRows
 };
 
 /// A scope gives the same in a larger library; its activities end so, have these fates and start
@@ -21,4 +21,10 @@ pub fn library_keeps_form()
 /// A state that shows the view of a scope shows it in a larger library too.
 pub fn library_keeps_view()
     ensures { LibraryKeepsView }
+{}
+
+/// The rows of a scope are the same in a larger library, those by what is known and those that its
+/// state shows.
+pub fn library_keeps_rows()
+    ensures { LibraryKeepsRows }
 {}
