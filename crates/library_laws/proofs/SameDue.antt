@@ -1,6 +1,7 @@
 -- The same messages are due in a larger library, and each is named by the same places.
 use Rattle.std.proofs.Common.{◌≡◌, ℕ, zero, suc, List, [], ◌∷◌, ◌++◌, length, Option, Some, None, refl, ap, ◌∙◌}
 use Rattle.std.proofs.Math.Path.{fun_ext}
+use Rattle.std.proofs.lemmas.Option.{none-some, option_and_then_some}
 use Rattle.std.specs.List.{flat_map}
 use Rattle.std.specs.Prelude.{if◌then◌else◌, slice_get, option_and_then}
 use Rattle.flow_model.specs.Fates.{Ends}
@@ -20,7 +21,7 @@ use Rattle.navigator.specs.Showing.{graph_under, graph_along, signal_in, note_in
 use Rattle.view_laws.specs.Messages.{Note, BeginNote, notes, due_of, due_with, due_at, due_in, same_note}
 use Rattle.view_laws.specs.Queues.{Engine}
 use Rattle.view_laws.specs.Runs.{Root, Event, running, has_started, seen, due, turned, kind, engine}
-use Rattle.library_laws.proofs.SameGraphs.{HasSameGraphs, ServedInside, same_graphs}
+use Rattle.library_laws.proofs.SameGraphs.{and_then_same, HasSameGraphs, ServedInside, same_graphs}
 use Rattle.library_laws.proofs.SameScopes.{starts_same, output_same, scope_kept}
 use Rattle.library_laws.specs.Larger.{Agrees, moved}
 use Rattle.library_laws.specs.Laws.{KeepsMessages}
@@ -67,10 +68,6 @@ due_same ts ts' agrees (suc depth) (suc levels) k g input served =
 
 -- ---- the places that a message names
 
-and_then_same : {A B : Type 0} (o : Option A) (f f' : A → Option B) → ((x : A) → o ≡ Some x → f' x ≡ f x) → option_and_then f' o ≡ option_and_then f o
-and_then_same None f f' same = refl
-and_then_same (Some x) f f' same = same x refl
-
 module _ (ts ts' : List Template) (g : Graph) (inner : Graph → Type 0) (inside : HasSameGraphs ts ts' g inner) where
   under_same : (o : Option ℕ) → graph_under ts' g o ≡ graph_under ts g o
   under_same None = refl
@@ -78,18 +75,9 @@ module _ (ts ts' : List Template) (g : Graph) (inner : Graph → Type 0) (inside
       and_then_same (slice_get (out-Graph g).activities a) (λ activity. graph_in ts activity.work) (λ activity. graph_in ts' activity.work) (λ activity is. inside.graphs a activity is)
 
   under_inside : (o : Option ℕ) (h : Graph) → graph_under ts g o ≡ Some h → inner h
-  under_inside None h of = absurd (none of)
-    where
-      none : None ≡ Some h → ⊥
-      none is = cc
-  under_inside (Some a) h of = go (slice_get (out-Graph g).activities a) refl of
-    where
-      none : None ≡ Some h → ⊥
-      none is = cc
-
-      go : (o : Option Activity) → slice_get (out-Graph g).activities a ≡ o → option_and_then (λ activity. graph_in ts activity.work) o ≡ Some h → inner h
-      go None is of' = absurd (none of')
-      go (Some activity) is of' = inside.inside a activity is h of'
+  under_inside None h of = absurd (none-some h of)
+  under_inside (Some a) h of =
+      option_and_then_some (λ activity. graph_in ts activity.work) (slice_get (out-Graph g).activities a) h of (λ activity is of'. inside.inside a activity is h of')
 
 along_same : (ts ts' : List Template) → Agrees ts ts' → (p : List Part) (levels : ℕ) (g : Graph) → ServedInside ts levels g → graph_along ts' p g ≡ graph_along ts p g
 along_same ts ts' agrees [] levels g served = refl

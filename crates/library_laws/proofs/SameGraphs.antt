@@ -1,6 +1,7 @@
 -- In a larger library each activity of a served graph runs the graph that it ran.
 use Rattle.std.proofs.Common.{◌≡◌, ℕ, zero, suc, List, [], ◌∷◌, ◌++◌, refl, Option, Some, None, sym, ◌∙◌}
-use Rattle.std.specs.Prelude.{slice_get}
+use Rattle.std.proofs.lemmas.Option.{none-some}
+use Rattle.std.specs.Prelude.{slice_get, option_and_then}
 use Rattle.flow_model.specs.ScopeContainers.{graph_in, graph_of}
 use Rattle.flow_model.specs.declared.graphs.Activity.{Activity}
 use Rattle.flow_model.specs.declared.graphs.Graph.{Graph, out-Graph}
@@ -10,12 +11,13 @@ use Rattle.library_laws.specs.Larger.{Agrees}
 use Rattle.navigator.specs.Serving.{HasGraph, HasGraphs, IsServed, Served}
 
 pub longer_agrees : (ts more : List Template) → Agrees ts (ts ++ more)
-longer_agrees [] more t g is = absurd (none is)
-  where
-    none : None ≡ Some g → ⊥
-    none h = cc
+longer_agrees [] more t g is = absurd (none-some g is)
 longer_agrees (x ∷ ts) more zero g is = is
 longer_agrees (x ∷ ts) more (suc t) g is = longer_agrees ts more t g is
+
+pub and_then_same : {A B : Type 0} (o : Option A) (f f' : A → Option B) → ((x : A) → o ≡ Some x → f' x ≡ f x) → option_and_then f' o ≡ option_and_then f o
+and_then_same None f f' same = refl
+and_then_same (Some x) f f' same = same x refl
 
 -- ---- the graph of an activity
 

@@ -8,9 +8,11 @@ use Rattle.flow_model.specs.declared.graphs.Container.{Container}
 use Rattle.flow_model.specs.declared.graphs.Graph.{Graph, out-Graph}
 use Rattle.flow_model.specs.declared.graphs.Template.{Template}
 use Rattle.flow_model.specs.declared.instances.Message.{Message}
+use Rattle.flow_model.specs.declared.instances.Part.{Part}
 use Rattle.flow_model.specs.declared.instances.Path.{Path}
 use Rattle.library_laws.specs.Larger.{Agrees, moved}
 use Rattle.navigator.specs.Driven.{IsServedRoot, IsDriven}
+use Rattle.navigator.specs.Items.{stand, entry_at}
 use Rattle.navigator.specs.Serving.{Served}
 use Rattle.navigator.specs.Showing.{note_in}
 use Rattle.navigator.specs.ViewRows.{view_rows}
@@ -73,6 +75,12 @@ abbrev pub LibraryKeepsRows : Type 0
 LibraryKeepsRows =
     (ts ts' : List Template) (levels depth : ℕ) (k : Known) (g : Graph) (input : Container) → Agrees ts ts' → Served ts levels g
     → KeepsRows ts ts' depth k g input
+
+-- the same items are found by their paths
+abbrev pub LibraryKeepsItems : Type 0
+LibraryKeepsItems =
+    (ts ts' : List Template) (levels : ℕ) (g : Graph) (s : ScopeState) (item : List Part) → Agrees ts ts' → Served ts levels g
+    → entry_at ts' item (stand g s) ≡ entry_at ts item (stand g s)
 
 -- ---- roots
 

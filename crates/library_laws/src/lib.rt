@@ -16,6 +16,6 @@ pub use roots::{
     longer_agrees,
 };
 pub use scopes::{
-    library_keeps_due, library_keeps_ends, library_keeps_form, library_keeps_rows,
-    library_keeps_view,
+    library_keeps_due, library_keeps_ends, library_keeps_form, library_keeps_items,
+    library_keeps_rows, library_keeps_view,
 };

@@ -1,5 +1,6 @@
 ghost use Rattle.library_laws.specs.Laws.{
-    LibraryKeepsEnds, LibraryKeepsDue, LibraryKeepsForm, LibraryKeepsView, LibraryKeepsRows
+    LibraryKeepsEnds, LibraryKeepsDue, LibraryKeepsForm, LibraryKeepsView, LibraryKeepsRows,
+    LibraryKeepsItems
 };
 
 /// A scope gives the same in a larger library; its activities end so, have these fates and start
@@ -27,4 +28,9 @@ pub fn library_keeps_view()
 /// state shows.
 pub fn library_keeps_rows()
     ensures { LibraryKeepsRows }
+{}
+
+/// A path leads to the same item.
+pub fn library_keeps_items()
+    ensures { LibraryKeepsItems }
 {}
