@@ -20,7 +20,7 @@ use Rattle.navigator.specs.Serving.{Served}
 use Rattle.navigator.specs.Showing.{graph_under, graph_along, signal_in, note_in}
 use Rattle.view_laws.specs.Messages.{Note, BeginNote, notes, due_of, due_with, due_at, due_in, same_note}
 use Rattle.view_laws.specs.Queues.{Engine}
-use Rattle.view_laws.specs.Runs.{Root, Event, running, has_started, seen, due, turned, kind, engine}
+use Rattle.view_laws.specs.Runs.{Root, Event, running, has_started, seen, due, turned, kind}
 use Rattle.library_laws.proofs.SameGraphs.{and_then_same, HasSameGraphs, ServedInside, same_graphs}
 use Rattle.library_laws.proofs.SameScopes.{starts_same, output_same, scope_kept}
 use Rattle.library_laws.specs.Larger.{Agrees, moved}

@@ -1,9 +1,8 @@
 -- What an event does to a scope it does in a larger library too, and so a scope comes along its run there.
-use Rattle.std.proofs.Common.{◌≡◌, ℕ, zero, suc, Bool, true, false, List, [], ◌∷◌, Option, Some, None, refl, sym, ◌∙◌, subst}
+use Rattle.std.proofs.Common.{◌≡◌, ℕ, zero, suc, Bool, true, false, List, [], ◌∷◌, Option, Some, None, sym, ◌∙◌, subst}
 use Rattle.std.specs.Prelude.{slice_get}
 use Rattle.flow_model.specs.Fates.{joined}
 use Rattle.flow_model.specs.ScopeContainers.{graph_in}
-use Rattle.flow_model.specs.Scopes.{Known, at, output}
 use Rattle.flow_model.specs.declared.graphs.Activity.{Activity}
 use Rattle.flow_model.specs.declared.graphs.Container.{Container}
 use Rattle.flow_model.specs.declared.graphs.Graph.{Graph, out-Graph}
@@ -14,9 +13,8 @@ use Rattle.flow_model.specs.declared.instances.Message.TheVariants.{Begin, Signa
 use Rattle.flow_model.specs.declared.instances.Part.{Part}
 use Rattle.flow_model.specs.declared.instances.Path.{Path}
 use Rattle.navigator.specs.Driven.{DoesTurn, DoesComplete, Does, Driven, IsDriven}
-use Rattle.navigator.specs.Events.{IsUsable, Happening, Begins, Signals, Ends, Completes, Receives, ChangesScope, ChangesState, ChangesInside, ChangesAt, Happens, Takes, nothing}
+use Rattle.navigator.specs.Events.{IsUsable, Happening, Begins, Signals, Ends, Completes, Receives, ChangesState, ChangesInside, ChangesAt, Happens, Takes, nothing}
 use Rattle.navigator.specs.Serving.{Served}
-use Rattle.navigator.specs.Showing.{StaysShown}
 use Rattle.navigator.specs.Steps.{Fields, Told, Opens, Decides, DecidesFirst, Begins as BeginsScope}
 use Rattle.navigator.specs.declared.scopes.ActivityState.{ActivityState, Program, Nested}
 use Rattle.navigator.specs.declared.scopes.NestedState.{NestedState}
@@ -124,9 +122,14 @@ module _ (ts' : List Template) (r : Root) (agrees : Agrees r.templates ts') (ser
       (is.0, is.1, is.2, note_same r.templates ts' r.depth r.graph agrees served is.1 ∙ is.3, takes_kept r.templates ts' r.depth r.graph agrees served is.0 is.1 s s' given is.2 is.4)
 
   completion_kept : (f : Fact) (s s' : ScopeState) (given : List Message) → DoesComplete r f s s' given → DoesComplete (moved ts' r) f s s' given
-  completion_kept f s s' given is =
-      (is.0, is.1, is.2, is.3, λ around q named.
-      happens_kept r.templates ts' r.depth r.graph agrees served (record { root = f.item.root; parts = around }) is.0 (Completes q.name is.1) s s' given is.2 (is.4 around q named))
+  completion_kept f s s' given is = (
+    is.0,
+    is.1,
+    is.2,
+    is.3,
+    λ around q named.
+        happens_kept r.templates ts' r.depth r.graph agrees served (record { root = f.item.root; parts = around }) is.0 (Completes q.name is.1) s s' given is.2 (is.4 around q named),
+  )
 
   does_kept : (e : Event) (s s' : ScopeState) → Does r e s s' → Does (moved ts' r) e s s'
   does_kept Started s s' is = is

@@ -2,13 +2,13 @@
 use Rattle.std.proofs.Common.{◌≡◌, ℕ, zero, suc, List, [], ◌∷◌, ◌++◌, refl, Option, Some, None, sym, ◌∙◌}
 use Rattle.std.proofs.lemmas.Option.{none-some}
 use Rattle.std.specs.Prelude.{slice_get, option_and_then}
-use Rattle.flow_model.specs.ScopeContainers.{graph_in, graph_of}
+use Rattle.flow_model.specs.ScopeContainers.{graph_in}
 use Rattle.flow_model.specs.declared.graphs.Activity.{Activity}
 use Rattle.flow_model.specs.declared.graphs.Graph.{Graph, out-Graph}
 use Rattle.flow_model.specs.declared.graphs.Template.{Template}
 use Rattle.flow_model.specs.declared.graphs.Work.{Work, Program, Block', Process}
 use Rattle.library_laws.specs.Larger.{Agrees}
-use Rattle.navigator.specs.Serving.{HasGraph, HasGraphs, IsServed, Served}
+use Rattle.navigator.specs.Serving.{HasGraph, Served}
 
 pub longer_agrees : (ts more : List Template) → Agrees ts (ts ++ more)
 longer_agrees [] more t g is = absurd (none-some g is)

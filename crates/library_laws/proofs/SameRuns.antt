@@ -1,5 +1,5 @@
 -- A legal run is legal in a larger library.
-use Rattle.std.proofs.Common.{◌≡◌, ℕ, zero, suc, List, [], ◌∷◌, Some, ap, sym, ◌∙◌, subst}
+use Rattle.std.proofs.Common.{ℕ, zero, suc, List, [], ◌∷◌, ap, sym, ◌∙◌, subst}
 use Rattle.std.specs.Prelude.{slice_get}
 use Rattle.flow_model.specs.Scopes.{Known, at}
 use Rattle.flow_model.specs.declared.graphs.Container.{Container}
@@ -15,7 +15,6 @@ use Rattle.library_laws.proofs.SameDue.{messages_kept}
 use Rattle.library_laws.proofs.SameGraphs.{HasSameGraphs, ServedInside, same_graphs}
 use Rattle.library_laws.proofs.SameScopes.{scope_kept}
 use Rattle.library_laws.specs.Larger.{Agrees, moved}
-use Rattle.library_laws.specs.Laws.{KeepsScope}
 
 awaits_kept : (ts ts' : List Template) → Agrees ts ts' → (depth levels : ℕ) (k : Known) (g : Graph) (input : Container) (p : List Part) → ServedInside ts levels g
     → Awaits ts depth k g input p → Awaits ts' depth k g input p

@@ -1,11 +1,10 @@
 -- A state that shows a view shows it in a larger library, and so a root goes on there.
 use Rattle.std.proofs.Common.{◌≡◌, ℕ, zero, suc, List, Option, Some, None, refl, sym, ◌∙◌, subst}
-use Rattle.std.specs.Prelude.{slice_get}
 use Rattle.flow_model.specs.Fates.{Ends}
 use Rattle.flow_model.specs.ScopeContainers.{graph_in}
 use Rattle.flow_model.specs.Scopes.{Known, at, part, Runs, Start, scope_ends, output}
 use Rattle.flow_model.specs.declared.graphs.Container.{Container}
-use Rattle.flow_model.specs.declared.graphs.Graph.{Graph, out-Graph}
+use Rattle.flow_model.specs.declared.graphs.Graph.{Graph}
 use Rattle.flow_model.specs.declared.graphs.Template.{Template}
 use Rattle.flow_model.specs.declared.instances.Part.{Part}
 use Rattle.flow_model.specs.declared.names.Name.{Name}

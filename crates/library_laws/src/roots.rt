@@ -1,5 +1,9 @@
 ghost use Rattle.library_laws.specs.Laws.{
-    LongerAgrees, LibraryKeepsMessages, LibraryKeepsRuns, LibraryKeepsDriven, LibraryKeepsRoots
+  LongerAgrees,
+  LibraryKeepsMessages,
+  LibraryKeepsRuns,
+  LibraryKeepsDriven,
+  LibraryKeepsRoots,
 };
 
 /// A library agrees with each that has more templates behind it.

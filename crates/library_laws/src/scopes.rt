@@ -1,6 +1,10 @@
 ghost use Rattle.library_laws.specs.Laws.{
-    LibraryKeepsEnds, LibraryKeepsDue, LibraryKeepsForm, LibraryKeepsView, LibraryKeepsRows,
-    LibraryKeepsItems
+  LibraryKeepsEnds,
+  LibraryKeepsDue,
+  LibraryKeepsForm,
+  LibraryKeepsView,
+  LibraryKeepsRows,
+  LibraryKeepsItems,
 };
 
 /// A scope gives the same in a larger library; its activities end so, have these fates and start
