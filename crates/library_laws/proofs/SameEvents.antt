@@ -25,7 +25,7 @@ use Rattle.library_laws.proofs.SameDue.{note_same}
 use Rattle.library_laws.proofs.SameForm.{root_form}
 use Rattle.library_laws.proofs.SameGraphs.{HasSameGraphs, ServedInside, same_graphs}
 use Rattle.library_laws.proofs.SameRuns.{run_kept}
-use Rattle.library_laws.proofs.SameViews.{view_kept, view_kept_back}
+use Rattle.library_laws.proofs.SameViews.{view_kept}
 use Rattle.library_laws.specs.Larger.{Agrees, moved}
 
 -- ---- the scope that receives the event
@@ -136,7 +136,8 @@ module _ (ts' : List Template) (r : Root) (agrees : Agrees r.templates ts') (ser
   does_kept (Turned m) s s' is = (is.0, turn_kept m s s' is.0 is.1)
   does_kept (Completed f) s s' is = (is.0, completion_kept f s s' is.0 is.1)
   does_kept (Held p b) s s' is = λ depth k input shows.
-      view_kept r.templates ts' r.depth depth k r.graph input s' agrees served (is depth k input (view_kept_back r.templates ts' r.depth depth k r.graph input s agrees served shows))
+      (view_kept r.templates ts' r.depth depth k r.graph input s' agrees served).there
+      (is depth k input ((view_kept r.templates ts' r.depth depth k r.graph input s agrees served).back shows))
   does_kept Stopped s s' is = is
 
   scope_driven : (h : List Event) (s : ScopeState) → Driven r h s → Driven (moved ts' r) h s

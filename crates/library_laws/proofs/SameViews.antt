@@ -15,14 +15,14 @@ use Rattle.navigator.specs.Views.{ShowsScope, shows_attempt, ShowsEnds, ShowsWit
 use Rattle.navigator.specs.declared.scopes.ScopeState.{ScopeState}
 use Rattle.view_laws.specs.LegalRuns.{IsLegal}
 use Rattle.view_laws.specs.Messages.{Note}
-use Rattle.view_laws.specs.Runs.{Root, Event, seen}
+use Rattle.view_laws.specs.Runs.{Root, Event, seen, fated}
 use Rattle.library_laws.proofs.SameDue.{messages_kept}
 use Rattle.library_laws.proofs.SameForm.{root_form}
 use Rattle.library_laws.proofs.SameGraphs.{HasSameGraphs, ServedInside, same_graphs}
 use Rattle.library_laws.proofs.SameRuns.{run_kept}
-use Rattle.library_laws.proofs.SameScopes.{outputs_same, fate_same, starts_same, ends_same, output_same}
+use Rattle.library_laws.proofs.SameScopes.{outputs_same, fate_same, starts_same, ends_same, output_same, scope_kept}
 use Rattle.library_laws.specs.Larger.{Agrees}
-use Rattle.library_laws.specs.Laws.{GoesOnIn}
+use Rattle.library_laws.specs.Laws.{KeepsView, GoesOnIn}
 
 -- ---- one scope, where the scopes below it go on showing
 
@@ -71,10 +71,6 @@ shown_within ts ts' agrees (suc depth) (suc levels) k g input s served shows =
     (λ q h i t ok is. shown_within ts ts' agrees depth levels (at q k) h i t ok is)
     g (same_graphs ts ts' levels g agrees served) input s shows
 
-pub view_kept : (ts ts' : List Template) (levels depth : ℕ) (k : Known) (g : Graph) (input : Container) (s : ScopeState) → Agrees ts ts' → Served ts levels g
-    → Shows ts depth k g input s → Shows ts' depth k g input s
-view_kept ts ts' levels depth k g input s agrees served shows = shown_within ts ts' agrees (suc depth) (suc levels) k g input s served shows
-
 -- and back
 back : (ts ts' : List Template) (g : Graph) (inner : Graph → Type 0) → HasSameGraphs ts ts' g inner → HasSameGraphs ts' ts g inner
 back ts ts' g inner same = record {
@@ -92,9 +88,12 @@ shown_back ts ts' agrees (suc depth) (suc levels) k g input s served shows =
     (λ q h i t ok is. shown_back ts ts' agrees depth levels (at q k) h i t ok is)
     g (back ts ts' g (ServedInside ts levels) (same_graphs ts ts' levels g agrees served)) input s shows
 
-pub view_kept_back : (ts ts' : List Template) (levels depth : ℕ) (k : Known) (g : Graph) (input : Container) (s : ScopeState) → Agrees ts ts' → Served ts levels g
-    → Shows ts' depth k g input s → Shows ts depth k g input s
-view_kept_back ts ts' levels depth k g input s agrees served shows = shown_back ts ts' agrees (suc depth) (suc levels) k g input s served shows
+pub view_kept : (ts ts' : List Template) (levels depth : ℕ) (k : Known) (g : Graph) (input : Container) (s : ScopeState) → Agrees ts ts' → Served ts levels g
+    → KeepsView ts ts' depth k g input s
+view_kept ts ts' levels depth k g input s agrees served = record {
+  there = λ shows. shown_within ts ts' agrees (suc depth) (suc levels) k g input s served shows;
+  back = λ shows. shown_back ts ts' agrees (suc depth) (suc levels) k g input s served shows;
+}
 
 -- ---- a root
 
@@ -105,5 +104,7 @@ root_kept ts' r q h s agrees root legal shows =
       root = root_form ts' r agrees root;
       legal = run_kept ts' r q h agrees root.served legal;
       messages = messages_kept ts' r q agrees root.served;
-      shows = view_kept r.templates ts' r.depth r.depth (seen h) r.graph r.input s agrees root.served shows;
+      view = scope_kept r.templates ts' r.depth r.depth (seen h) r.graph r.input agrees root.served;
+      fates = scope_kept r.templates ts' r.depth r.depth (fated h) r.graph r.input agrees root.served;
+      shows = (view_kept r.templates ts' r.depth r.depth (seen h) r.graph r.input s agrees root.served).there shows;
     }

@@ -22,7 +22,7 @@ use Rattle.view_laws.specs.Coming.{started_in}
 use Rattle.view_laws.specs.LegalRuns.{IsLegal}
 use Rattle.view_laws.specs.Messages.{Note, due_in}
 use Rattle.view_laws.specs.NextEvents.{Aimed}
-use Rattle.view_laws.specs.Runs.{Root, Event, seen, engine}
+use Rattle.view_laws.specs.Runs.{Root, Event, seen, fated, engine}
 
 -- the larger library has each template that the smaller has
 abbrev pub LongerAgrees : Type 0
@@ -59,11 +59,15 @@ pub record KeepsForm (ts ts' : List Template) (depth : ℕ) (g : Graph) : Type 0
 abbrev pub LibraryKeepsForm : Type 0
 LibraryKeepsForm = (ts ts' : List Template) (depth : ℕ) (g : Graph) → Agrees ts ts' → Served ts depth g → KeepsForm ts ts' depth g
 
--- a state that shows the view of a scope shows it in the larger library too
+-- a state shows the view of a scope in the larger library exactly where it does in the smaller
+pub record KeepsView (ts ts' : List Template) (depth : ℕ) (k : Known) (g : Graph) (input : Container) (s : ScopeState) : Type 0 where
+  pub there : Shows ts depth k g input s → Shows ts' depth k g input s
+  pub back : Shows ts' depth k g input s → Shows ts depth k g input s
+
 abbrev pub LibraryKeepsView : Type 0
 LibraryKeepsView =
     (ts ts' : List Template) (levels depth : ℕ) (k : Known) (g : Graph) (input : Container) (s : ScopeState) → Agrees ts ts' → Served ts levels g
-    → Shows ts depth k g input s → Shows ts' depth k g input s
+    → KeepsView ts ts' depth k g input s
 
 -- the rows of a scope and of those inside it: by what is known, and as its state shows them
 pub record KeepsRows (ts ts' : List Template) (depth : ℕ) (k : Known) (g : Graph) (input : Container) : Type 0 where
@@ -104,11 +108,13 @@ abbrev pub LibraryKeepsDriven : Type 0
 LibraryKeepsDriven =
     (ts' : List Template) (r : Root) (q : Note → ℕ) (h : List Event) (s : ScopeState) → Agrees r.templates ts' → IsDriven r q h s → IsDriven (moved ts' r) q h s
 
--- a root that has come so far in its library has come as far in this one
+-- a root that has come so far in its library has come as far in this one: what is said of it by its messages, and by its completions alone, is the same
 pub record GoesOnIn (ts' : List Template) (r : Root) (q : Note → ℕ) (h : List Event) (s : ScopeState) : Type 0 where
   pub root : IsServedRoot (moved ts' r)
   pub legal : IsLegal (moved ts' r) q h
   pub messages : KeepsMessages ts' r q
+  pub view : KeepsScope r.templates ts' r.depth (seen h) r.graph r.input
+  pub fates : KeepsScope r.templates ts' r.depth (fated h) r.graph r.input
   pub shows : Shows ts' r.depth (seen h) r.graph r.input s
 
 -- a root goes on in each larger library

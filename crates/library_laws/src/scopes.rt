@@ -23,7 +23,7 @@ pub fn library_keeps_form()
     ensures { LibraryKeepsForm }
 {}
 
-/// A state that shows the view of a scope shows it in a larger library too.
+/// A state shows the view of a scope in a larger library exactly where it does in the smaller.
 pub fn library_keeps_view()
     ensures { LibraryKeepsView }
 {}
