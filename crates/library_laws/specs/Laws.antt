@@ -69,12 +69,12 @@ LibraryKeepsView =
     (ts ts' : List Template) (levels depth : ℕ) (k : Known) (g : Graph) (input : Container) (s : ScopeState) → Agrees ts ts' → Served ts levels g
     → KeepsView ts ts' depth k g input s
 
--- the rows of a scope and of those inside it: by what is known, and as its state shows them
+-- the rows of a scope and of those inside it are the same: those by what is known, and those that its state shows
 pub record KeepsRows (ts ts' : List Template) (depth : ℕ) (k : Known) (g : Graph) (input : Container) : Type 0 where
   pub known : (path : Path) → rows ts' depth k g input path ≡ rows ts depth k g input path
   pub shown : (s : ScopeState) (path : Path) → view_rows ts' depth k g input s path ≡ view_rows ts depth k g input s path
 
--- are the same
+-- so they are of each scope whose graph is served
 abbrev pub LibraryKeepsRows : Type 0
 LibraryKeepsRows =
     (ts ts' : List Template) (levels depth : ℕ) (k : Known) (g : Graph) (input : Container) → Agrees ts ts' → Served ts levels g
@@ -97,13 +97,13 @@ abbrev pub LibraryKeepsMessages : Type 0
 LibraryKeepsMessages =
     (ts' : List Template) (r : Root) (q : Note → ℕ) → Agrees r.templates ts' → Served r.templates r.depth r.graph → KeepsMessages ts' r q
 
--- a legal run is legal
+-- a legal run of a root is legal there
 abbrev pub LibraryKeepsRuns : Type 0
 LibraryKeepsRuns =
     (ts' : List Template) (r : Root) (q : Note → ℕ) (h : List Event) → Agrees r.templates ts' → Served r.templates r.depth r.graph
     → IsLegal r q h → IsLegal (moved ts' r) q h
 
--- a run that has brought the scope of a root to a state has brought it there
+-- a run that has brought the scope of a root to a state is one of the root in the larger library
 abbrev pub LibraryKeepsDriven : Type 0
 LibraryKeepsDriven =
     (ts' : List Template) (r : Root) (q : Note → ℕ) (h : List Event) (s : ScopeState) → Agrees r.templates ts' → IsDriven r q h s → IsDriven (moved ts' r) q h s
