@@ -22,10 +22,10 @@ use Rattle.template_check.specs.Wires.{pairs_of}
 -- two pairs are the same where their parts are
 pairs_decide : (x y : ℕ × ℕ) → Decides ((x.0 == y.0) && (x.1 == y.1)) (x ≡ y)
 pairs_decide x y =
-    Decides-like ((x.0 == y.0) && (x.1 == y.1)) (λ (e : (x.0 ≡ y.0) × (x.1 ≡ y.1)). cc (e.0, e.1)) (λ (e : x ≡ y). (ap (λ (z : ℕ × ℕ). z.0) e, ap (λ (z : ℕ × ℕ). z.1) e))
+    Decides-like ((x.0 == y.0) && (x.1 == y.1)) (λ (e : (x.0 ≡ y.0) × (x.1 ≡ y.1)) j. (e.0 j, e.1 j)) (λ (e : x ≡ y). (ap (λ (z : ℕ × ℕ). z.0) e, ap (λ (z : ℕ × ℕ). z.1) e))
     (Decides-and (x.0 == y.0) (x.1 == y.1) (Decides-eqb x.0 y.0) (Decides-eqb x.1 y.1))
 
-pub none_differ : {X : Type 0} → AllDiffer {X} []
+pub none_differ : {X : Type 0} → AllDiffer {X = X} []
 none_differ i j d less within = absurd (omega arith)
 
 pub pairs_differ : (pairs : List (ℕ × ℕ)) → IsDistinct (λ x y. (x.0 == y.0) && (x.1 == y.1)) pairs → AllDiffer pairs
@@ -33,7 +33,7 @@ pairs_differ pairs distinct = AllPairs-from_IsDistinct pairs_decide pairs distin
 
 -- names behind references
 pub names_differ : (names : List (Bor (List ℕ))) → IsDistinct (λ x y. bytes_eq x.now y.now) names → AllDiffer (map (λ k. k.now) names)
-names_differ [] distinct = none_differ
+names_differ [] distinct i j d less within same = absurd (omega arith)
 names_differ (n ∷ names) distinct i j d less within same =
     let all = n ∷ names in
     let f = λ (k : Bor (List ℕ)). k.now in
@@ -62,8 +62,8 @@ simple (c ∷ cs) all = (list_any_none (λ d. (c.from == d.from) && (c.to == d.t
     ends d = (d.from, d.to)
 
     go : (b : Bool) → (b ≡ true → ⊥) → b ≡ false
-    go true no = absurd (no refl)
-    go false no = refl
+    go true differs = absurd (differs refl)
+    go false differs = refl
 
     other : All (λ (d : Control). ((c.from == d.from) && (c.to == d.to)) ≡ false) cs
     other k d less =
