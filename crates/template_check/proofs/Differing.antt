@@ -1,5 +1,5 @@
 -- Lists of which no two elements are the same.
-use Rattle.std.proofs.Common.{◌≡◌, ℕ, zero, suc, ◌+◌, ◌<◌, ◌≤◌, Bool, true, false, List, [], ◌∷◌, ◌++◌, length, get_or, map, filter_map, Option, Some, None, Bor, refl, sym, ap, subst, ◌∙◌, true≢false, not, inl, inr, arith, cond}
+use Rattle.std.proofs.Common.{◌≡◌, ℕ, zero, suc, ◌+◌, ◌<◌, ◌≤◌, Bool, true, false, List, [], ◌∷◌, ◌++◌, length, get_or, take, map, filter_map, Option, Some, None, Bor, refl, sym, ap, subst, ◌∙◌, true≢false, not, inl, inr, arith, cond}
 use Rattle.std.specs.Prelude.{◌==◌, ◌&&◌, slice_get}
 use Rattle.std.specs.Bool.{Decides}
 use Rattle.std.specs.Cmp.Lexicographic.{bytes_decides}
@@ -7,7 +7,7 @@ use Rattle.std.specs.List.{All, IsDistinct, list_any, cons_option}
 use Rattle.std.specs.Str.{bytes_eq}
 use Rattle.std.proofs.lemmas.Bool.{cases_order}
 use Rattle.std.proofs.lemmas.Bool.Decides.{Decides-and, Decides-eqb, Decides-like}
-use Rattle.std.proofs.lemmas.List.{get_or-map, length-map, map-append}
+use Rattle.std.proofs.lemmas.List.{get_or-map, length-map, map-append, take_more}
 use Rattle.std.proofs.lemmas.List.Folds.{list_any_none}
 use Rattle.std.proofs.lemmas.Map.Keys.{apart_from_distinct}
 use Rattle.std.proofs.lemmas.Map.Made.{AllPairs-from_IsDistinct}
@@ -16,6 +16,7 @@ use Rattle.indexmap.specs.IndexSet.{insert_key}
 use Rattle.fate_laws.specs.WellFormed.{AreSimple}
 use Rattle.flow_model.specs.declared.graphs.Activity.{Activity}
 use Rattle.flow_model.specs.declared.graphs.Control.{Control}
+use Rattle.flow_model.specs.declared.trees.ActivityTree.{ActivityTree}
 use Rattle.template_check.specs.Texts.{AllDiffer}
 use Rattle.template_check.specs.Wires.{pairs_of}
 
@@ -109,3 +110,14 @@ met_next keys next k name is_new tells new now distinct is names so_far =
 pub pair_next : (keys next : List (ℕ × ℕ)) (k : ℕ × ℕ) (is_new : Bool) → is_new ≡ not (list_any (λ x. (k.0 == x.0) && (k.1 == x.1)) keys) → is_new ≡ true → next ≡ insert_key (λ x y. (x.0 == y.0) && (x.1 == y.1)) keys k
     → next ≡ keys ++ k ∷ []
 pair_next keys next k is_new tells new now = now ∙ key_added (λ x y. (x.0 == y.0) && (x.1 == y.1)) keys k is_new tells new
+
+-- the names of activities behind references
+pub names_behind : (items : List (Bor ActivityTree)) → map (λ a. a.now.name.name) items ≡ map (λ a. a.name.name) (map (λ a. a.now) items)
+names_behind [] = refl
+names_behind (x ∷ items) = ap (λ (ns : List (List ℕ)). x.now.name.name ∷ ns) (names_behind items)
+
+pub name_more : (items : List (Bor ActivityTree)) (i : ℕ) (x : Bor ActivityTree) → i < length items → x ≡ get_or items i x
+    → map (λ a. a.now.name.name) (take i items) ++ x.now.name.name ∷ [] ≡ map (λ a. a.now.name.name) (take (i + 1) items)
+name_more items i x less is =
+    let name_of = λ (a : Bor ActivityTree). a.now.name.name in
+    sym (ap (map name_of) (take_more items i x less ∙ ap (λ (y : Bor ActivityTree). take i items ++ y ∷ []) (sym is)) ∙ map-append name_of (take i items) (x ∷ []))
