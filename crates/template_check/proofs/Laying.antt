@@ -222,6 +222,9 @@ module _ (input output : Leaves) (activities : List Activity) (controls : List C
       → All (IsDrawn elements) lines → All (λ a. IsSoundWork a.work) activities → IsSoundAlone built
   built_sound elements judged w names same drawn_ inside =
       let parts = out-roll-Graph (record { input = input; output = output; activities = activities; controls = controls; lines = lines; loops = loops; wiring = wiring }) in
-      let same' = rw parts same in
-      let drawn' = rw parts drawn_ in
-      sound_alone built (sound built elements judged (laid built elements (rw parts w) same' drawn') (wired built elements same' drawn') (rw parts names) same') (rw parts inside)
+      let here : AreWired (length (out-Graph built).activities) (out-Graph built).controls (out-Graph built).lines (out-Graph built).loops (out-Graph built).wiring = rw parts w in
+      let connects : pairs_of (out-Graph built).controls ≡ edges_in elements = rw parts same in
+      let along : All (IsDrawn elements) (out-Graph built).lines = rw parts drawn_ in
+      let names_here : map (λ a. a.name) (out-Graph built).activities ≡ names_in elements = rw parts names in
+      let works : All (λ a. IsSoundWork a.work) (out-Graph built).activities = rw parts inside in
+      sound_alone built (sound built elements judged (laid built elements here connects along) (wired built elements connects along) names_here connects) works
