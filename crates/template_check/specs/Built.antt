@@ -16,10 +16,12 @@ use Rattle.flow_model.specs.declared.trees.ActivityTree.{ActivityTree}
 use Rattle.flow_model.specs.declared.trees.ElementTree.{ElementTree}
 use Rattle.flow_model.specs.declared.trees.EndTree.{EndTree}
 use Rattle.flow_model.specs.declared.trees.EndTree.TheVariants as tree
+use Rattle.flow_model.specs.declared.trees.ProcessTree.{ProcessTree}
 use Rattle.graph_check.specs.Walks.{Reaches}
 use Rattle.template_check.specs.Blocks.{IsBlockOf, JudgedTo}
-use Rattle.template_check.specs.Texts.{activities_in, number_in, edges_in, AllDiffer}
+use Rattle.template_check.specs.Texts.{activities_in, number_in, edges_in, AllDiffer, IsLimited}
 use Rattle.template_check.specs.Wires.{IsEndBelow}
+use Rattle.template_check.specs.declared.scopes.Scope.{Scope}
 use Rattle.view_laws.specs.NextEvents.{Aimed}
 
 -- the end of a line, where its name is known
@@ -72,6 +74,10 @@ IsSound elements = (depth : ℕ) → JudgedTo depth elements
 -- if an activity is a block, its graph is sound, and so are those inside
 abbrev pub IsSoundInside : ActivityTree → Type 0
 IsSoundInside a = (inner : List ElementTree) → IsBlockOf a inner → IsSound inner
+
+-- the processes of a text are sound where its graphs are not too large
+abbrev pub AreSoundWithin : List Scope → List ProcessTree → Type 0
+AreSoundWithin scopes processes = All (λ s. IsLimited s.elements.now) scopes → All (λ p. IsSound p.elements) processes
 
 -- ---- where each template is sound but for the processes that it runs, each is so with those, to every depth
 

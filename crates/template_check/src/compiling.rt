@@ -2,7 +2,7 @@
 ghost use Rattle.std.specs.Prelude.{◌≡◌, None, IfOk};
 ghost use Rattle.std.specs.List.{All};
 ghost use Rattle.template_check.specs.Blocks.{lists_of, IsCovered};
-ghost use Rattle.template_check.specs.Built.{AreSound, IsSound};
+ghost use Rattle.template_check.specs.Built.{AreSound, AreSoundWithin, IsSound};
 ghost use Rattle.template_check.specs.Passed.{IsPassed};
 ghost use Rattle.template_check.specs.Texts.{lines_in, processes_in, AreNamesApart, IsConnected, IsLimited, IsLineAlong};
 
@@ -260,7 +260,24 @@ fn first_sizes<'a>(
     }
 }
 
-/// Judges rules 17 to 24 in a text that breaks none of the others, and builds what it adds where it breaks none.
+/// Judges rules 21 to 24 in a text that breaks none of the others, and builds what it adds where it breaks none.
+fn sized_and_built<'a>(
+    builder: &Builder<'a>,
+    tree: &'a Tree,
+    shapes: &[Shape],
+    scopes: &[Scope<'a>],
+) -> Result<Result<Compiled, (u8, u32)>, AllocError>
+    requires { AreSoundWithin scopes.now (processes_in tree.now.items) }
+    ensures { IfOk result (λ judged. IfOk judged (λ compiled. AreSound compiled.templates)) }
+{
+    let structures = builder.table.structures();
+    match first_sizes(builder.alloc, structures, &builder.known, shapes, scopes)? {
+        Some(fault) => Ok(Err(fault)),
+        None => Ok(Ok(built(builder, tree, shapes)?)),
+    }
+}
+
+/// Judges rules 17 to 24, and builds what the text adds where none is broken.
 fn shaped_and_built<'a>(
     alloc: Global,
     tree: &'a Tree,
@@ -268,10 +285,7 @@ fn shaped_and_built<'a>(
     scopes: &[Scope<'a>],
     earlier: &'a Catalog,
 ) -> Result<Result<Compiled, (u8, u32)>, AllocError>
-    requires covered { All (λ p. IsCovered (lists_of scopes.now) p.elements) (processes_in tree.now.items) }
-    requires named { All (λ s. AreNamesApart s.elements.now) scopes.now }
-    requires connected { All (λ s. IsConnected s.elements.now) scopes.now }
-    requires along { All (λ s. All (IsLineAlong s.elements.now) (lines_in s.elements.now)) scopes.now }
+    requires { AreSoundWithin scopes.now (processes_in tree.now.items) }
     ensures { IfOk result (λ judged. IfOk judged (λ compiled. AreSound compiled.templates)) }
 {
     let known = Known::new(alloc, tree, earlier)?;
@@ -279,15 +293,12 @@ fn shaped_and_built<'a>(
         return Ok(Err(fault));
     }
     let shapes = shapes(alloc, &known)?;
-    if let Some(fault) = first_sizes(alloc, table.structures(), &known, &shapes, scopes)? {
-        return Ok(Err(fault));
-    }
     let builder = Builder {
         alloc,
         table,
         known,
     };
-    Ok(Ok(built(&builder, tree, &shapes)?))
+    sized_and_built(&builder, tree, &shapes, scopes)
 }
 
 /// Judges rules 13 to 24, and builds what the text adds where none is broken.
