@@ -1,5 +1,5 @@
 -- A graph is laid where its wiring follows from its lists, no connectors close a walk, and its data lines go along connectors.
-use Rattle.std.proofs.Common.{◌≡◌, ℕ, zero, suc, ◌+◌, ◌<◌, List, [], ◌∷◌, length, length-append, get_or, take, ◌++◌, Option, Some, None, refl, sym, ap, subst, ◌∙◌, arith}
+use Rattle.std.proofs.Common.{◌≡◌, ℕ, zero, suc, ◌+◌, ◌<◌, List, [], ◌∷◌, length, length-append, get_or, take, ◌++◌, map, append-nil, Option, Some, None, refl, sym, ap, subst, ◌∙◌, arith}
 use Rattle.std.specs.List.{All, Contains, cons_option}
 use Rattle.std.specs.Option.{option_map}
 use Rattle.template_check.proofs.Naming.{first_below}
@@ -7,7 +7,7 @@ use Rattle.template_check.proofs.Sorting.{one_more}
 use Rattle.std.specs.Prelude.{slice_get, slice_index}
 use Rattle.std.proofs.lemmas.Option.{slice_get-get_or, get_or_from_slice_get}
 use Rattle.std.proofs.Math.ListN.{get_or-map}
-use Rattle.std.proofs.lemmas.List.{length-map}
+use Rattle.std.proofs.lemmas.List.{length-map, map-append}
 use Rattle.std.proofs.lemmas.List.Elements.{All-contains_itself}
 use Rattle.flow_model.specs.declared.graphs.Activity.{Activity}
 use Rattle.flow_model.specs.declared.graphs.Leaves.{Leaves}
@@ -25,13 +25,14 @@ use Rattle.flow_model.specs.declared.trees.EndTree.TheVariants as tree
 use Rattle.flow_model.specs.declared.trees.EndsTree.TheVariants as ends
 use Rattle.flow_model.specs.declared.trees.ElementTree.{ElementTree}
 use Rattle.fate_laws.proofs.WalkOrders.{order_is_flow}
-use Rattle.fate_laws.specs.Layout.{IsLaid, Laid, OfInside}
+use Rattle.fate_laws.specs.Layout.{IsLaid, OfInside}
 use Rattle.fate_laws.specs.Orders as flow
 use Rattle.fate_laws.specs.Walks.{Walk, IsWired}
 use Rattle.graph_check.specs.Walks.{HasEdge, IsWalk, IsOrder}
-use Rattle.template_check.specs.Built.{IsDrawn, IsLaidAlone, IsLaidInside, IsSound, IsSoundInside, end_in}
-use Rattle.template_check.specs.Texts.{activities_in, edges_in, IsJudged, IsLineAlong, line_edge, number_in, activity_of}
+use Rattle.template_check.specs.Built.{IsDrawn, IsSound, IsSoundAlone, IsSoundGraph, IsSoundInside, IsSoundWork, SoundTo, end_in}
+use Rattle.template_check.specs.Texts.{activities_in, names_in, controls_in, edge_of, edges_in, AllDiffer, IsJudged, IsLineAlong, line_edge, number_in, activity_of}
 use Rattle.template_check.specs.Wires.{pairs_of, AreWired, AreWithin, IsEndBelow}
+use Rattle.template_check.proofs.Differing.{chosen_short, simple}
 use Rattle.template_check.proofs.Judging.{edges_below}
 
 -- a connector is an edge
@@ -121,15 +122,41 @@ within count controls lines loops elements long same drawn looped =
       looped = looped;
     })
 
-ran_inside : (P : Graph → Type 0) (activities : List Activity) (a : ℕ) → ((g : Graph) → IsLaidAlone g → P g) → All (λ x. IsLaidInside x.work) activities → OfInside [] P (slice_get activities a)
+-- there are as many activities as names in the text
+pub as_many : (activities : List Activity) (elements : List ElementTree) → map (λ a. a.name) activities ≡ names_in elements → length activities ≡ length (activities_in elements)
+as_many activities elements names =
+    sym (length-map activities (λ (a : Activity). a.name)) ∙ ap length names ∙ length-map (activities_in elements) (λ (a : ActivityTree). a.name.name)
+
+-- a graph is sound that is laid out by a text in which the rules find nothing
+pub sound : (g : Graph) (elements : List ElementTree) → IsJudged elements → IsLaid g → IsWired g → map (λ a. a.name) (out-Graph g).activities ≡ names_in elements
+    → pairs_of (out-Graph g).controls ≡ edges_in elements → IsSoundGraph g
+sound g elements judged here along names same =
+    let long = as_many (out-Graph g).activities elements names in
+    let controls = (out-Graph g).controls in
+    let edges : length controls ≡ length (edges_in elements) = sym (length-map controls (λ (c : Control). (c.from, c.to))) ∙ ap length same in
+    let short = chosen_short (edge_of elements) (controls_in elements) in
+    let connected = judged.connected in
+    let below = controls_below controls elements same in
+    record {
+      laid = here;
+      wired = along;
+      peopled = omega (arith, long, connected.peopled);
+      simple = simple controls (subst AllDiffer (sym same) connected.simple);
+      named = subst AllDiffer (sym names) judged.named;
+      aimed = λ k d less. omega (arith, long, (below k d less).1);
+      few = omega (arith, edges, short, judged.limited.few);
+      small = omega (arith, long, judged.limited.small);
+    }
+
+ran_inside : (P : Graph → Type 0) (activities : List Activity) (a : ℕ) → ((g : Graph) → IsSoundAlone g → P g) → All (λ x. IsSoundWork x.work) activities → OfInside [] P (slice_get activities a)
 ran_inside P [] a gives all = tt
 ran_inside P (x ∷ xs) zero gives all = λ h is. gives h (all 0 x (omega arith) h is)
 ran_inside P (x ∷ xs) (suc a) gives all = ran_inside P xs a gives (λ k d less. all (suc k) d (omega arith))
 
--- a graph is laid to every depth where all that its activities run inside is
-pub laid_alone : (g : Graph) → IsLaid g → All (λ a. IsLaidInside a.work) (out-Graph g).activities → IsLaidAlone g
-laid_alone g here inside zero = record { here = here; inside = λ a. ran_inside (λ h. Unit {0}) (out-Graph g).activities a (λ h l. tt) inside }
-laid_alone g here inside (suc depth) = record { here = here; inside = λ a. ran_inside (Laid [] depth) (out-Graph g).activities a (λ h l. l depth) inside }
+-- a graph is sound to every depth where all that its activities run inside is
+pub sound_alone : (g : Graph) → IsSoundGraph g → All (λ a. IsSoundWork a.work) (out-Graph g).activities → IsSoundAlone g
+sound_alone g here inside zero = record { here = here; inside = λ a. ran_inside (λ h. Unit {0}) (out-Graph g).activities a (λ h l. tt) inside }
+sound_alone g here inside (suc depth) = record { here = here; inside = λ a. ran_inside (SoundTo [] depth) (out-Graph g).activities a (λ h l. l depth) inside }
 
 pub sound_here : (elements : List ElementTree) → IsSound elements → IsJudged elements
 sound_here elements sound = sound 0
@@ -165,27 +192,39 @@ drawn elements line f t d sound is hf ht = record {
   along = λ a b fa tb. sound a b (ap (line_edge elements) is ∙ drawn_along elements f t d.from d.to a b hf ht fa tb);
 }
 
--- the activities that are built, one for each of the text
-pub one_longer : (elements : List ElementTree) (i : ℕ) (x : ElementTree) → i < length elements → x ≡ get_or elements i x → (n m : ℕ) → n ≡ length (activities_in (take i elements)) → m ≡ n + 1 → (a : ActivityTree) → activity_of x ≡ Some a
-    → m ≡ length (activities_in (take (i + 1) elements))
-one_longer elements i x less is n m so_far more a some =
-    let whole = ap length (one_more activity_of elements i x less is ∙ ap (λ (o : Option ActivityTree). activities_in (take i elements) ++ cons_option o []) some) in
-    let e = length-append (activities_in (take i elements)) (a ∷ []) in
-    omega arith
+-- the activities that are built have the names of those of the text
+names_more : (elements : List ElementTree) (i : ℕ) (x : ElementTree) → i < length elements → x ≡ get_or elements i x
+    → names_in (take (i + 1) elements) ≡ names_in (take i elements) ++ map (λ a. a.name.name) (cons_option (activity_of x) [])
+names_more elements i x less is =
+    let name_of = λ (a : ActivityTree). a.name.name in
+    ap (map name_of) (one_more activity_of elements i x less is) ∙ map-append name_of (activities_in (take i elements)) (cons_option (activity_of x) [])
 
-pub as_long : (elements : List ElementTree) (i : ℕ) (x : ElementTree) → i < length elements → x ≡ get_or elements i x → (n : ℕ) → n ≡ length (activities_in (take i elements)) → activity_of x ≡ None → n ≡ length (activities_in (take (i + 1) elements))
-as_long elements i x less is n so_far none =
-    let whole = ap length (one_more activity_of elements i x less is ∙ ap (λ (o : Option ActivityTree). activities_in (take i elements) ++ cons_option o []) none) in
-    let e = length-append {A = ActivityTree} (activities_in (take i elements)) [] in
-    omega arith
+pub named_next : (elements : List ElementTree) (i : ℕ) (x : ElementTree) → i < length elements → x ≡ get_or elements i x → (activities next : List Activity) (built : Activity) (a : ActivityTree) → activity_of x ≡ Some a
+    → next ≡ activities ++ built ∷ [] → built.name ≡ a.name.name → map (λ b. b.name) activities ≡ names_in (take i elements) → map (λ b. b.name) next ≡ names_in (take (i + 1) elements)
+named_next elements i x less is activities next built a some now named so_far =
+    let name_of = λ (b : Activity). b.name in
+    ap (map name_of) now ∙ map-append name_of activities (built ∷ []) ∙ ap (λ (ns : List (List ℕ)). ns ++ built.name ∷ []) so_far
+    ∙ ap (λ (n : List ℕ). names_in (take i elements) ++ n ∷ []) named
+    ∙ sym (names_more elements i x less is ∙ ap (λ (o : Option ActivityTree). names_in (take i elements) ++ map (λ b. b.name.name) (cons_option o [])) some)
+
+pub named_past : (elements : List ElementTree) (i : ℕ) (x : ElementTree) → i < length elements → x ≡ get_or elements i x → (activities : List Activity) → activity_of x ≡ None
+    → map (λ b. b.name) activities ≡ names_in (take i elements) → map (λ b. b.name) activities ≡ names_in (take (i + 1) elements)
+named_past elements i x less is activities none so_far =
+    so_far
+    ∙ sym (names_more elements i x less is ∙ ap (λ (o : Option ActivityTree). names_in (take i elements) ++ map (λ b. b.name.name) (cons_option o [])) none ∙ append-nil (names_in (take i elements)))
 
 -- the graph that is built of its parts
 module _ (input output : Leaves) (activities : List Activity) (controls : List Control) (lines : List DataLine) (loops : List LoopLine) (wiring : Wiring) where
   abbrev built : Graph
   built = roll-Graph (record { input = input; output = output; activities = activities; controls = controls; lines = lines; loops = loops; wiring = wiring })
 
-  pub built_laid : (elements : List ElementTree) → AreWired (length activities) controls lines loops wiring → pairs_of controls ≡ edges_in elements → All (IsDrawn elements) lines → All (λ a. IsLaidInside a.work) activities
-      → IsLaidAlone built
-  built_laid elements w same drawn_ inside =
+  pub built_sound : (elements : List ElementTree) → IsJudged elements → AreWired (length activities) controls lines loops wiring → map (λ a. a.name) activities ≡ names_in elements → pairs_of controls ≡ edges_in elements
+      → All (IsDrawn elements) lines → All (λ a. IsSoundWork a.work) activities → IsSoundAlone built
+  built_sound elements judged w names same drawn_ inside =
       let parts = out-roll-Graph (record { input = input; output = output; activities = activities; controls = controls; lines = lines; loops = loops; wiring = wiring }) in
-      laid_alone built (laid built elements (rw parts w) (rw parts same) (rw parts drawn_)) (rw parts inside)
+      let here : AreWired (length (out-Graph built).activities) (out-Graph built).controls (out-Graph built).lines (out-Graph built).loops (out-Graph built).wiring = rw parts w in
+      let connects : pairs_of (out-Graph built).controls ≡ edges_in elements = rw parts same in
+      let along : All (IsDrawn elements) (out-Graph built).lines = rw parts drawn_ in
+      let names_here : map (λ a. a.name) (out-Graph built).activities ≡ names_in elements = rw parts names in
+      let works : All (λ a. IsSoundWork a.work) (out-Graph built).activities = rw parts inside in
+      sound_alone built (sound built elements judged (laid built elements here connects along) (wired built elements connects along) names_here connects) works

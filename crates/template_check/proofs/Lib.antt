@@ -1,6 +1,7 @@
 pub mod Indexing
 pub mod Rows
 pub mod Sorting
+pub mod Differing
 pub mod Naming
 pub mod Judging
 pub mod Listing

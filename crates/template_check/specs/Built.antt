@@ -1,11 +1,13 @@
--- What is built of a text: graphs that are laid out to be passed through.
-use Rattle.std.specs.Prelude.{◌≡◌, ℕ, Option, Some, List, [], length}
+-- What is built of a text: graphs that are well formed and laid out to be passed through.
+use Rattle.std.specs.Prelude.{◌≡◌, ℕ, zero, suc, ◌<◌, ◌≤◌, Option, Some, List, [], length, map, slice_get}
 use Rattle.std.specs.List.{All}
 use Rattle.std.specs.Option.{option_map}
-use Rattle.fate_laws.specs.Layout.{Laid}
+use Rattle.fate_laws.specs.Layout.{IsLaid, Laid, OfInside}
+use Rattle.fate_laws.specs.Walks.{IsWired}
+use Rattle.fate_laws.specs.WellFormed.{AreSimple, Well}
 use Rattle.flow_model.specs.ScopeContainers.{graph_in}
 use Rattle.flow_model.specs.declared.graphs.DataLine.{DataLine}
-use Rattle.flow_model.specs.declared.graphs.Graph.{Graph}
+use Rattle.flow_model.specs.declared.graphs.Graph.{Graph, out-Graph}
 use Rattle.flow_model.specs.declared.graphs.MapEnd.{MapEnd}
 use Rattle.flow_model.specs.declared.graphs.MapEnd.TheVariants.{Border, Activity as At}
 use Rattle.flow_model.specs.declared.graphs.Template.{Template}
@@ -14,10 +16,13 @@ use Rattle.flow_model.specs.declared.trees.ActivityTree.{ActivityTree}
 use Rattle.flow_model.specs.declared.trees.ElementTree.{ElementTree}
 use Rattle.flow_model.specs.declared.trees.EndTree.{EndTree}
 use Rattle.flow_model.specs.declared.trees.EndTree.TheVariants as tree
+use Rattle.flow_model.specs.declared.trees.ProcessTree.{ProcessTree}
 use Rattle.graph_check.specs.Walks.{Reaches}
 use Rattle.template_check.specs.Blocks.{IsBlockOf, JudgedTo}
-use Rattle.template_check.specs.Texts.{activities_in, number_in, edges_in}
+use Rattle.template_check.specs.Texts.{activities_in, number_in, edges_in, AllDiffer, IsLimited}
 use Rattle.template_check.specs.Wires.{IsEndBelow}
+use Rattle.template_check.specs.declared.scopes.Scope.{Scope}
+use Rattle.view_laws.specs.NextEvents.{Aimed}
 
 -- the end of a line, where its name is known
 abbrev pub end_in : List ElementTree → EndTree → Option MapEnd
@@ -29,17 +34,38 @@ pub record IsDrawn (elements : List ElementTree) (line : DataLine) : Type 0 wher
   pub below : IsEndBelow (length (activities_in elements)) line.to
   pub along : (a b : ℕ) → line.from ≡ At a → line.to ≡ At b → Reaches (edges_in elements) a b
 
--- a graph and the blocks inside it are laid
-abbrev pub IsLaidAlone : Graph → Type 0
-IsLaidAlone g = (depth : ℕ) → Laid [] depth g
+-- a graph is laid out right, and what the rules ask of its text holds of it
+pub record IsSoundGraph (g : Graph) : Type 0 where
+  pub laid : IsLaid g
+  pub wired : IsWired g
+  pub peopled : 0 < length (out-Graph g).activities
+  pub simple : AreSimple (out-Graph g).controls
+  pub named : AllDiffer (map (λ a. a.name) (out-Graph g).activities)
+  pub aimed : All (λ c. c.to < length (out-Graph g).activities) (out-Graph g).controls
+  pub few : length (out-Graph g).controls ≤ 4096
+  pub small : length (out-Graph g).activities ≤ 1024
 
--- the graph of a block is laid
-abbrev pub IsLaidInside : Work → Type 0
-IsLaidInside work = (g : Graph) → graph_in [] work ≡ Some g → IsLaidAlone g
+-- a sound graph, whose blocks and subprocesses have this property
+pub record IsSoundWith (ts : List Template) (g : Graph) (P : Graph → Type 0) : Type 0 where
+  pub here : IsSoundGraph g
+  pub inside : (a : ℕ) → OfInside ts P (slice_get (out-Graph g).activities a)
 
--- each template is laid, but for the processes that it runs
-abbrev pub AreLaidAlone : List Template → Type 0
-AreLaidAlone ts = All (λ t. IsLaidAlone t.graph) ts
+-- a graph is sound, and so are those inside, to this depth
+abbrev pub SoundTo : List Template → ℕ → Graph → Type 0
+SoundTo ts zero g = IsSoundWith ts g (λ h. Unit {0})
+SoundTo ts (suc depth) g = IsSoundWith ts g (SoundTo ts depth)
+
+-- a graph and the blocks inside it are sound
+abbrev pub IsSoundAlone : Graph → Type 0
+IsSoundAlone g = (depth : ℕ) → SoundTo [] depth g
+
+-- the graph of a block is sound
+abbrev pub IsSoundWork : Work → Type 0
+IsSoundWork work = (g : Graph) → graph_in [] work ≡ Some g → IsSoundAlone g
+
+-- each template is sound, but for the processes that it runs
+abbrev pub AreSound : List Template → Type 0
+AreSound ts = All (λ t. IsSoundAlone t.graph) ts
 
 -- a graph of a text and those inside it are sound
 abbrev pub IsSound : List ElementTree → Type 0
@@ -49,6 +75,20 @@ IsSound elements = (depth : ℕ) → JudgedTo depth elements
 abbrev pub IsSoundInside : ActivityTree → Type 0
 IsSoundInside a = (inner : List ElementTree) → IsBlockOf a inner → IsSound inner
 
--- where each template is laid but for the processes that it runs, each is laid with those, to every depth
+-- the processes of a text are sound where its graphs are not too large
+abbrev pub AreSoundWithin : List Scope → List ProcessTree → Type 0
+AreSoundWithin scopes processes = All (λ s. IsLimited s.elements.now) scopes → All (λ p. IsSound p.elements) processes
+
+-- ---- where each template is sound but for the processes that it runs, each is so with those, to every depth
+
+-- it is laid
 abbrev pub LaidTogether : Type 0
-LaidTogether = (ts : List Template) → AreLaidAlone ts → (depth : ℕ) → All (λ t. Laid ts depth t.graph) ts
+LaidTogether = (ts : List Template) → AreSound ts → (depth : ℕ) → All (λ t. Laid ts depth t.graph) ts
+
+-- it is well formed
+abbrev pub WellTogether : Type 0
+WellTogether = (ts : List Template) → AreSound ts → (depth : ℕ) → All (λ t. Well ts depth t.graph) ts
+
+-- its connectors lead to its activities
+abbrev pub AimedTogether : Type 0
+AimedTogether = (ts : List Template) → AreSound ts → (depth : ℕ) → All (λ t. Aimed ts depth t.graph) ts

@@ -1,6 +1,7 @@
 pub mod Imports
 pub mod ClosedWalks
 pub mod Texts
+pub mod Meeting
 pub mod GraphEdges
 pub mod Blocks
 pub mod Wires

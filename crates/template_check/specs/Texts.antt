@@ -1,7 +1,7 @@
 -- What the text of a graph says: its activities, connectors and data lines, the activities that names stand for, and which graphs stand in it.
 use Rattle.std.specs.Borrow.{Bor}
-use Rattle.std.specs.Prelude.{◌≡◌, ℕ, ◌+◌, Bool, if◌then◌else◌, Option, Some, None, List, [], ◌∷◌, bytes_eq}
-use Rattle.std.specs.List.{All, filter_map}
+use Rattle.std.specs.Prelude.{◌≡◌, ℕ, ◌+◌, ◌<◌, ◌≤◌, Bool, if◌then◌else◌, Option, Some, None, List, [], ◌∷◌, bytes_eq, length, map}
+use Rattle.std.specs.List.{All, AllPairs, filter_map}
 use Rattle.std.specs.Option.{option_map}
 use Rattle.std.specs.HashMap as hash
 use Rattle.std.specs.HashMap.{HashMap}
@@ -41,6 +41,10 @@ line_of (Line l) = Some l
 -- the activities of a graph, in the order of the text
 abbrev pub activities_in : List ElementTree → List ActivityTree
 activities_in = filter_map activity_of
+
+-- their names
+abbrev pub names_in : List ElementTree → List (List ℕ)
+names_in elements = map (λ a. a.name.name) (activities_in elements)
 
 -- its connectors, in the order of the text
 abbrev pub controls_in : List ElementTree → List ControlTree
@@ -89,7 +93,7 @@ edge_of elements c = pair_of (number_in elements c.from.name) (number_in element
 abbrev pub edges_in : List ElementTree → List (ℕ × ℕ)
 edges_in elements = filter_map (edge_of elements) (controls_in elements)
 
--- ---- what rules 11 and 16 ask of a graph
+-- ---- what the rules ask of a graph
 
 -- the numbers of the two activities of a data line between activities, where both are known
 abbrev pub line_edge : List ElementTree → EndsTree → Option (ℕ × ℕ)
@@ -106,7 +110,28 @@ IsLineAlong elements line = (a b : ℕ) → line_edge elements line.ends ≡ Som
 abbrev pub IsNotClosing : List ElementTree → ControlTree → Type 0
 IsNotClosing elements c = (a b : ℕ) → edge_of elements c ≡ Some (a, b) → Reaches (edges_in elements) b a → ⊥
 
--- no connectors close a walk, and each data line between activities goes along one
-pub record IsJudged (elements : List ElementTree) : Type 0 where
+-- no two are the same
+abbrev pub AllDiffer : {X : Type 0} → List X → Type 0
+AllDiffer xs = AllPairs (λ x y. x ≡ y → ⊥) xs
+
+-- rule 5: no two activities have one name
+abbrev pub AreNamesApart : List ElementTree → Type 0
+AreNamesApart elements = AllDiffer (names_in elements)
+
+-- rules 10 to 12: no two connectors have the same ends, none closes a walk, and there is an activity
+pub record IsConnected (elements : List ElementTree) : Type 0 where
+  pub simple : AllDiffer (edges_in elements)
   pub acyclic : IsAcyclic (edges_in elements)
+  pub peopled : 0 < length (activities_in elements)
+
+-- rule 24: there are not too many connectors or activities
+pub record IsLimited (elements : List ElementTree) : Type 0 where
+  pub few : length (controls_in elements) ≤ 4096
+  pub small : length (activities_in elements) ≤ 1024
+
+-- what holds of a graph in which rules 5, 10 to 12, 16 and 24 find nothing
+pub record IsJudged (elements : List ElementTree) : Type 0 where
+  pub named : AreNamesApart elements
+  pub connected : IsConnected elements
   pub along : All (IsLineAlong elements) (lines_in elements)
+  pub limited : IsLimited elements

@@ -1,8 +1,8 @@
 //! From the tree of an accepted text to its templates and people.
-ghost use Rattle.std.specs.Prelude.{◌≡◌, ◌<◌, length, IfOk, IfSome};
+ghost use Rattle.std.specs.Prelude.{◌≡◌, ◌<◌, length, map, IfOk, IfSome};
 ghost use Rattle.std.specs.List.{All};
-ghost use Rattle.template_check.specs.Built.{end_in, IsDrawn, IsLaidAlone, IsLaidInside, IsSound, IsSoundInside};
-ghost use Rattle.template_check.specs.Texts.{activities_in, lines_in, edges_in, IsLineAlong};
+ghost use Rattle.template_check.specs.Built.{end_in, IsDrawn, IsSound, IsSoundAlone, IsSoundInside, IsSoundWork};
+ghost use Rattle.template_check.specs.Texts.{activities_in, names_in, lines_in, edges_in, IsLineAlong};
 ghost use Rattle.template_check.specs.Wires.{pairs_of};
 
 use crate::catalog::Catalog;
@@ -251,7 +251,7 @@ impl<'a> Builder<'a> {
     #[cycle(building)]
     fn work(&self, scope: &Scope<'a>, activity: &'a ActivityTree) -> Result<Work, AllocError>
         requires { IsSoundInside activity.now }
-        ensures { IfOk result IsLaidInside }
+        ensures { IfOk result IsSoundWork }
     {
         match &activity.work {
             WorkTree::Program => Ok(Work::Program(self.program(scope, activity)?)),
@@ -272,7 +272,8 @@ impl<'a> Builder<'a> {
         activity: &'a ActivityTree,
     ) -> Result<Activity, AllocError>
         requires { IsSoundInside activity.now }
-        ensures { IfOk result (λ built. IsLaidInside built.work) }
+        ensures named { IfOk result (λ built. built.name ≡ activity.now.name.name) }
+        ensures sound { IfOk result (λ built. IsSoundWork built.work) }
     {
         let structures = self.table.structures();
         Ok(Activity {
@@ -292,8 +293,8 @@ impl<'a> Builder<'a> {
         elements: &'a [ElementTree],
     ) -> Result<List<Activity>, AllocError>
         requires { All IsSoundInside (activities_in elements.now) }
-        ensures long { IfOk result (λ built. length built ≡ length (activities_in elements.now)) }
-        ensures laid { IfOk result (All (λ built. IsLaidInside built.work)) }
+        ensures named { IfOk result (λ built. map (λ a. a.name) built ≡ names_in elements.now) }
+        ensures sound { IfOk result (All (λ built. IsSoundWork built.work)) }
     {
         let mut activities = List::new(self.alloc);
         for element in elements {
@@ -318,7 +319,7 @@ impl<'a> Builder<'a> {
         elements: &'a [ElementTree],
     ) -> Result<Graph, AllocError>
         requires { IsSound elements.now }
-        ensures { IfOk result IsLaidAlone }
+        ensures { IfOk result IsSoundAlone }
     {
         let scope = Scope::new(self.alloc, process, place, input, output, elements)?;
         let activities = self.activities(&scope, elements)?;
@@ -352,7 +353,7 @@ impl<'a> Builder<'a> {
         shape: Shape,
     ) -> Result<Template, AllocError>
         requires { IsSound process.now.elements }
-        ensures { IfOk result (λ template. IsLaidAlone template.graph) }
+        ensures { IfOk result (λ template. IsSoundAlone template.graph) }
     {
         let (input, output) = (&process.input, &process.output);
         let elements = process.elements.as_slice();

@@ -2,10 +2,9 @@
 ghost use Rattle.std.specs.Prelude.{◌≡◌, None, IfOk};
 ghost use Rattle.std.specs.List.{All};
 ghost use Rattle.template_check.specs.Blocks.{lists_of, IsCovered};
-ghost use Rattle.template_check.specs.Built.{AreLaidAlone, IsSound};
-ghost use Rattle.template_check.specs.ClosedWalks.{IsAcyclic};
+ghost use Rattle.template_check.specs.Built.{AreSound, AreSoundWithin, IsSound};
 ghost use Rattle.template_check.specs.Passed.{IsPassed};
-ghost use Rattle.template_check.specs.Texts.{edges_in, lines_in, processes_in, IsLineAlong};
+ghost use Rattle.template_check.specs.Texts.{lines_in, processes_in, AreNamesApart, IsConnected, IsLimited, IsLineAlong};
 
 use crate::building::Builder;
 use crate::catalog::Catalog;
@@ -81,7 +80,9 @@ fn first_names<'a>(
     tree: &Tree,
     structures: &mut Structures<'a>,
     scopes: &[Scope<'a>],
-) -> Result<Broken, AllocError> {
+) -> Result<Broken, AllocError>
+    ensures { IfOk result (λ fault. fault ≡ None → All (λ s. AreNamesApart s.elements.now) scopes.now) }
+{
     if let Some(place) = end_name(tree, scopes) {
         return Ok(Some((4, place)));
     }
@@ -139,7 +140,7 @@ fn over_graphs(
 
 /// Rules 9 to 12.
 fn first_connectors(alloc: Global, scopes: &[Scope<'_>]) -> Result<Broken, AllocError>
-    ensures { IfOk result (λ fault. fault ≡ None → All (λ s. IsAcyclic (edges_in s.elements.now)) scopes.now) }
+    ensures { IfOk result (λ fault. fault ≡ None → All (λ s. IsConnected s.elements.now) scopes.now) }
 {
     if let Some(place) = over_graphs(alloc, GraphRule::UnknownActivity, scopes)? {
         return Ok(Some((9, place)));
@@ -147,9 +148,12 @@ fn first_connectors(alloc: Global, scopes: &[Scope<'_>]) -> Result<Broken, Alloc
     if let Some(place) = over_graphs(alloc, GraphRule::DoubleConnector, scopes)? {
         return Ok(Some((10, place)));
     }
-    match over_graphs(alloc, GraphRule::Cycle, scopes)? {
-        Some(place) => Ok(Some((11, place))),
-        None => Ok(broken(12, over_graphs(alloc, GraphRule::EmptyGraph, scopes)?)),
+    if let Some(place) = over_graphs(alloc, GraphRule::Cycle, scopes)? {
+        return Ok(Some((11, place)));
+    }
+    match over_graphs(alloc, GraphRule::EmptyGraph, scopes)? {
+        Some(place) => Ok(Some((12, place))),
+        None => Ok(None),
     }
 }
 
@@ -238,7 +242,9 @@ fn first_sizes<'a>(
     known: &Known<'a>,
     shapes: &[Shape],
     scopes: &[Scope<'a>],
-) -> Result<Broken, AllocError> {
+) -> Result<Broken, AllocError>
+    ensures { IfOk result (λ fault. fault ≡ None → All (λ s. IsLimited s.elements.now) scopes.now) }
+{
     if let Some(place) = nesting(known.processes(), shapes) {
         return Ok(Some((21, place)));
     }
@@ -248,10 +254,30 @@ fn first_sizes<'a>(
     if let Some(place) = number(alloc, structures, scopes)? {
         return Ok(Some((23, place)));
     }
-    Ok(broken(24, count_limit(known.processes(), scopes)))
+    match count_limit(known.processes(), scopes) {
+        Some(place) => Ok(Some((24, place))),
+        None => Ok(None),
+    }
 }
 
-/// Judges rules 17 to 24 in a text that breaks none of the others, and builds what it adds where it breaks none.
+/// Judges rules 21 to 24 in a text that breaks none of the others, and builds what it adds where it breaks none.
+fn sized_and_built<'a>(
+    builder: &Builder<'a>,
+    tree: &'a Tree,
+    shapes: &[Shape],
+    scopes: &[Scope<'a>],
+) -> Result<Result<Compiled, (u8, u32)>, AllocError>
+    requires { AreSoundWithin scopes.now (processes_in tree.now.items) }
+    ensures { IfOk result (λ judged. IfOk judged (λ compiled. AreSound compiled.templates)) }
+{
+    let structures = builder.table.structures();
+    match first_sizes(builder.alloc, structures, &builder.known, shapes, scopes)? {
+        Some(fault) => Ok(Err(fault)),
+        None => Ok(Ok(built(builder, tree, shapes)?)),
+    }
+}
+
+/// Judges rules 17 to 24, and builds what the text adds where none is broken.
 fn shaped_and_built<'a>(
     alloc: Global,
     tree: &'a Tree,
@@ -259,23 +285,20 @@ fn shaped_and_built<'a>(
     scopes: &[Scope<'a>],
     earlier: &'a Catalog,
 ) -> Result<Result<Compiled, (u8, u32)>, AllocError>
-    requires { All (λ p. IsSound p.elements) (processes_in tree.now.items) }
-    ensures { IfOk result (λ judged. IfOk judged (λ compiled. AreLaidAlone compiled.templates)) }
+    requires { AreSoundWithin scopes.now (processes_in tree.now.items) }
+    ensures { IfOk result (λ judged. IfOk judged (λ compiled. AreSound compiled.templates)) }
 {
     let known = Known::new(alloc, tree, earlier)?;
     if let Some(fault) = first_people(alloc, &known, &table, scopes)? {
         return Ok(Err(fault));
     }
     let shapes = shapes(alloc, &known)?;
-    if let Some(fault) = first_sizes(alloc, table.structures(), &known, &shapes, scopes)? {
-        return Ok(Err(fault));
-    }
     let builder = Builder {
         alloc,
         table,
         known,
     };
-    Ok(Ok(built(&builder, tree, &shapes)?))
+    sized_and_built(&builder, tree, &shapes, scopes)
 }
 
 /// Judges rules 13 to 24, and builds what the text adds where none is broken.
@@ -287,8 +310,9 @@ fn judged_and_built<'a>(
     earlier: &'a Catalog,
 ) -> Result<Result<Compiled, (u8, u32)>, AllocError>
     requires covered { All (λ p. IsCovered (lists_of scopes.now) p.elements) (processes_in tree.now.items) }
-    requires acyclic { All (λ s. IsAcyclic (edges_in s.elements.now)) scopes.now }
-    ensures { IfOk result (λ judged. IfOk judged (λ compiled. AreLaidAlone compiled.templates)) }
+    requires named { All (λ s. AreNamesApart s.elements.now) scopes.now }
+    requires connected { All (λ s. IsConnected s.elements.now) scopes.now }
+    ensures { IfOk result (λ judged. IfOk judged (λ compiled. AreSound compiled.templates)) }
 {
     let table = LeafTable::new(alloc, structures, scopes)?;
     match first_members(alloc, &table, scopes)? {
@@ -304,7 +328,7 @@ fn built<'a>(
     shapes: &[Shape],
 ) -> Result<Compiled, AllocError>
     requires { All (λ p. IsSound p.elements) (processes_in tree.now.items) }
-    ensures { IfOk result (λ compiled. AreLaidAlone compiled.templates) }
+    ensures { IfOk result (λ compiled. AreSound compiled.templates) }
 {
     let mut templates = List::new(builder.alloc);
     let mut people = List::new(builder.alloc);
@@ -337,8 +361,9 @@ fn connected_and_built<'a>(
     scopes: &[Scope<'a>],
     earlier: &'a Catalog,
 ) -> Result<Result<Compiled, (u8, u32)>, AllocError>
-    requires { All (λ p. IsCovered (lists_of scopes.now) p.elements) (processes_in tree.now.items) }
-    ensures { IfOk result (λ judged. IfOk judged (λ compiled. AreLaidAlone compiled.templates)) }
+    requires covered { All (λ p. IsCovered (lists_of scopes.now) p.elements) (processes_in tree.now.items) }
+    requires named { All (λ s. AreNamesApart s.elements.now) scopes.now }
+    ensures { IfOk result (λ judged. IfOk judged (λ compiled. AreSound compiled.templates)) }
 {
     match first_connectors(alloc, scopes)? {
         Some(fault) => Ok(Err(fault)),
@@ -352,7 +377,7 @@ fn compile_tree(
     tree: &Tree,
     earlier: &Catalog,
 ) -> Result<Result<Compiled, (u8, u32)>, AllocError>
-    ensures { IfOk result (λ judged. IfOk judged (λ compiled. AreLaidAlone compiled.templates)) }
+    ensures { IfOk result (λ judged. IfOk judged (λ compiled. AreSound compiled.templates)) }
 {
     let scopes = text_scopes(alloc, tree)?;
     let mut structures = Structures::new(alloc, tree)?;
@@ -366,7 +391,7 @@ fn compile_tree(
 ///
 /// `Rule` comes exactly where it breaks a rule: the least rule, and then the least place.
 pub fn compile(alloc: Global, text: &[u8], earlier: &Catalog) -> Result<Compiled, ImportFault>
-    ensures { IfOk result (λ compiled. AreLaidAlone compiled.templates) }
+    ensures { IfOk result (λ compiled. AreSound compiled.templates) }
 {
     let tree = syntax_tree(alloc, text)?;
     match compile_tree(alloc, &tree, earlier)? {

@@ -1,7 +1,7 @@
 //! Rules 9 to 12, 15 and 16: connectors and data lines as edges of their graph.
-ghost use Rattle.std.specs.Prelude.{ℕ, ◌≡◌, ◌<◌, false, true, None, IfOk, OnOk};
+ghost use Rattle.std.specs.Prelude.{ℕ, ◌≡◌, ◌<◌, false, true, None, IfOk, OnOk, length};
 ghost use Rattle.graph_check.specs.Walks.{Reaches};
-ghost use Rattle.template_check.specs.Texts.{edges_in, lines_in, line_edge, IsNotClosing, IsLineAlong};
+ghost use Rattle.template_check.specs.Texts.{activities_in, edges_in, lines_in, line_edge, AllDiffer, IsNotClosing, IsLineAlong};
 ghost use Rattle.template_check.specs.ClosedWalks.{IsAcyclic};
 ghost use Rattle.template_check.specs.GraphEdges.{AreEdgesOf, AreKnown};
 ghost use Rattle.std.specs.List.{All};
@@ -46,13 +46,18 @@ pub fn unknown_activity(scope: &Scope<'_>) -> Option<u32> {
 }
 
 /// Rule 10: an earlier CONTROL of the graph has the same source and target.
-pub fn double_connector(alloc: Global, scope: &Scope<'_>) -> Result<Option<u32>, AllocError> {
-    let mut met = IndexSet::new(alloc);
+pub fn double_connector(alloc: Global, scope: &Scope<'_>) -> Result<Option<u32>, AllocError>
+    ensures { IfOk result (λ place. place ≡ None → AllDiffer (edges_in scope.now.elements.now)) }
+{
+    let mut met: IndexSet<(u32, u32)> = IndexSet::new(alloc);
     for control in &scope.controls {
-        if let (Some(from), Some(to)) = (scope.number(&control.from), scope.number(&control.to)) {
-            let (_place, is_new) = met.insert_full((from, to))?;
-            if !is_new {
-                return Ok(Some(control.place));
+        match scope.ends(&control.from, &control.to) {
+            None => {}
+            Some(ends) => {
+                let (_place, is_new) = met.insert_full(ends)?;
+                if !is_new {
+                    return Ok(Some(control.place));
+                }
             }
         }
     }
@@ -95,7 +100,9 @@ pub fn cycle(alloc: Global, scope: &Scope<'_>) -> Result<Option<u32>, AllocError
 }
 
 /// Rule 12: a PROCESS or BLOCK has no activity.
-pub fn empty_graph(scope: &Scope<'_>) -> Option<u32> {
+pub fn empty_graph(scope: &Scope<'_>) -> Option<u32>
+    ensures { result ≡ None → 0 < length (activities_in scope.now.elements.now) }
+{
     if scope.activities.is_empty() {
         Some(scope.place)
     } else {

@@ -1,5 +1,6 @@
 //! The least of some places.
-ghost use Rattle.std.specs.Prelude.{◌≡◌, None};
+ghost use Rattle.std.specs.Prelude.{◌≡◌, ℕ, List, [], ◌∷◌, ◌++◌, None, OnOk};
+ghost use Rattle.template_check.specs.Meeting.{AreMet};
 
 use flow_model::NameAt;
 use indexmap::IndexSet;
@@ -24,7 +25,9 @@ pub struct Repeats<'a> {
 }
 
 impl<'a> Repeats<'a> {
-    pub fn new(alloc: Global) -> Repeats<'a> {
+    pub fn new(alloc: Global) -> Repeats<'a>
+        ensures { AreMet result [] }
+    {
         Repeats {
             met: IndexSet::new(alloc),
             first: None,
@@ -32,7 +35,9 @@ impl<'a> Repeats<'a> {
     }
 
     /// Meets a name; names come in the order of their places.
-    pub fn meet(&mut self, name: &'a NameAt) -> Result<(), AllocError> {
+    pub fn meet(&mut self, name: &'a NameAt) -> Result<(), AllocError>
+        ensures { OnOk result ((names : List (List ℕ)) → AreMet self.old names → AreMet self.new (names ++ name.now.name ∷ [])) }
+    {
         let (_place, is_new) = self.met.insert_full(name.name.as_slice())?;
         if !is_new {
             self.first = lesser(self.first, Some(name.place));
@@ -41,7 +46,9 @@ impl<'a> Repeats<'a> {
     }
 
     /// The place of the first name that came again.
-    pub fn first(&self) -> Option<u32> {
+    pub fn first(&self) -> Option<u32>
+        ensures { result ≡ self.now.first }
+    {
         self.first
     }
 }

@@ -25,4 +25,4 @@ mod wires;
 pub use catalog::Catalog;
 pub use compiling::{Compiled, compile, line_of, syntax_tree};
 pub use faults::{ImportFault, RuleFault};
-pub use layout::laid_together;
+pub use layout::{aimed_together, laid_together, well_together};

@@ -1,4 +1,8 @@
 //! Rules 4 and 5: the names after END, and what is declared twice.
+ghost use Rattle.std.specs.Prelude.{◌≡◌, None, IfOk};
+ghost use Rattle.std.specs.List.{All};
+ghost use Rattle.template_check.specs.Texts.{AreNamesApart};
+
 use crate::least::{Repeats, lesser};
 use crate::scopes::Scope;
 use flow_model::{ActivityTree, AttrAt, AttrTree, ItemTree, NameAt, PersonTree, StructDef, Tree};
@@ -72,7 +76,9 @@ fn second_role(alloc: Global, person: &PersonTree) -> Result<Option<u32>, AllocE
     Ok(roles.first())
 }
 
-fn second_activity(alloc: Global, scope: &Scope<'_>) -> Result<Option<u32>, AllocError> {
+fn second_activity(alloc: Global, scope: &Scope<'_>) -> Result<Option<u32>, AllocError>
+    ensures { IfOk result (λ place. place ≡ None → AreNamesApart scope.now.elements.now) }
+{
     let mut activities = Repeats::new(alloc);
     for activity in &scope.activities {
         activities.meet(&activity.name)?;
@@ -128,12 +134,8 @@ fn second_attribute_in(scope: &Scope<'_>) -> Option<u32> {
     least
 }
 
-/// Rule 5: something is declared twice: the later name, or the attribute's first word.
-pub fn duplicate(
-    alloc: Global,
-    tree: &Tree,
-    scopes: &[Scope<'_>],
-) -> Result<Option<u32>, AllocError> {
+/// A second structure, person or process of one name, or member or role.
+fn second_in_items(alloc: Global, tree: &Tree) -> Result<Option<u32>, AllocError> {
     let mut least = second_item(alloc, tree)?;
     for item in tree.items.as_slice() {
         let fault = match item {
@@ -143,9 +145,29 @@ pub fn duplicate(
         };
         least = lesser(least, fault);
     }
+    Ok(least)
+}
+
+/// A second activity of one name in a graph, or attribute of one kind in an activity.
+fn second_in_graphs(alloc: Global, scopes: &[Scope<'_>]) -> Result<Option<u32>, AllocError>
+    ensures { IfOk result (λ place. place ≡ None → All (λ s. AreNamesApart s.elements.now) scopes.now) }
+{
+    let mut least = None;
     for scope in scopes {
-        least = lesser(least, second_activity(alloc, scope)?);
-        least = lesser(least, second_attribute_in(scope));
+        let fault = lesser(second_activity(alloc, scope)?, second_attribute_in(scope));
+        least = lesser(least, fault);
     }
     Ok(least)
+}
+
+/// Rule 5: something is declared twice: the later name, or the attribute's first word.
+pub fn duplicate(
+    alloc: Global,
+    tree: &Tree,
+    scopes: &[Scope<'_>],
+) -> Result<Option<u32>, AllocError>
+    ensures { IfOk result (λ place. place ≡ None → All (λ s. AreNamesApart s.elements.now) scopes.now) }
+{
+    let outside = second_in_items(alloc, tree)?;
+    Ok(lesser(outside, second_in_graphs(alloc, scopes)?))
 }

@@ -1,4 +1,8 @@
 //! Rules 21 to 24: nesting, expanded size, numbers and counts.
+ghost use Rattle.std.specs.Prelude.{◌≡◌, None};
+ghost use Rattle.std.specs.List.{All};
+ghost use Rattle.template_check.specs.Texts.{IsLimited};
+
 use crate::least::lesser;
 use crate::people::{Callee, Known};
 use crate::scopes::{Scope, small};
@@ -219,7 +223,9 @@ fn large_conditions(scope: &Scope<'_>) -> Option<u32> {
     least
 }
 
-fn graph_too_large(scope: &Scope<'_>) -> Option<u32> {
+fn graph_too_large(scope: &Scope<'_>) -> Option<u32>
+    ensures { result ≡ None → IsLimited scope.now.elements.now }
+{
     let activity = scope
         .activities
         .get(MOST_ACTIVITIES)
@@ -236,7 +242,9 @@ fn graph_too_large(scope: &Scope<'_>) -> Option<u32> {
 }
 
 /// Rule 24: more than is allowed of processes, of a graph's activities or lines, or of a condition's parts.
-pub fn count_limit(processes: &[&ProcessTree], scopes: &[Scope<'_>]) -> Option<u32> {
+pub fn count_limit(processes: &[&ProcessTree], scopes: &[Scope<'_>]) -> Option<u32>
+    ensures { result ≡ None → All (λ s. IsLimited s.elements.now) scopes.now }
+{
     let mut least = processes.get(MOST_PROCESSES).map(|process| process.place);
     for scope in scopes {
         least = lesser(least, graph_too_large(scope));

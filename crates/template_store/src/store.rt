@@ -1,6 +1,6 @@
 //! The imports so far.
 ghost use Rattle.std.specs.Prelude.{◌≡◌, ◌-◌, ◌^◌, ◌<◌, ◌≤◌, ◌+◌, [], ◌++◌, min, length, slice_get, option_copied, OnOk, IfOk, ◌==◌, ◌&&◌, position, bytes_eq, true};
-ghost use Rattle.template_check.specs.Built.{AreLaidAlone};
+ghost use Rattle.template_check.specs.Built.{AreSound};
 ghost use Rattle.template_check.specs.Imports.{IsIndexed, newest_place, latest_person};
 ghost use Rattle.template_check.specs.declared.compiling.Compiled.{Compiled as Added};
 ghost use Rattle.template_store.specs.Store.{version_place, with_compiled, is_refusal, KeepsIndex};
@@ -20,7 +20,7 @@ impl TemplateStore {
     pub fn new(alloc: Global) -> TemplateStore
         ensures indexed { IsIndexed result.catalog }
         ensures empty { result.catalog.library ≡ record { templates = []; people = [] } }
-        ensures laid { AreLaidAlone result.catalog.library.templates }
+        ensures sound { AreSound result.catalog.library.templates }
     {
         TemplateStore {
             catalog: Catalog::new(alloc),
@@ -29,7 +29,7 @@ impl TemplateStore {
 
     /// What a text would add; `Rule` where it breaks one. Nothing is changed.
     pub fn check(&self, alloc: Global, text: &[u8]) -> Result<Compiled, ImportFault>
-        ensures { IfOk result (λ compiled. AreLaidAlone compiled.templates) }
+        ensures { IfOk result (λ compiled. AreSound compiled.templates) }
     {
         compile(alloc, text, &self.catalog)
     }
@@ -40,7 +40,7 @@ impl TemplateStore {
         ensures added { IfOk result (λ count. (added : Added) × (count ≡ min (length added.templates) (2 ^ 32 - 1)) × (self.new.catalog.library ≡ with_compiled self.old.catalog.library added)) }
         ensures indexed { OnOk result (KeepsIndex self.old.catalog self.new.catalog) }
         ensures refused { is_refusal result ≡ true → self.new ≡ self.old }
-        ensures laid { OnOk result (AreLaidAlone self.old.catalog.library.templates → AreLaidAlone self.new.catalog.library.templates) }
+        ensures sound { OnOk result (AreSound self.old.catalog.library.templates → AreSound self.new.catalog.library.templates) }
     {
         let compiled = self.check(alloc, text)?;
         let count = self.add(alloc, compiled)?;
@@ -49,8 +49,8 @@ impl TemplateStore {
 
     /// Adds what a text compiled to; answers the number of processes.
     fn add(&mut self, alloc: Global, compiled: Compiled) -> Result<u32, AllocError>
-        requires { AreLaidAlone compiled.templates }
-        ensures laid { OnOk result (AreLaidAlone self.old.catalog.library.templates → AreLaidAlone self.new.catalog.library.templates) }
+        requires { AreSound compiled.templates }
+        ensures sound { OnOk result (AreSound self.old.catalog.library.templates → AreSound self.new.catalog.library.templates) }
         ensures indexed { OnOk result (KeepsIndex self.old.catalog self.new.catalog) }
         ensures added { IfOk result (λ count. (count ≡ min (length compiled.templates) (2 ^ 32 - 1)) × (self.new.catalog.library ≡ with_compiled self.old.catalog.library compiled)) }
     {

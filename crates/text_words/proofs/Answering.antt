@@ -17,7 +17,7 @@ use Rattle.flow_model.specs.declared.graphs.Leaves.{Leaves}
 use Rattle.flow_model.specs.declared.graphs.Template.{Template}
 use Rattle.flow_model.specs.declared.instances.Fact.{Fact}
 use Rattle.flow_model.specs.declared.instances.FateRow.{FateRow}
-use Rattle.template_check.specs.Built.{AreLaidAlone}
+use Rattle.template_check.specs.Built.{AreSound}
 use Rattle.template_check.proofs.Together.{laid_together}
 use Rattle.text_words.specs.Answers.{Refuses}
 use Rattle.text_words.specs.FateAnswers.{fates_text, fates_by, TellsFates, IsOfLast}
@@ -33,7 +33,7 @@ pub all_of_one : (facts : List Fact) → All (λ (fact : Fact). fact.item.root �
 all_of_one facts all = λ i f is. all_there (λ (fact : Fact). fact.item.root ≡ 1) facts i f all is
 
 -- a process of a text is laid with those that it runs
-pub laid_there : (ts : List Template) (n : ℕ) (t : Template) → AreLaidAlone ts → slice_get ts n ≡ Some t → Laid ts deepest t.graph
+pub laid_there : (ts : List Template) (n : ℕ) (t : Template) → AreSound ts → slice_get ts n ≡ Some t → Laid ts deepest t.graph
 laid_there ts n t alone is = all_there (λ (t : Template). Laid ts deepest t.graph) ts n t (laid_together ts alone deepest) is
 
 same_text : (of : Leaves) {a b : List FateRow} {o p : Option Container} → a ≡ b → o ≡ p → fates_text of a o ≡ fates_text of b p

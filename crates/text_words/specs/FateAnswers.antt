@@ -15,7 +15,7 @@ use Rattle.reply_text.specs.Leaves.{container_text}
 use Rattle.reply_text.specs.Replies.{row_text}
 use Rattle.text_words.specs.Answers.{Tells, Refuses, RefusesRule}
 use Rattle.template_check.specs.declared.faults.RuleFault.{RuleFault}
-use Rattle.template_check.specs.Built.{AreLaidAlone}
+use Rattle.template_check.specs.Built.{AreSound}
 use Rattle.text_words.specs.declared.check.Answer.{Answer}
 use Rattle.text_words.specs.declared.completions.LineFault.{LineFault}
 use Rattle.text_words.specs.declared.completions.LineFault.TheVariants.{Word, Target, Value}
@@ -87,9 +87,9 @@ pub record IsOfLast (answer : Answer) (ts : List Template) (last : Template) (re
 abbrev pub AnswersLibrary : Answer → List Template → List Numbered → Type 0
 AnswersLibrary answer ts behind = ((ts ≡ []) × Refuses answer (codes "PROCESS") []) ⊎ (last : Template) × (read : Read) × IsOfLast answer ts last read × IsFrom behind read
 
--- the processes of a text, which are laid out to be passed through
+-- the processes of a text, each of them sound
 pub record IsAnsweredBy (answer : Answer) (ts : List Template) (behind : List Numbered) : Type 0 where
-  pub laid : AreLaidAlone ts
+  pub sound : AreSound ts
   pub answers : AnswersLibrary answer ts behind
 
 -- the answer to a text that has an end: the refusal of a rule, or the answer over its processes

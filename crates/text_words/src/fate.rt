@@ -2,7 +2,7 @@
 ghost use Rattle.std.specs.Prelude.{◌≡◌, ◌-◌, ℕ, true, false, Some, None, [], ◌∷◌, ◌++◌, codes, length, slice_get, unwrap_or, IfOk, OnOk};
 ghost use Rattle.std.specs.List.{flat_map};
 ghost use Rattle.reply_text.specs.Replies.{row_text};
-ghost use Rattle.template_check.specs.Built.{AreLaidAlone};
+ghost use Rattle.template_check.specs.Built.{AreSound};
 ghost use Rattle.text_words.specs.Answers.{Refuses, RefusesRule, Tells};
 ghost use Rattle.text_words.specs.FateAnswers.{state_word, counted, complete_text, output_text, fates_text, RefusesLine, TellsFates, IsOfLast, AnswersLibrary, AnswersText};
 ghost use Rattle.text_words.specs.Completions.{IsOfOne};
@@ -131,7 +131,7 @@ fn by_completions(
 ) -> Result<Answer, AllocError>
     requires there { slice_get library.now.templates place ≡ Some template.now }
     requires last { place ≡ length library.now.templates - 1 }
-    requires laid { AreLaidAlone library.now.templates }
+    requires sound { AreSound library.now.templates }
     requires of_one { IsOfOne read.now }
     ensures { IfOk result (λ answer. IsOfLast answer library.now.templates template.now read.now) }
 {
@@ -149,7 +149,7 @@ fn by_completions(
 
 /// The answer over an accepted text.
 fn over_library(alloc: Global, library: &Library, input: &Input) -> Result<Answer, AllocError>
-    requires { AreLaidAlone library.now.templates }
+    requires { AreSound library.now.templates }
     ensures { IfOk result (λ answer. AnswersLibrary answer library.now.templates input.now.behind.items) }
 {
     let count = library.templates.len();

@@ -2,7 +2,7 @@ use Rattle.std.proofs.Common.{ap}
 use Rattle.std.proofs.lemmas.List.Elements.{All-push}
 use Rattle.flow_model.specs.declared.graphs.Template.{Template}
 use Rattle.flow_model.specs.declared.trees.ProcessTree.{ProcessTree}
-use Rattle.template_check.specs.Built.{IsLaidAlone, IsSound}
+use Rattle.template_check.specs.Built.{IsSound, IsSoundAlone}
 use Rattle.template_check.specs.Texts.{process_of}
 use Rattle.template_check.proofs.Judging.{all_kept}
 use Rattle.template_check.proofs.compiling.built.Goals as goal
@@ -19,6 +19,6 @@ loop-item-preserved c = elim c.match-item.branch [
   | in-Structure w ↦ rw w.templates-is c.loop-item.invariant
   | in-Person+in_ok-person-in-Person+in_ok-push-in-Person w ↦ rw w.templates-is c.loop-item.invariant
   | in-Process+in_ok-template-in-Process+in_ok-push-in-Process w ↦
-      let P = λ (t : Template). IsLaidAlone t.graph in
+      let P = λ (t : Template). IsSoundAlone t.graph in
       rw (w.templates-is, w.in_ok-push-in-Process.ensures.ok) (All-push P c.loop-item.templates _ c.loop-item.invariant w.in_ok-template-in-Process.ensures)
 ]

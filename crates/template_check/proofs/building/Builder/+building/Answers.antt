@@ -1,12 +1,11 @@
 use Rattle.std.proofs.Common.{rules, ◌≡◌, length, sym, ap, subst, ◌∙◌, List, Some, None}
 use Rattle.flow_model.specs.declared.trees.ElementTree.{ElementTree, the_lemmas}
 use Rattle.flow_model.specs.declared.graphs.Activity.{Activity}
-use Rattle.std.proofs.lemmas.List.{length_push}
 use Rattle.std.proofs.lemmas.List.Elements.{All-push}
-use Rattle.template_check.specs.Built.{IsLaidInside, IsSoundInside}
+use Rattle.template_check.specs.Built.{IsSoundWork, IsSoundInside}
 use Rattle.template_check.specs.ClosedWalks.{IsAcyclic}
-use Rattle.template_check.specs.Texts.{activity_of, activities_in, edges_in}
-use Rattle.template_check.proofs.Laying.{within, built_laid, sound_here, sound_inside, one_longer, as_long}
+use Rattle.template_check.specs.Texts.{activity_of, activities_in, names_in, edges_in, IsJudged}
+use Rattle.template_check.proofs.Laying.{within, built_sound, sound_here, sound_inside, as_many, named_next, named_past}
 use Rattle.template_check.proofs.Judging.{all_kept}
 use Rattle.template_check.proofs.building.Builder.+building.Goals as goal
 use Rattle.template_check.proofs.building.Builder.+building.Goals.{activities-in-Activity+in_ok-activity-in-Activity+in_ok-push-in-Activity, activities-in-Control, activities-in-Line}
@@ -22,15 +21,14 @@ activities-loop-element-preserved t c =
     let i = c.loop-element.element-index in
     let x = c.element-item.result in
     let so_far = c.loop-element.invariant in
-    let past = λ (none : activity_of x ≡ None). as_long elements i x c.loop-element-test.true c.element-item.is (length c.loop-element.activities) so_far.0 none in
+    let past = λ (none : activity_of x ≡ None). named_past elements i x c.loop-element-test.true c.element-item.is c.loop-element.activities none so_far.0 in
     elim c.match-element.branch [
       | activities-in-Activity+in_ok-activity-in-Activity+in_ok-push-in-Activity w ↦
           let some : activity_of x ≡ Some w.in-Activity.activity = ap activity_of w.in-Activity.is in
-          let more = ap length w.in_ok-push-in-Activity.ensures.ok ∙ length_push c.loop-element.activities _ in
-          let P = λ (a : Activity). IsLaidInside a.work in
+          let P = λ (a : Activity). IsSoundWork a.work in
           rw w.activities-is (
-            one_longer elements i x c.loop-element-test.true c.element-item.is (length c.loop-element.activities) (length w.push.new.self) so_far.0 more w.in-Activity.activity some,
-            rw w.in_ok-push-in-Activity.ensures.ok (All-push P c.loop-element.activities _ so_far.1 w.in_ok-activity-in-Activity.ensures),
+            named_next elements i x c.loop-element-test.true c.element-item.is c.loop-element.activities w.push.new.self _ w.in-Activity.activity some w.in_ok-push-in-Activity.ensures.ok w.in_ok-activity-in-Activity.ensures.named so_far.0,
+            rw w.in_ok-push-in-Activity.ensures.ok (All-push P c.loop-element.activities _ so_far.1 w.in_ok-activity-in-Activity.ensures.sound),
           )
       | activities-in-Control w ↦ rw w.activities-is (past (ap activity_of w.in-Control.is), so_far.1)
       | activities-in-Line w ↦ rw w.activities-is (past (ap activity_of w.in-Line.is), so_far.1)
@@ -45,17 +43,20 @@ graph-lines-requires t c = rw c.in_ok-scope.ensures (sound_here c.args.elements.
 pub graph-wiring-requires-clause-within : goal.graph-wiring-requires-clause-within
 graph-wiring-requires-clause-within t c =
     let elements = c.in_ok-scope.scope.elements.now in
-    let long = c.len.ensures ∙ c.in_ok-activities.ensures.long ∙ ap (λ (es : List ElementTree). length (activities_in es)) (sym c.in_ok-scope.ensures) in
+    let long = c.len.ensures ∙ as_many c.in_ok-activities.activities c.args.elements.now c.in_ok-activities.ensures.named ∙ ap (λ (es : List ElementTree). length (activities_in es)) (sym c.in_ok-scope.ensures) in
     rw (c.as_slice.ensures, c.as_slice-2.ensures, c.as_slice-3.ensures)
     (within c.len.result c.in_ok-controls.controls c.in_ok-lines.lines c.in_ok-loops.loops elements long c.in_ok-controls.ensures c.in_ok-lines.ensures c.in_ok-loops.ensures)
 
 pub graph-wiring-requires-clause-acyclic : goal.graph-wiring-requires-clause-acyclic
 graph-wiring-requires-clause-acyclic t c =
-    let acyclic : IsAcyclic (edges_in c.in_ok-scope.scope.elements.now) = rw c.in_ok-scope.ensures (sound_here c.args.elements.now c.requires).acyclic in
+    let acyclic : IsAcyclic (edges_in c.in_ok-scope.scope.elements.now) = rw c.in_ok-scope.ensures (sound_here c.args.elements.now c.requires).connected.acyclic in
     rw c.as_slice.ensures (subst IsAcyclic (sym c.in_ok-controls.ensures) acyclic)
 
 pub graph-returns : goal.graph-returns
 graph-returns t c =
     let wired = rw (c.len.ensures, c.as_slice.ensures, c.as_slice-2.ensures, c.as_slice-3.ensures) at c.in_ok-wiring.ensures in
-    built_laid _ _ c.in_ok-activities.activities c.in_ok-controls.controls c.in_ok-lines.lines c.in_ok-loops.loops c.in_ok-wiring.wiring c.in_ok-scope.scope.elements.now
-    wired c.in_ok-controls.ensures c.in_ok-lines.ensures c.in_ok-activities.ensures.laid
+    let elements = c.in_ok-scope.scope.elements.now in
+    let judged : IsJudged elements = subst IsJudged (sym c.in_ok-scope.ensures) (sound_here c.args.elements.now c.requires) in
+    let names = c.in_ok-activities.ensures.named ∙ ap names_in (sym c.in_ok-scope.ensures) in
+    built_sound _ _ c.in_ok-activities.activities c.in_ok-controls.controls c.in_ok-lines.lines c.in_ok-loops.loops c.in_ok-wiring.wiring elements
+    judged wired names c.in_ok-controls.ensures c.in_ok-lines.ensures c.in_ok-activities.ensures.sound
