@@ -1,2 +1,4 @@
 pub mod EndingLemmas
 pub mod Crashes
+pub mod Printing
+pub mod Unknown

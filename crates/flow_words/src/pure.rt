@@ -1,6 +1,10 @@
 //! The words that need no store.
-ghost use Rattle.std.specs.Prelude.{◌≡◌, ℕ};
+ghost use Rattle.std.specs.Prelude.{◌≡◌, ℕ, Some, None, [], ◌∷◌, codes, map, string_bytes, MatchResult};
+ghost use Rattle.std.specs.Io.KnownBytes.{Appends, Keeps};
 ghost use Rattle.flow_words.specs.Endings.{PrintCause, RunCause, EndCause};
+ghost use Rattle.flow_words.specs.Printed.{Prints, PrintsAnswer, IsUnknown, IsCheckOf, IsFateOf, answer_status};
+ghost use Rattle.flow_words.specs.declared.pure.Word.TheVariants.{Check as CheckWord, Fate as FateWord};
+ghost use Rattle.flow_words.specs.declared.status.Status.TheVariants.{NoMemory as NoMemoryStatus, Usage as UsageStatus};
 
 use crate::load::load;
 use crate::numbers::{Settings, number_in, settings_of};
@@ -32,7 +36,11 @@ fn load_of(seed: &str, roots: &str) -> Option<Word> {
 }
 
 /// The word that these words say.
-fn word_of(words: &[String]) -> Option<Word> {
+fn word_of(words: &[String]) -> Option<Word>
+    ensures check { map string_bytes words.now ≡ codes "check" ∷ [] → result ≡ Some CheckWord }
+    ensures fate { map string_bytes words.now ≡ codes "fate" ∷ [] → result ≡ Some FateWord }
+    ensures unknown { IsUnknown (map string_bytes words.now) → result ≡ None }
+{
     match words {
         [word] if word.as_str() == "check" => Some(Word::Check),
         [word] if word.as_str() == "fate" => Some(Word::Fate),
@@ -45,7 +53,8 @@ fn word_of(words: &[String]) -> Option<Word> {
 /// Prints a text, and ends with this status where that goes well.
 fn print_and_end<K: Sink>(out: &mut K, text: &[u8], status: Status) -> Status
     requires { (before now : ℕ) → PrintCause before now status }
-    ensures { PrintCause (K.faults out.old) (K.faults out.new) result }
+    ensures cause { PrintCause (K.faults out.old) (K.faults out.new) result }
+    ensures prints { Prints text.now status (K.held out.old) (K.held out.new) result }
 {
     match print(out, text) {
         Ok(()) => status,
@@ -55,7 +64,8 @@ fn print_and_end<K: Sink>(out: &mut K, text: &[u8], status: Status) -> Status
 
 /// Prints an answer.
 fn end_with<K: Sink>(out: &mut K, answer: Result<Answer, AllocError>) -> Status
-    ensures { PrintCause (K.faults out.old) (K.faults out.new) result }
+    ensures cause { PrintCause (K.faults out.old) (K.faults out.new) result }
+    ensures prints { MatchResult answer (λ answer. Prints answer.text.items (answer_status answer) (K.held out.old) (K.held out.new) result) (λ _. (result ≡ NoMemoryStatus) × Keeps (K.held out.old) (K.held out.new)) }
 {
     match answer {
         Err(_) => Status::NoMemory,
@@ -69,26 +79,27 @@ fn end_with<K: Sink>(out: &mut K, answer: Result<Answer, AllocError>) -> Status
     }
 }
 
-/// Reads an input, and prints the answer to it.
+/// Reads an input, and prints what `check` answers to it.
 #[tactic(auto, using(crate::proofs::EndingLemmas::run_stops, crate::proofs::EndingLemmas::run_prints))]
-fn answer_input<S: Source, K: Sink>(
-    alloc: Global,
-    is_fate: bool,
-    src: &mut S,
-    out: &mut K,
-) -> Status
-    ensures { RunCause (S.faults src.old) (S.faults src.new) (K.faults out.old) (K.faults out.new) result }
+fn answer_check<S: Source, K: Sink>(alloc: Global, src: &mut S, out: &mut K) -> Status
+    ensures cause { RunCause (S.faults src.old) (S.faults src.new) (K.faults out.old) (K.faults out.new) result }
+    ensures prints { PrintsAnswer IsCheckOf (K.held out.old) (K.held out.new) result }
 {
-    match Input::read(alloc, src, is_fate) {
+    match Input::read(alloc, src, false) {
         Err(stop) => line_status(stop),
-        Ok(input) => {
-            let answer = if is_fate {
-                fated(alloc, &input)
-            } else {
-                checked(alloc, &input)
-            };
-            end_with(out, answer)
-        }
+        Ok(input) => end_with(out, checked(alloc, &input)),
+    }
+}
+
+/// Reads an input, and prints what `fate` answers to it.
+#[tactic(auto, using(crate::proofs::EndingLemmas::run_stops, crate::proofs::EndingLemmas::run_prints))]
+fn answer_fate<S: Source, K: Sink>(alloc: Global, src: &mut S, out: &mut K) -> Status
+    ensures cause { RunCause (S.faults src.old) (S.faults src.new) (K.faults out.old) (K.faults out.new) result }
+    ensures prints { PrintsAnswer IsFateOf (K.held out.old) (K.held out.new) result }
+{
+    match Input::read(alloc, src, true) {
+        Err(stop) => line_status(stop),
+        Ok(input) => end_with(out, fated(alloc, &input)),
     }
 }
 
@@ -118,11 +129,13 @@ fn print_load<K: Sink>(alloc: Global, seed: u64, roots: u64, out: &mut K) -> Sta
 
 #[tactic(auto, using(crate::proofs::EndingLemmas::run_prints))]
 fn obey<S: Source, K: Sink>(alloc: Global, word: Word, src: &mut S, out: &mut K) -> Status
-    ensures { RunCause (S.faults src.old) (S.faults src.new) (K.faults out.old) (K.faults out.new) result }
+    ensures cause { RunCause (S.faults src.old) (S.faults src.new) (K.faults out.old) (K.faults out.new) result }
+    ensures check { word ≡ CheckWord → PrintsAnswer IsCheckOf (K.held out.old) (K.held out.new) result }
+    ensures fate { word ≡ FateWord → PrintsAnswer IsFateOf (K.held out.old) (K.held out.new) result }
 {
     match word {
-        Word::Check => answer_input(alloc, false, src, out),
-        Word::Fate => answer_input(alloc, true, src, out),
+        Word::Check => answer_check(alloc, src, out),
+        Word::Fate => answer_fate(alloc, src, out),
         Word::Try(settings) => serve_script(alloc, settings, src, out),
         Word::Load(seed, roots) => print_load(alloc, seed, roots, out),
     }
@@ -131,7 +144,8 @@ fn obey<S: Source, K: Sink>(alloc: Global, word: Word, src: &mut S, out: &mut K)
 /// Does what the words say, over a source and a sink alone.
 ///
 /// `ReadFault` comes only where the source's count of faults rose, and `WriteFault` only where the
-/// sink's did; `Store` never.
+/// sink's did; `Store` never. Under `Done` and `Refused` the words `check` and `fate` have printed the
+/// text of their answer and nothing else, under `WriteFault` a front part of it, and else nothing.
 #[tactic(auto, using(crate::proofs::EndingLemmas::ends_run, crate::proofs::EndingLemmas::ends_print))]
 pub fn run_pure<S: Source, K: Sink>(
     alloc: Global,
@@ -139,7 +153,11 @@ pub fn run_pure<S: Source, K: Sink>(
     src: &mut S,
     out: &mut K,
 ) -> Status
-    ensures { EndCause (S.faults src.old) (S.faults src.new) (K.faults out.old) (K.faults out.new) result }
+    ensures cause { EndCause (S.faults src.old) (S.faults src.new) (K.faults out.old) (K.faults out.new) result }
+    ensures check { map string_bytes words.now ≡ codes "check" ∷ [] → PrintsAnswer IsCheckOf (K.held out.old) (K.held out.new) result }
+    ensures fate { map string_bytes words.now ≡ codes "fate" ∷ [] → PrintsAnswer IsFateOf (K.held out.old) (K.held out.new) result }
+    ensures unknown { IsUnknown (map string_bytes words.now) → Prints (codes "no USAGE\n") UsageStatus (K.held out.old) (K.held out.new) result }
+    ensures usage { result ≡ UsageStatus → Appends (K.held out.old) (K.held out.new) (codes "no USAGE\n") }
 {
     match word_of(words) {
         None => match print(out, b"no USAGE\n") {

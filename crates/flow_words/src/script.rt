@@ -1,9 +1,12 @@
 //! A script served line by line, each reply printed before the next line is read.
 ghost use Rattle.std.specs.Prelude.{◌≡◌, ℕ, MatchResult, IfErr, OnOk};
+ghost use Rattle.std.specs.Io.KnownBytes.{Appends};
 ghost use Rattle.flow_core.specs.Summaries.{summary};
 ghost use Rattle.flow_session.specs.Serving.{Makes};
 ghost use Rattle.flow_words.specs.Crashes.{IsFailing};
 ghost use Rattle.flow_words.specs.Endings.{PrintCause, RunCause, status_of};
+ghost use Rattle.flow_words.specs.Printed.{PrintsPart};
+ghost use Rattle.flow_words.specs.declared.status.Status.TheVariants.{WriteFault as WriteFaultStatus};
 
 use crate::numbers::Settings;
 use crate::status::Status;
@@ -16,6 +19,8 @@ use text_words::MOST_BYTES;
 pub fn print<K: Sink>(out: &mut K, text: &[u8]) -> Result<(), Status>
     ensures cause { MatchResult result (λ _. K.faults out.new ≡ K.faults out.old) (PrintCause (K.faults out.old) (K.faults out.new)) }
     ensures fails { IfErr result IsFailing }
+    ensures whole { OnOk result (Appends (K.held out.old) (K.held out.new) text.now) }
+    ensures part { IfErr result (λ status. (status ≡ WriteFaultStatus) × PrintsPart (K.held out.old) (K.held out.new) text.now) }
 {
     match put_all(out, text) {
         Ok(()) => Ok(()),

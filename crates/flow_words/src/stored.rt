@@ -1,5 +1,5 @@
 //! The words over a store in two files, and the two that make and serve one: `new` and `run`.
-ghost use Rattle.std.specs.Prelude.{◌≡◌, IfErr, IsOk, MatchResult};
+ghost use Rattle.std.specs.Prelude.{◌≡◌, ℕ, None, List, [], ◌∷◌, codes, map, string_bytes, IfErr, IsOk, MatchResult};
 ghost use Rattle.flow_disk.specs.Images.{Image};
 ghost use Rattle.flow_disk.specs.Moments.{Only};
 ghost use Rattle.flow_core.specs.Summaries.{summary};
@@ -8,6 +8,7 @@ ghost use Rattle.flow_session.specs.Keeping.{IsOpen};
 ghost use Rattle.flow_session.specs.Runs.{KeepsStore, KeepsOrServes};
 ghost use Rattle.flow_session.specs.Serving.{Makes};
 ghost use Rattle.flow_words.specs.Crashes.{IsFailing, EndsDone, MakesStore, MakesKeepsOrServes};
+ghost use Rattle.flow_words.specs.Printed.{PrintsAnswer, IsCheckOf, IsFateOf};
 ghost use Rattle.flow_words.specs.declared.status.Status.TheVariants.{Done as DoneStatus};
 
 use crate::following::{follow_into, ship_from};
@@ -73,7 +74,9 @@ fn store_word(word: &str, rest: &[String]) -> Option<Word> {
 }
 
 /// The word over a store that these words say; its two files are two different words.
-fn word_of(words: &[String]) -> Option<Word> {
+fn word_of(words: &[String]) -> Option<Word>
+    ensures { (word : List ℕ) → map string_bytes words.now ≡ word ∷ [] → result ≡ None }
+{
     match words {
         [word, a, b, rest @ ..] if a.as_str() != b.as_str() => store_word(word.as_str(), rest),
         _ => None,
@@ -240,6 +243,8 @@ fn obey<S: Source, K: Sink, D: Disk + Drop>(
 /// `new`, where no store was there, none or the new one; or, under `run` and `follow`, a store that stands for
 /// the history before with some of the transactions that the call makes, from the first on. Where the
 /// status is `Done`, it leaves the new store, or the history with all of them.
+///
+/// What `check` and `fate` print is that of `run_pure`.
 pub fn run<S: Source, K: Sink, D: Disk + Drop>(
     alloc: Global,
     words: &[String],
@@ -247,7 +252,9 @@ pub fn run<S: Source, K: Sink, D: Disk + Drop>(
     out: &mut K,
     disk: D,
 ) -> (Status, D)
-    ensures { D.tells → Only (D.seen disk) (D.images disk) → MakesKeepsOrServes D.tells D.moment D.left_since D.seen D.images disk result.1 (result.0 ≡ DoneStatus) }
+    ensures store { D.tells → Only (D.seen disk) (D.images disk) → MakesKeepsOrServes D.tells D.moment D.left_since D.seen D.images disk result.1 (result.0 ≡ DoneStatus) }
+    ensures check { map string_bytes words.now ≡ codes "check" ∷ [] → PrintsAnswer IsCheckOf (K.held out.old) (K.held out.new) result.0 }
+    ensures fate { map string_bytes words.now ≡ codes "fate" ∷ [] → PrintsAnswer IsFateOf (K.held out.old) (K.held out.new) result.0 }
 {
     let Some(word) = word_of(words) else {
         return (run_pure(alloc, words, src, out), disk);

@@ -1,0 +1,239 @@
+//! What faults leave of a store: of the disk, of the source and of the sink, at each call in turn.
+use flow_disk::{MemDisk, Slot};
+use flow_io::{MemSink, MemSource};
+use flow_words::{Status, run};
+use std::alloc::Global;
+use std::test::Fail;
+
+const SCRIPT: &[u8] = b"IMPORT
+STRUCTURE 'E' END 'E'
+PERSON 'ann' END 'ann'
+PROCESS 'P' ('E','E')
+PROGRAM_ACTIVITY 'A' ('E','E') END 'A'
+PROGRAM_ACTIVITY 'B' ('E','E') END 'B'
+CONTROL FROM 'A' TO 'B'
+END 'P'
+.
+START 'P' BY 'ann'
+DRAIN
+CHECKPOINT
+TAKE '1/A#1'
+DONE '1/A#1' TAKE 1
+DRAIN
+CHECKPOINT
+TAKE '1/B#1'
+DONE '1/B#1' TAKE 1
+CLOCK 5
+";
+
+/// What the script answers.
+const ANSWERS: &[u8] = b"ok 1 IMPORT 1
+ok 2 ROOT 1
+ok TURNS 1
+ok CHECKPOINT 3
+ok 4 TAKE 1
+ok 5 FINISHED 1
+ok TURNS 1
+ok CHECKPOINT 6
+ok 7 TAKE 1
+ok 8 FINISHED 1
+ok 9 CLOCK 5
+";
+
+/// The number of transactions behind so many of the answers.
+const COUNTS: [u64; 12] = [0, 1, 2, 3, 3, 4, 5, 6, 6, 7, 8, 9];
+
+/// What a run leaves.
+#[derive(Drop)]
+struct Left {
+    status: Status,
+    text: Vec<u8>,
+    disk: MemDisk,
+}
+
+fn words(alloc: Global, word: &str) -> Result<Vec<String>, Fail> {
+    let mut words = Vec::new(alloc);
+    words.push(String::from_str(alloc, word)?)?;
+    words.push(String::from_str(alloc, "a")?)?;
+    words.push(String::from_str(alloc, "b")?)?;
+    Ok(words)
+}
+
+/// Runs a word over a disk; the calls of the source and of the sink that fail are listed.
+fn ran(
+    alloc: Global,
+    word: &str,
+    script: &[u8],
+    failing: (&[u64], &[u64]),
+    disk: MemDisk,
+) -> Result<Left, Fail> {
+    let words = words(alloc, word)?;
+    let mut source = MemSource::new(alloc, script, failing.0)?;
+    let mut sink = MemSink::new(alloc, failing.1)?;
+    let (status, disk) = run(alloc, &words, &mut source, &mut sink, disk);
+    let text = Vec::from_slice(alloc, sink.held())?;
+    Ok(Left { status, text, disk })
+}
+
+/// A store: the bytes of its two slots.
+#[derive(Drop)]
+struct Store {
+    a: Vec<u8>,
+    b: Vec<u8>,
+}
+
+fn store_of(alloc: Global, disk: &MemDisk) -> Result<Store, Fail> {
+    Ok(Store {
+        a: Vec::from_slice(alloc, disk.bytes(Slot::A))?,
+        b: Vec::from_slice(alloc, disk.bytes(Slot::B))?,
+    })
+}
+
+/// A new store.
+fn new_store(alloc: Global) -> Result<Store, Fail> {
+    let left = ran(alloc, "new", b"", (&[], &[]), MemDisk::new(alloc, &[])?)?;
+    store_of(alloc, &left.disk)
+}
+
+/// The number of transactions that these answers name; None where they aren't the first ones of the script.
+fn answered(text: &[u8]) -> Option<u64> {
+    if !ANSWERS.starts_with(text) {
+        return None;
+    }
+    COUNTS
+        .get(text.iter().filter(|byte| **byte == b'\n').count())
+        .copied()
+}
+
+/// Whether a command answers with this transaction.
+fn is_next(alloc: Global, text: &[u8], number: u64) -> Result<bool, Fail> {
+    let line = format!(in alloc; "ok {number} CLOCK 9\n")?;
+    Ok(text == line.as_bytes())
+}
+
+/// Whether a store holds so many transactions, or one more.
+fn holds(alloc: Global, disk: MemDisk, count: u64) -> Result<bool, Fail> {
+    let left = ran(alloc, "run", b"CLOCK 9\n", (&[], &[]), disk)?;
+    Ok(
+        is_next(alloc, &left.text, count.saturating_add(1))?
+            || is_next(alloc, &left.text, count.saturating_add(2))?,
+    )
+}
+
+/// Whether a crash, by each choice, leaves all that was answered and at most one transaction more.
+fn keeps(alloc: Global, left: &Left) -> Result<bool, Fail> {
+    let Some(count) = answered(&left.text) else {
+        return Ok(false);
+    };
+    for choice in [0, 1, 215, 221] {
+        if !holds(alloc, left.disk.crash(choice)?, count)? {
+            return Ok(false);
+        }
+    }
+    Ok(true)
+}
+
+/// Whether a run of the script ends so, and loses nothing that was answered.
+fn ends(
+    alloc: Global,
+    failing: (&[u64], &[u64]),
+    disk: MemDisk,
+    status: Status,
+) -> Result<bool, Fail> {
+    let left = ran(alloc, "run", SCRIPT, failing, disk)?;
+    Ok(left.status == status && keeps(alloc, &left)?)
+}
+
+/// Whether the disk may stop at this call.
+fn may_stop(alloc: Global, store: &Store, call: u64) -> Result<bool, Fail> {
+    let disk = MemDisk::stopping(alloc, &store.a, &store.b, call)?;
+    ends(alloc, (&[], &[]), disk, Status::StoreFault)
+}
+
+/// Whether this call of the disk may fail.
+fn may_fail(alloc: Global, store: &Store, call: u64) -> Result<bool, Fail> {
+    let disk = MemDisk::with(alloc, &store.a, &store.b, &[call])?;
+    ends(alloc, (&[], &[]), disk, Status::StoreFault)
+}
+
+/// A disk that holds the store and doesn't fail.
+fn disk_of(alloc: Global, store: &Store) -> Result<MemDisk, Fail> {
+    Ok(MemDisk::with(alloc, &store.a, &store.b, &[])?)
+}
+
+#[test]
+fn stops_of_the_disk(rt: HostRuntime) -> Result<(), Fail> {
+    let store = new_store(rt.alloc())?;
+    for call in 1..94 {
+        assert!(rt; may_stop(rt.alloc(), &store, call)?, "call {call}");
+    }
+    Ok(())
+}
+
+#[test]
+fn faults_of_the_disk(rt: HostRuntime) -> Result<(), Fail> {
+    let store = new_store(rt.alloc())?;
+    for call in 1..94 {
+        assert!(rt; may_fail(rt.alloc(), &store, call)?, "call {call}");
+    }
+    Ok(())
+}
+
+#[test]
+fn faults_of_source_and_sink(rt: HostRuntime) -> Result<(), Fail> {
+    let alloc = rt.alloc();
+    let store = new_store(alloc)?;
+    for call in 1..3 {
+        let disk = disk_of(alloc, &store)?;
+        assert!(rt;
+            ends(alloc, (&[call], &[]), disk, Status::ReadFault)?,
+            "read {call}"
+        );
+    }
+    for call in 1..12 {
+        let disk = disk_of(alloc, &store)?;
+        assert!(rt;
+            ends(alloc, (&[], &[call]), disk, Status::WriteFault)?,
+            "write {call}"
+        );
+    }
+    Ok(())
+}
+
+/// Whether a store may be cut to these slots: it is refused, or it holds all of the script or what stood before its last checkpoint.
+fn may_be_cut(alloc: Global, a: &[u8], b: &[u8]) -> Result<bool, Fail> {
+    let disk = MemDisk::with(alloc, a, b, &[])?;
+    let left = ran(alloc, "run", b"CLOCK 9\n", (&[], &[]), disk)?;
+    Ok(
+        left.status == Status::Store
+            || is_next(alloc, &left.text, 7)?
+            || is_next(alloc, &left.text, 10)?,
+    )
+}
+
+/// The store behind the whole script.
+fn full_store(alloc: Global) -> Result<Store, Fail> {
+    let disk = disk_of(alloc, &new_store(alloc)?)?;
+    let left = ran(alloc, "run", SCRIPT, (&[], &[]), disk)?;
+    store_of(alloc, &left.disk)
+}
+
+#[test]
+fn cuts_of_slot_a(rt: HostRuntime) -> Result<(), Fail> {
+    let store = full_store(rt.alloc())?;
+    for n in 0..store.a.len() {
+        let a = store.a.get(..n).unwrap_or(&[]);
+        assert!(rt; may_be_cut(rt.alloc(), a, &store.b)?, "at {n}");
+    }
+    Ok(())
+}
+
+#[test]
+fn cuts_of_slot_b(rt: HostRuntime) -> Result<(), Fail> {
+    let store = full_store(rt.alloc())?;
+    for n in 0..store.b.len() {
+        let b = store.b.get(..n).unwrap_or(&[]);
+        assert!(rt; may_be_cut(rt.alloc(), &store.a, b)?, "at {n}");
+    }
+    Ok(())
+}

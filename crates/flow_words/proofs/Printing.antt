@@ -1,0 +1,31 @@
+-- How what is printed of an answer is what a word prints.
+use Rattle.std.proofs.Common.{◌≡◌, ℕ, Option, Some, None, true, false, List, [], ◌∷◌, codes, Result, Ok, Err, IfOk, MatchResult, inl, inr, subst, sym}
+use Rattle.std.specs.Io.KnownBytes.{Keeps}
+use Rattle.text_words.specs.Answers.{Refuses, AnswersTree}
+use Rattle.text_words.specs.FateAnswers.{AnswersText}
+use Rattle.text_words.specs.declared.check.Answer.{Answer}
+use Rattle.text_words.specs.declared.input.Input.{Input}
+use Rattle.flow_words.specs.Printed.{Prints, PrintsAnswer, IsUnanswered, IsCheckOf, IsFateOf, answer_status}
+use Rattle.flow_words.specs.declared.status.Status.{Status}
+use Rattle.flow_words.specs.declared.status.Status.TheVariants.{NoMemory}
+
+module _ {E : Type 0} (input : Input) where
+  -- an answer is printed, or there was no memory for one
+  pub prints_answer : (Answers : Input → Answer → Type 0) (r : Result Answer E) (old new : Option (List ℕ)) (ended : Status) → IfOk r (Answers input)
+      → MatchResult r (λ answer. Prints answer.text.items (answer_status answer) old new ended) (λ _. (ended ≡ NoMemory) × Keeps old new) → PrintsAnswer Answers old new ended
+  prints_answer Answers (Ok answer) old new ended answers printed = inr (input, answer, answers, printed)
+  prints_answer Answers (Err e) old new ended answers printed = inl (subst IsUnanswered (sym printed.0) tt, printed.1)
+
+  -- the clauses of `checked` together
+  pub is_check : (r : Result Answer E) → ((line : ℕ) → input.too_long ≡ Some line → IfOk r (λ answer. Refuses answer (codes "LINE") (line ∷ []))) → (input.too_long ≡ None → IfOk r AnswersTree)
+      → IfOk r (IsCheckOf input)
+  is_check (Ok answer) long judged = record { long = long; judged = judged }
+  is_check (Err e) long judged = tt
+
+  -- the clauses of `fated` together
+  pub is_fate : (r : Result Answer E) → ((line : ℕ) → input.too_long ≡ Some line → IfOk r (λ answer. Refuses answer (codes "LINE") (line ∷ [])))
+      → (input.too_long ≡ None → input.is_ended ≡ false → IfOk r (λ answer. Refuses answer (codes "UNENDED") []))
+      → (input.too_long ≡ None → input.is_ended ≡ true → IfOk r (λ answer. AnswersText answer input.behind.items))
+      → IfOk r (IsFateOf input)
+  is_fate (Ok answer) long unended judged = record { long = long; unended = unended; judged = judged }
+  is_fate (Err e) long unended judged = tt

@@ -1,0 +1,11 @@
+use Rattle.flow_words.specs.Printed.{IsCheckOf}
+use Rattle.flow_words.proofs.Printing.{prints_answer, is_check}
+use Rattle.flow_words.proofs.pure.answer_check.Goals as goal
+
+pub returns-in-Ok-clause-prints : goal.returns-in-Ok-clause-prints
+returns-in-Ok-clause-prints g c =
+    let input = c.in-Ok.input in
+    let answer = c.checked.result in
+    prints_answer input IsCheckOf answer (g.K.Sink.held c.args.out.now) (g.K.Sink.held c.end_with.new.out) c.end_with.result
+    (is_check input answer c.checked.ensures.long c.checked.ensures.judged)
+    c.end_with.ensures.prints
