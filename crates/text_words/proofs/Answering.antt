@@ -18,7 +18,7 @@ use Rattle.flow_model.specs.declared.graphs.Template.{Template}
 use Rattle.flow_model.specs.declared.instances.Fact.{Fact}
 use Rattle.flow_model.specs.declared.instances.FateRow.{FateRow}
 use Rattle.template_check.specs.Built.{AreSound}
-use Rattle.template_check.proofs.Together.{laid_together}
+use Rattle.template_check.proofs.Together.{laid_together, well_together}
 use Rattle.text_words.specs.Answers.{Refuses}
 use Rattle.text_words.specs.FateAnswers.{fates_text, fates_by, TellsFates, IsOfLast}
 use Rattle.text_words.specs.declared.check.Answer.{Answer}
@@ -36,6 +36,10 @@ all_of_one facts all = λ i f is. all_there (λ (fact : Fact). fact.item.root �
 pub laid_there : (ts : List Template) (n : ℕ) (t : Template) → AreSound ts → slice_get ts n ≡ Some t → Laid ts deepest t.graph
 laid_there ts n t alone is = all_there (λ (t : Template). Laid ts deepest t.graph) ts n t (laid_together ts alone deepest) is
 
+-- and it is well formed with them
+pub well_there : (ts : List Template) (n : ℕ) (t : Template) → AreSound ts → slice_get ts n ≡ Some t → Well ts deepest t.graph
+well_there ts n t alone is = all_there (λ (t : Template). Well ts deepest t.graph) ts n t (well_together ts alone deepest) is
+
 same_text : (of : Leaves) {a b : List FateRow} {o p : Option Container} → a ≡ b → o ≡ p → fates_text of a o ≡ fates_text of b p
 same_text of e f = cc
 
@@ -43,7 +47,7 @@ same_text of e f = cc
 pub record HasFault (ts : List Template) (g : Graph) (input : Container) (facts : List Fact) (fault : FateFault) : Type 0 where
   pub within : IsWithin (length facts) fault
   pub behind : IsBehindReady ts deepest g 1 input facts fault
-  pub first : Well ts deepest g → IsFirstUnready ts g 1 input facts fault
+  pub first : IsFirstUnready ts g 1 input facts fault
 
 -- what fates tell
 pub record HasFates (ts : List Template) (g : Graph) (input : Container) (facts : List Fact) (shown : List FateRow) (out : Option Container) : Type 0 where
@@ -70,7 +74,7 @@ module _ {E : Type 0} (r : Result Answer E) (ts : List Template) (t : Template) 
           record {
             within = three.within;
             before = three.behind;
-            here = λ well. (three.first well).1;
+            here = three.first.1;
             refuses = subst (λ (l : ℕ). Refuses answer (codes "NOTREADY") (l ∷ [])) line_is says;
           },
         );

@@ -3,14 +3,13 @@ use Rattle.std.specs.Prelude.{◌≡◌, ℕ, ◌<◌, ◌-◌, ◌⊎◌, Optio
 use Rattle.std.specs.List.{flat_map}
 use Rattle.std.specs.Fmt.{decimal}
 use Rattle.flow_model.specs.Containers.{fresh}
-use Rattle.flow_model.specs.Rows.{deepest, fate_rows, fate_output, AreReady, IsReadyBy}
+use Rattle.flow_model.specs.Rows.{fate_rows, fate_output, AreReady, IsReadyBy}
 use Rattle.flow_model.specs.declared.graphs.Container.{Container}
 use Rattle.flow_model.specs.declared.graphs.Graph.{Graph, out-Graph}
 use Rattle.flow_model.specs.declared.graphs.Leaves.{Leaves}
 use Rattle.flow_model.specs.declared.graphs.Template.{Template}
 use Rattle.flow_model.specs.declared.instances.Fact.{Fact}
 use Rattle.flow_model.specs.declared.instances.FateRow.{FateRow}
-use Rattle.fate_laws.specs.WellFormed.{Well}
 use Rattle.reply_text.specs.Leaves.{container_text}
 use Rattle.reply_text.specs.Replies.{row_text}
 use Rattle.text_words.specs.Answers.{Tells, Refuses, RefusesRule}
@@ -71,7 +70,7 @@ pub record IsAccepted (answer : Answer) (ts : List Template) (g : Graph) (read :
 pub record IsNotReady (answer : Answer) (ts : List Template) (g : Graph) (read : Read) (n : ℕ) : Type 0 where
   pub within : n < length read.facts.items
   pub before : AreReady ts g 1 (fresh (out-Graph g).input) read.facts.items n
-  pub here : Well ts deepest g → (f : Fact) → slice_get read.facts.items n ≡ Some f → IsReadyBy ts g 1 (fresh (out-Graph g).input) read.facts.items n f → ⊥
+  pub here : (f : Fact) → slice_get read.facts.items n ≡ Some f → IsReadyBy ts g 1 (fresh (out-Graph g).input) read.facts.items n f → ⊥
   pub refuses : Refuses answer (codes "NOTREADY") (unwrap_or (slice_get read.lines.items n) 0 ∷ [])
 
 -- the answer to the completions that were read

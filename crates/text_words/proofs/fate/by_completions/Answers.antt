@@ -3,7 +3,7 @@ use Rattle.fate_eval.specs.Refusals.{AreOf}
 use Rattle.flow_model.specs.Containers.{fresh}
 use Rattle.flow_model.specs.declared.graphs.Graph.{out-Graph}
 use Rattle.flow_model.specs.declared.instances.Fact.{Fact}
-use Rattle.text_words.proofs.Answering.{all_of_one, laid_there, answers_not_ready, answers_accepted}
+use Rattle.text_words.proofs.Answering.{all_of_one, laid_there, well_there, answers_not_ready, answers_accepted}
 use Rattle.text_words.proofs.fate.by_completions.Goals as goal
 
 pub returns-in-Err-NotReady : goal.returns-in-Err-NotReady
@@ -23,7 +23,7 @@ returns-in-Err-NotReady c =
     (record {
       within = c.in-Err-NotReady.ensures.within;
       behind = c.in-Err-NotReady.ensures.refused t c.requires.there laid of;
-      first = λ well. c.in-Err-NotReady.ensures.first t c.requires.there laid well of;
+      first = c.in-Err-NotReady.ensures.first t c.requires.there laid (well_there ts c.args.place t c.requires.sound c.requires.there) of;
     })
     c.refusal.ensures
 
