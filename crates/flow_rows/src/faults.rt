@@ -162,6 +162,16 @@ fn disk_of(alloc: Global, store: &Store) -> Result<MemDisk, Fail> {
 }
 
 #[test]
+fn script_without_a_fault(rt: HostRuntime) -> Result<(), Fail> {
+    let alloc = rt.alloc();
+    let disk = disk_of(alloc, &new_store(alloc)?)?;
+    let left = ran(alloc, "run", SCRIPT, (&[], &[]), disk)?;
+    assert!(rt; left.status == Status::Done && left.text.as_slice() == ANSWERS);
+    assert_eq!(rt; left.disk.calls(), 93);
+    Ok(())
+}
+
+#[test]
 fn stops_of_the_disk(rt: HostRuntime) -> Result<(), Fail> {
     let store = new_store(rt.alloc())?;
     for call in 1..94 {
