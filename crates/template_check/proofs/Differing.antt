@@ -101,8 +101,8 @@ pub met_next : (keys next : List (Bor (List ℕ))) (k : Bor (List ℕ)) (name : 
 met_next keys next k name is_new tells new now distinct is names so_far =
     let f = λ (x : Bor (List ℕ)). x.now in
     let longer : map f next ≡ names ++ name ∷ [] =
-        ap (map f) (now ∙ key_added (λ x y. bytes_eq x.now y.now) keys k is_new tells new) ∙ map-append f keys (k ∷ []) ∙ ap (λ (ns : List (List ℕ)). ns ++ k.now ∷ []) so_far
-        ∙ ap (λ (n : List ℕ). names ++ n ∷ []) is in
+    ap (map f) (now ∙ key_added (λ x y. bytes_eq x.now y.now) keys k is_new tells new) ∙ map-append f keys (k ∷ []) ∙ ap (λ (ns : List (List ℕ)). ns ++ k.now ∷ []) so_far
+    ∙ ap (λ (n : List ℕ). names ++ n ∷ []) is in
     (longer, subst AllDiffer longer (names_differ next distinct))
 
 -- and one more pair
