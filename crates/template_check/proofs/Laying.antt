@@ -1,5 +1,5 @@
--- A graph is laid where its wiring follows from its lists, no connectors close a walk, and its data lines go along connectors.
-use Rattle.std.proofs.Common.{◌≡◌, ℕ, zero, suc, ◌+◌, ◌<◌, List, [], ◌∷◌, length, length-append, get_or, take, ◌++◌, map, append-nil, Option, Some, None, refl, sym, ap, subst, ◌∙◌, arith}
+-- A graph is laid where its wiring follows from its lists, no connectors close a walk, and its data lines go along connectors; it is sound where the rules find nothing in its text.
+use Rattle.std.proofs.Common.{◌≡◌, ℕ, zero, suc, ◌+◌, ◌<◌, List, [], ◌∷◌, length, get_or, take, ◌++◌, map, append-nil, Option, Some, None, refl, sym, ap, subst, ◌∙◌, arith}
 use Rattle.std.specs.List.{All, Contains, cons_option}
 use Rattle.std.specs.Option.{option_map}
 use Rattle.template_check.proofs.Naming.{first_below}

@@ -1,4 +1,3 @@
-use Rattle.std.proofs.Common.{ap, sym, ◌∙◌, length, List}
 use Rattle.template_check.proofs.Differing.{met_next}
 use Rattle.template_check.proofs.least.Repeats.meet.Goals as goal
 
