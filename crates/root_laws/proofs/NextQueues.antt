@@ -2,6 +2,7 @@
 use Rattle.std.proofs.Common.{◌≡◌, ℕ, ◌+◌, ◌≤◌, ◌==◌, Bool, true, false, not, ◌&&◌, ◌||◌, if◌then◌else◌, List, [], ◌∷◌, ◌++◌, drop, Option, Some, None, refl, ap, sym, ◌∙◌, arith, inl, inr}
 use Rattle.std.proofs.lemmas.Bool.Decides.{eqb_tells}
 use Rattle.std.proofs.lemmas.List.Elements.{filter-append}
+use Rattle.std.proofs.lemmas.Option.{none-some}
 use Rattle.std.specs.List.{filter}
 use Rattle.fate_laws.proofs.Extends.{and_true}
 use Rattle.fate_laws.proofs.Items.{eqb_itself, eqb_one}
@@ -17,9 +18,6 @@ use Rattle.view_laws.specs.Runs.{Root, Event, turned, due, engine}
 and_yes : (b : Bool) → (b && true) ≡ b
 and_yes true = refl
 and_yes false = refl
-
-none_some : {A : Type 0} (a : A) → None ≡ Some a → ⊥
-none_some a is = cc
 
 module _ (r : Root) (q : Note → ℕ) where
   abbrev x : Engine Note Event
@@ -53,7 +51,7 @@ module _ (r : Root) (q : Note → ℕ) where
   -- the front is gone from what passes a test, where it is there but once
   front_gone : (p : Note → Bool) (n : Note) (ms : List Note) → times x ms n ≤ 1 → first (filter p ms) ≡ Some n
       → filter (λ m. p m && not (same_note m n)) ms ≡ drop 1 (filter p ms)
-  front_gone p n [] once front = absurd (none_some n front)
+  front_gone p n [] once front = absurd (none-some n front)
   front_gone p n (m ∷ ms) once front = go (p m) refl (front_gone p n ms)
     where
       go : (b : Bool) → p m ≡ b → (times x ms n ≤ 1 → first (filter p ms) ≡ Some n → filter (λ m. p m && not (same_note m n)) ms ≡ drop 1 (filter p ms))
