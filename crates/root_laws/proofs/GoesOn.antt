@@ -1,5 +1,5 @@
 -- A root that is right goes on being right.
-use Rattle.std.proofs.Common.{◌≡◌, ℕ, ◌==◌, Bool, true, false, if◌then◌else◌, List, [], ◌∷◌, ◌++◌, map, drop, Option, Some, None, refl, ap, sym, ◌∙◌, subst, append-nil}
+use Rattle.std.proofs.Common.{◌≡◌, ℕ, ◌==◌, Bool, true, false, if◌then◌else◌, List, [], ◌∷◌, ◌++◌, map, drop, Some, None, refl, ap, sym, ◌∙◌, subst, append-nil}
 use Rattle.std.proofs.lemmas.Option.{none-some}
 use Rattle.std.specs.Prelude.{slice_get}
 use Rattle.std.specs.List.{filter}
@@ -26,12 +26,11 @@ use Rattle.navigator.specs.Instances.{IsStarted}
 use Rattle.navigator.specs.Showing.{note_in}
 use Rattle.navigator.specs.Views.{Shows}
 use Rattle.navigator.specs.declared.instance.Instance.{Instance}
-use Rattle.navigator.specs.declared.scopes.ScopeState.{ScopeState}
 use Rattle.view_laws.proofs.WholeRuns.{running_is}
 use Rattle.view_laws.specs.LegalRuns.{Awaits, IsLegal}
-use Rattle.view_laws.specs.Messages.{Note, BeginNote}
+use Rattle.view_laws.specs.Messages.{Note}
 use Rattle.view_laws.specs.Queues.{put, queue, first, TakesFronts}
-use Rattle.view_laws.specs.Runs.{Root, Event, Started, Turned, Completed, Held, Stopped, is_stopped, running, has_started, seen, turned, due, due_now, engine}
+use Rattle.view_laws.specs.Runs.{Root, Event, Started, Turned, Completed, Held, Stopped, is_stopped, running, seen, turned, due, due_now, engine}
 use Rattle.root_laws.proofs.NextKnown.{counted_run, TellsNothing, still_seen, still_due, stopped_run, start_puts, turn_comes, output_comes, gives_put}
 use Rattle.root_laws.proofs.NextQueues.{puts_nothing, queue_put, queue_taken}
 use Rattle.root_laws.proofs.Putting.{Stand, both_stand, front_stands, taken_stand, put_stand}

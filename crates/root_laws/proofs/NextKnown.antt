@@ -1,5 +1,5 @@
 -- What the next event of a run tells, and what it puts.
-use Rattle.std.proofs.Common.{◌≡◌, ℕ, suc, ◌+◌, ◌≤◌, ◌==◌, Bool, true, false, not, List, [], ◌∷◌, ◌++◌, length, Option, Some, None, refl, ap, sym, ◌∙◌, subst, arith}
+use Rattle.std.proofs.Common.{◌≡◌, ℕ, suc, ◌+◌, Bool, true, false, not, List, [], ◌∷◌, length, refl, ap, sym, ◌∙◌, subst, arith}
 use Rattle.std.proofs.lemmas.List.{length-map}
 use Rattle.std.specs.List.{filter}
 use Rattle.fate_laws.proofs.ItemsBelow.{items_of, facts_cover}
@@ -19,9 +19,8 @@ use Rattle.view_laws.specs.Learning.{learnt, with_output, with_most}
 use Rattle.view_laws.specs.LegalRuns.{IsLegal}
 use Rattle.view_laws.specs.Messages.{Note, BeginNote, SignalNote, EndNote}
 use Rattle.view_laws.specs.NextEvents.{MayGoOn}
-use Rattle.view_laws.specs.Queues.{Engine, has, times, by_kind, put, queue}
-use Rattle.view_laws.specs.Runs.{Root, Event, Started, Turned, Completed, is_stopped, running, has_started, facts, seen, due, due_now, engine}
-use Rattle.root_laws.proofs.NextQueues.{queue_put}
+use Rattle.view_laws.specs.Queues.{has, times, by_kind, put}
+use Rattle.view_laws.specs.Runs.{Root, Event, Started, Turned, Completed, is_stopped, running, has_started, facts, seen, due, engine}
 
 pub counted_run : (h : List Event) → IsCounted (seen h)
 counted_run h = record {

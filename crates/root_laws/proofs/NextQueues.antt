@@ -1,13 +1,12 @@
 -- The queues after one more event: a message that it takes leaves the front of its queue, and what it puts goes to the backs.
-use Rattle.std.proofs.Common.{◌≡◌, ℕ, ◌+◌, ◌≤◌, ◌==◌, Bool, true, false, not, ◌&&◌, ◌||◌, if◌then◌else◌, List, [], ◌∷◌, ◌++◌, drop, Option, Some, None, refl, ap, sym, ◌∙◌, arith, inl, inr}
-use Rattle.std.proofs.lemmas.Bool.Decides.{eqb_tells}
+use Rattle.std.proofs.Common.{◌≡◌, ℕ, ◌+◌, ◌≤◌, ◌==◌, Bool, true, false, not, ◌&&◌, ◌||◌, if◌then◌else◌, List, [], ◌∷◌, ◌++◌, drop, Some, None, refl, ap, sym, ◌∙◌, arith}
 use Rattle.std.proofs.lemmas.List.Elements.{filter-append}
 use Rattle.std.proofs.lemmas.Option.{none-some}
 use Rattle.std.specs.List.{filter}
 use Rattle.fate_laws.proofs.Extends.{and_true}
 use Rattle.fate_laws.proofs.Items.{eqb_itself, eqb_one}
 use Rattle.fate_laws.specs.WellFormed.{Well}
-use Rattle.view_laws.proofs.Counting.{has_times, has_none, times_has, times-append, front_passes, front_waits, spent_once}
+use Rattle.view_laws.proofs.Counting.{has_times, times_has, times-append, front_passes, front_waits, spent_once}
 use Rattle.view_laws.proofs.NothingDue.{nothing}
 use Rattle.view_laws.proofs.SameNotes.{itself, one}
 use Rattle.view_laws.proofs.WholeRuns.{note_once}
