@@ -1,5 +1,5 @@
 -- A root that is right goes on being right.
-use Rattle.std.proofs.Common.{◌≡◌, ℕ, ◌==◌, Bool, true, false, if◌then◌else◌, List, [], ◌∷◌, ◌++◌, map, drop, Some, None, refl, ap, sym, ◌∙◌, subst, append-nil}
+use Rattle.std.proofs.Common.{◌≡◌, ℕ, zero, suc, ◌==◌, Bool, true, false, if◌then◌else◌, List, [], ◌∷◌, ◌++◌, map, drop, Some, None, refl, ap, sym, ◌∙◌, subst, append-nil}
 use Rattle.std.proofs.lemmas.Option.{none-some}
 use Rattle.std.specs.Prelude.{slice_get}
 use Rattle.std.specs.List.{filter}
@@ -28,7 +28,7 @@ use Rattle.navigator.specs.Views.{Shows}
 use Rattle.navigator.specs.declared.instance.Instance.{Instance}
 use Rattle.view_laws.proofs.WholeRuns.{running_is}
 use Rattle.view_laws.specs.LegalRuns.{Awaits, IsLegal}
-use Rattle.view_laws.specs.Messages.{Note}
+use Rattle.view_laws.specs.Messages.{Note, BeginNote}
 use Rattle.view_laws.specs.Queues.{put, queue, first, TakesFronts}
 use Rattle.view_laws.specs.Runs.{Root, Event, Started, Turned, Completed, Held, Stopped, is_stopped, running, seen, turned, due, due_now, engine}
 use Rattle.root_laws.proofs.NextKnown.{counted_run, TellsNothing, still_seen, still_due, stopped_run, start_puts, turn_comes, output_comes, gives_put}
@@ -48,24 +48,24 @@ module _ (r : Root) (q : Note → ℕ) (served : IsServedRoot r) where
       let empty : List Note = [] in
       stand k ∙ ap (map Some) (sym (queue_put r q served.well e h fronts idle k ∙ ap (λ l. queue (engine r q) h k ++ filter (λ m. q m == k) l) nothing ∙ append-nil (queue (engine r q) h k)))
 
-  module _ (queue_of : Message → ℕ) (agrees : AgreesOn r.templates r.graph queue_of q) where
+  module _ (queue_of : Message → ℕ) (given : List Message) (agrees : AgreesOn r.templates r.graph queue_of q given) where
     -- what an event puts is put
-    queued_put : (e : Event) (h : List Event) (queued : Queued) (given : List Message) → TakesFronts (engine r q) (e ∷ h) → turned e ≡ None
+    queued_put : (e : Event) (h : List Event) (queued : Queued) → TakesFronts (engine r q) (e ∷ h) → turned e ≡ None
         → Stand (note_in r.templates r.graph) given (put (engine r q) e h) → AreQueued r q h queued → AreQueued r q (e ∷ h) (after_put queue_of given queued)
-    queued_put e h queued given fronts idle gives stand = λ k.
+    queued_put e h queued fronts idle gives stand = λ k.
         both_stand (note_in r.templates r.graph) (queued k) (filter (λ m. queue_of m == k) given) (queue (engine r q) h k) (filter (λ n. q n == k) (put (engine r q) e h))
-        (stand k) (put_stand (note_in r.templates r.graph) queue_of q agrees k given (put (engine r q) e h) gives)
+        (stand k) (put_stand (note_in r.templates r.graph) queue_of q k given (put (engine r q) e h) agrees gives)
         ∙ ap (map Some) (sym (queue_put r q served.well e h fronts idle k))
 
     -- and what a turn takes is taken
-    queued_taken : (m : Note) (h : List Event) (queued : Queued) (given : List Message) (n : ℕ) → TakesFronts (engine r q) (Turned m ∷ h) → first (queue (engine r q) h n) ≡ Some m
+    queued_taken : (m : Note) (h : List Event) (queued : Queued) (n : ℕ) → TakesFronts (engine r q) (Turned m ∷ h) → first (queue (engine r q) h n) ≡ Some m
         → Stand (note_in r.templates r.graph) given (put (engine r q) (Turned m) h) → AreQueued r q h queued
         → AreQueued r q (Turned m ∷ h) (after_put queue_of given (after_taken n queued))
-    queued_taken m h queued given n fronts front gives stand = λ k.
+    queued_taken m h queued n fronts front gives stand = λ k.
         both_stand (note_in r.templates r.graph) (if k == n then drop 1 (queued k) else queued k) (filter (λ m. queue_of m == k) given)
         (if k == n then drop 1 (queue (engine r q) h k) else queue (engine r q) h k) (filter (λ n. q n == k) (put (engine r q) (Turned m) h))
         (taken_stand (note_in r.templates r.graph) (k == n) (queued k) (queue (engine r q) h k) (stand k))
-        (put_stand (note_in r.templates r.graph) queue_of q agrees k given (put (engine r q) (Turned m) h) gives)
+        (put_stand (note_in r.templates r.graph) queue_of q k given (put (engine r q) (Turned m) h) agrees gives)
         ∙ ap (map Some) (sym (queue_taken r q served.well (Turned m) h fronts m refl n front k))
 
 -- ---- a root
@@ -134,10 +134,10 @@ module _ (ts : List Template) (q : Note → ℕ) (h : List Event) (queued : Queu
     messages = right.messages;
   }
 
-  pub completes_right : (queue_of : Message → ℕ) (item : Path) (out : Container) (given : List Message) → AgreesOn ts right.graph queue_of q → i.terminated ≡ false
-      → Awaits ts right.depth (seen h) right.graph right.input item.parts → CompletesIn ts item out given i i'
+  pub completes_right : (queue_of : Message → ℕ) (item : Path) (out : Container) (given : List Message) → i.terminated ≡ false
+      → Awaits ts right.depth (seen h) right.graph right.input item.parts → CompletesIn ts item out given i i' → AgreesOn ts right.graph queue_of q given
       → IsRight ts q (Completed (record { item = item; output = out }) ∷ h) (after_put queue_of given queued) i'
-  completes_right queue_of item out given agrees lives awaits completes =
+  completes_right queue_of item out given lives awaits completes agrees =
       let f : Fact = record { item = item; output = out } in
       let runs : is_stopped h ≡ false = right.stopped ∙ lives in
       let legal : IsLegal the_root q (Completed f ∷ h)
@@ -158,13 +158,13 @@ module _ (ts : List Template) (q : Note → ℕ) (h : List Event) (queued : Queu
         stopped = right.stopped ∙ sym (same_life completes.kept);
         shows = subst (λ (a : List Event). Shows ts right.depth (seen a) right.graph right.input i'.scope) (sym on)
             (completes.shows right.graph right.process right.depth (seen h) (seen (Completed f ∷ h)) right.input right.served.well right.served.served (counted_run h) comes shows);
-        messages = queued_put the_root q right.served queue_of agrees (Completed f) h queued given legal.fronts refl
+        messages = queued_put the_root q right.served queue_of given agrees (Completed f) h queued legal.fronts refl
             (gives_put the_root h (Completed f) given right.started runs on gave q) right.messages;
       }
 
   -- ---- turns
 
-  module _ (queue_of : Message → ℕ) (n : ℕ) (message : Message) (given : List Message) (agrees : AgreesOn ts right.graph queue_of q) (takes : TakesIn ts message given i i')
+  module _ (queue_of : Message → ℕ) (n : ℕ) (message : Message) (given : List Message) (agrees : AgreesOn ts right.graph queue_of q given) (takes : TakesIn ts message given i i')
     (note : Note) (is : note_in ts right.graph message ≡ Some note) (front : first (queue (engine the_root q) h n) ≡ Some note) where
     legal_turn : IsLegal the_root q (Turned note ∷ h)
     legal_turn = record {
@@ -191,7 +191,7 @@ module _ (ts : List Template) (q : Note → ℕ) (h : List Event) (queued : Queu
           stopped = right.stopped ∙ sym (same_life takes.kept);
           shows = subst (λ (a : List Event). Shows ts right.depth (seen a) right.graph right.input i'.scope) (sym on)
               (takes.shows lives right.graph right.process note is right.depth (seen h) (seen (Turned note ∷ h)) right.input right.served.well right.served.served (counted_run h) comes shows);
-          messages = queued_taken the_root q right.served queue_of agrees note h queued given n legal_turn.fronts front
+          messages = queued_taken the_root q right.served queue_of given agrees note h queued n legal_turn.fronts front
               (gives_put the_root h (Turned note) given right.started runs on gave q) right.messages;
         }
     turns true dead =
@@ -213,15 +213,20 @@ module _ (ts : List Template) (q : Note → ℕ) (h : List Event) (queued : Queu
           stopped = right.stopped ∙ sym (same_life takes.kept);
           shows = subst (λ (a : List Event). Shows ts right.depth (seen a) right.graph right.input i'.scope) (sym same)
               (subst (λ s. Shows ts right.depth (seen (running h)) right.graph right.input s) (sym (ap (λ (u : Instance). u.scope) idle.0)) right.shows);
-          messages = queued_taken the_root q right.served queue_of agrees note h queued given n legal_turn.fronts front gave right.messages;
+          messages = queued_taken the_root q right.served queue_of given agrees note h queued n legal_turn.fronts front gave right.messages;
         }
 
-  pub turns_right : (queue_of : Message → ℕ) (n : ℕ) (message : Message) (given : List Message) → AgreesOn ts right.graph queue_of q → slice_get (queued n) 0 ≡ Some message
-      → TakesIn ts message given i i'
+  pub turns_right : (queue_of : Message → ℕ) (n : ℕ) (message : Message) (given : List Message) → slice_get (queued n) 0 ≡ Some message
+      → TakesIn ts message given i i' → AgreesOn ts right.graph queue_of q given
       → (note : Note) × (note_in ts right.graph message ≡ Some note) × IsRight ts q (Turned note ∷ h) (after_put queue_of given (after_taken n queued)) i'
-  turns_right queue_of n message given agrees there takes =
+  turns_right queue_of n message given there takes agrees =
       let found = front_stands (note_in ts right.graph) (queued n) (queue (engine the_root q) h n) message (right.messages n) there in
       (found.0, found.1, turns queue_of n message given agrees takes found.0 found.1 found.2 i.terminated refl)
+
+-- so it is where each queue is written in another way
+pub requeued : (ts : List Template) (q : Note → ℕ) (h : List Event) (queued queued' : Queued) (i : Instance) → ((n : ℕ) → queued' n ≡ queued n)
+    → IsRight ts q h queued i → IsRight ts q h queued' i
+requeued ts q h queued queued' i same right = subst (λ (each : Queued). IsRight ts q h each i) (sym (fun_ext same)) right
 
 -- ---- a larger library
 
@@ -245,9 +250,10 @@ imports_right ts ts' q h queued i agrees right =
 -- ---- the start
 
 pub starts_right : (ts : List Template) (q : Note → ℕ) (queue_of : Message → ℕ) (t number depth : ℕ) (g : Graph) (name : Name) (input : Container) (i : Instance)
-    → graph_of ts t ≡ Some g → IsServedRoot (root_in ts depth g input) → AgreesOn ts g queue_of q → IsStarted ts t number name input i
+    → graph_of ts t ≡ Some g → IsServedRoot (root_in ts depth g input) → IsStarted ts t number name input i
+    → queue_of (Begin (record { root = number; parts = [] })) ≡ q (BeginNote [])
     → IsRight ts q (Started ∷ []) (after_put queue_of (Begin (record { root = number; parts = [] }) ∷ []) none_queued) i
-starts_right ts q queue_of t number depth g name input i of served agrees starts =
+starts_right ts q queue_of t number depth g name input i of served starts same =
     let r = root_in ts depth g input in
     let legal : IsLegal (root_in ts depth g input) q (Started ∷ []) = record { fronts = (tt, λ m takes. absurd (none-some m takes)); awaited = tt } in
     record {
@@ -261,6 +267,13 @@ starts_right ts q queue_of t number depth g name input i of served agrees starts
       stopped = sym starts.lives;
       shows = fresh_shows ts depth (seen []) g input i.scope (starts.scope g of) (record { unbegun = refl; unsent = λ a b. refl })
           (incoming_of ts depth g served.served) (few_of ts depth g served.served);
-      messages = queued_put (root_in ts depth g input) q served queue_of agrees Started [] none_queued (Begin (record { root = number; parts = [] }) ∷ []) legal.fronts refl
+      messages = queued_put (root_in ts depth g input) q served queue_of (Begin (record { root = number; parts = [] }) ∷ []) agrees Started [] none_queued legal.fronts refl
           (ap (map Some) (sym (start_puts (root_in ts depth g input) q))) (λ n. refl);
     }
+  where
+    agrees : AgreesOn ts g queue_of q (Begin (record { root = number; parts = [] }) ∷ [])
+    agrees zero m note is named =
+        let m_is : Begin (record { root = number; parts = [] }) ≡ m = cc in
+        let note_is : BeginNote [] ≡ note = (let both : Some (BeginNote []) ≡ Some note = ap (note_in ts g) m_is ∙ named in cc) in
+        sym (ap queue_of m_is) ∙ same ∙ ap q note_is
+    agrees (suc k) m note is named = absurd (none-some m is)

@@ -1,5 +1,5 @@
 -- Messages that stand in queues where their notes do, through what is put and taken.
-use Rattle.std.proofs.Common.{◌≡◌, ℕ, ◌==◌, Bool, true, false, if◌then◌else◌, List, [], ◌∷◌, ◌++◌, map, drop, Option, Some, None, refl, ap, sym, ◌∙◌}
+use Rattle.std.proofs.Common.{◌≡◌, ℕ, suc, ◌==◌, Bool, true, false, if◌then◌else◌, List, [], ◌∷◌, ◌++◌, map, drop, Option, Some, None, refl, ap, sym, ◌∙◌}
 use Rattle.std.proofs.lemmas.List.{map-append}
 use Rattle.std.specs.Prelude.{slice_get}
 use Rattle.std.specs.List.{filter}
@@ -45,14 +45,15 @@ module _ (note_of : Message → Option Note) where
   taken_stand false ms ns stand = stand
 
   -- each is put in its queue
-  module _ (queue_of : Message → ℕ) (q : Note → ℕ) (agrees : (m : Message) (n : Note) → note_of m ≡ Some n → queue_of m ≡ q n) where
-    pub put_stand : (k : ℕ) (ms : List Message) (ns : List Note) → Stand ms ns → Stand (filter (λ m. queue_of m == k) ms) (filter (λ n. q n == k) ns)
-    put_stand k [] [] stand = refl
-    put_stand k [] (n ∷ ns) stand = cc
-    put_stand k (m ∷ ms) [] stand = cc
-    put_stand k (m ∷ ms) (n ∷ ns) stand =
+  module _ (queue_of : Message → ℕ) (q : Note → ℕ) where
+    pub put_stand : (k : ℕ) (ms : List Message) (ns : List Note) → ((j : ℕ) (m : Message) (n : Note) → slice_get ms j ≡ Some m → note_of m ≡ Some n → queue_of m ≡ q n)
+        → Stand ms ns → Stand (filter (λ m. queue_of m == k) ms) (filter (λ n. q n == k) ns)
+    put_stand k [] [] agrees stand = refl
+    put_stand k [] (n ∷ ns) agrees stand = cc
+    put_stand k (m ∷ ms) [] agrees stand = cc
+    put_stand k (m ∷ ms) (n ∷ ns) agrees stand =
         let both = heads m n ms ns stand in
-        go (q n == k) refl (agrees m n both.0) both.0 (put_stand k ms ns both.1)
+        go (q n == k) refl (agrees 0 m n refl both.0) both.0 (put_stand k ms ns (λ j. agrees (suc j)) both.1)
       where
         go : (b : Bool) → (q n == k) ≡ b → queue_of m ≡ q n → note_of m ≡ Some n → Stand (filter (λ m. queue_of m == k) ms) (filter (λ n. q n == k) ns)
             → Stand (filter (λ m. queue_of m == k) (m ∷ ms)) (filter (λ n. q n == k) (n ∷ ns))

@@ -24,7 +24,7 @@ use Rattle.navigator.specs.declared.scopes.ScopeState.{out-ScopeState}
 use Rattle.root_laws.specs.Becoming.{TakesIn, CompletesIn, HoldsIn}
 use Rattle.root_laws.specs.RightRoots.{Queued, none_queued, after_put, after_taken, AgreesOn, root_in, IsRight}
 use Rattle.view_laws.specs.LegalRuns.{Awaits}
-use Rattle.view_laws.specs.Messages.{Note}
+use Rattle.view_laws.specs.Messages.{Note, BeginNote}
 use Rattle.view_laws.specs.Runs.{Event, Started, Turned, Completed, Held, Stopped, running, seen, fated}
 
 -- ---- it starts, and goes on
@@ -33,7 +33,8 @@ use Rattle.view_laws.specs.Runs.{Event, Started, Turned, Completed, Held, Stoppe
 abbrev pub StartsRight : Type 0
 StartsRight =
     (ts : List Template) (q : Note → ℕ) (queue_of : Message → ℕ) (t number depth : ℕ) (g : Graph) (name : Name) (input : Container) (i : Instance)
-    → graph_of ts t ≡ Some g → IsServedRoot (root_in ts depth g input) → AgreesOn ts g queue_of q → IsStarted ts t number name input i
+    → graph_of ts t ≡ Some g → IsServedRoot (root_in ts depth g input) → IsStarted ts t number name input i
+    → queue_of (Begin (record { root = number; parts = [] })) ≡ q (BeginNote [])
     → IsRight ts q (Started ∷ []) (after_put queue_of (Begin (record { root = number; parts = [] }) ∷ []) none_queued) i
 
 -- it stays right when an item of it is held or given back
@@ -58,7 +59,8 @@ ModeRight =
 abbrev pub TurnsRight : Type 0
 TurnsRight =
     (ts : List Template) (q : Note → ℕ) (queue_of : Message → ℕ) (h : List Event) (queued : Queued) (i i' : Instance) (n : ℕ) (message : Message) (given : List Message)
-    → (right : IsRight ts q h queued i) → AgreesOn ts right.graph queue_of q → slice_get (queued n) 0 ≡ Some message → TakesIn ts message given i i'
+    → (right : IsRight ts q h queued i) → slice_get (queued n) 0 ≡ Some message → TakesIn ts message given i i'
+    → AgreesOn ts right.graph queue_of q given
     → (note : Note) × (note_in ts right.graph message ≡ Some note)
     × IsRight ts q (Turned note ∷ h) (after_put queue_of given (after_taken n queued)) i'
 
@@ -66,8 +68,8 @@ TurnsRight =
 abbrev pub CompletesRight : Type 0
 CompletesRight =
     (ts : List Template) (q : Note → ℕ) (queue_of : Message → ℕ) (h : List Event) (queued : Queued) (i i' : Instance) (item : Path) (out : Container) (given : List Message)
-    → (right : IsRight ts q h queued i) → AgreesOn ts right.graph queue_of q → i.terminated ≡ false
-    → Awaits ts right.depth (seen h) right.graph right.input item.parts → CompletesIn ts item out given i i'
+    → (right : IsRight ts q h queued i) → i.terminated ≡ false
+    → Awaits ts right.depth (seen h) right.graph right.input item.parts → CompletesIn ts item out given i i' → AgreesOn ts right.graph queue_of q given
     → IsRight ts q (Completed (record { item = item; output = out }) ∷ h) (after_put queue_of given queued) i'
 
 -- it stays right in a larger library

@@ -1,5 +1,5 @@
 -- A root that is right: what it is after a run of its events, and which messages of it are queued.
-use Rattle.std.specs.Prelude.{◌≡◌, ℕ, ◌==◌, Some, List, [], ◌++◌, map, drop, if◌then◌else◌, IsTrue}
+use Rattle.std.specs.Prelude.{◌≡◌, ℕ, ◌==◌, Some, List, [], ◌++◌, map, drop, slice_get, if◌then◌else◌, IsTrue}
 use Rattle.std.specs.List.{filter}
 use Rattle.flow_model.specs.ScopeContainers.{graph_of}
 use Rattle.flow_model.specs.declared.graphs.Container.{Container}
@@ -33,9 +33,9 @@ after_put queue_of given queued n = queued n ++ filter (λ m. queue_of m == n) g
 abbrev pub after_taken : ℕ → Queued → Queued
 after_taken n queued k = if k == n then drop 1 (queued k) else queued k
 
--- a rule that puts each message of a root where the rule for the places of activities puts it
-abbrev pub AgreesOn : List Template → Graph → (Message → ℕ) → (Note → ℕ) → Type 0
-AgreesOn ts g queue_of q = (m : Message) (note : Note) → note_in ts g m ≡ Some note → queue_of m ≡ q note
+-- each of these messages is put where the rule for the places of activities puts it
+abbrev pub AgreesOn : List Template → Graph → (Message → ℕ) → (Note → ℕ) → List Message → Type 0
+AgreesOn ts g queue_of q given = (k : ℕ) (m : Message) (note : Note) → slice_get given k ≡ Some m → note_in ts g m ≡ Some note → queue_of m ≡ q note
 
 -- they are, by the places of their activities, what the run put there and didn't take
 abbrev pub AreQueued : Root → (Note → ℕ) → List Event → Queued → Type 0
