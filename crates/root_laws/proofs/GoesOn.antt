@@ -30,7 +30,7 @@ use Rattle.view_laws.proofs.WholeRuns.{running_is}
 use Rattle.view_laws.specs.LegalRuns.{Awaits, IsLegal}
 use Rattle.view_laws.specs.Messages.{Note, BeginNote}
 use Rattle.view_laws.specs.Queues.{put, queue, first, TakesFronts}
-use Rattle.view_laws.specs.Runs.{Root, Event, Started, Turned, Completed, Held, Stopped, is_stopped, running, seen, turned, due, due_now, engine}
+use Rattle.view_laws.specs.Runs.{Root, Event, Started, Turned, Completed, Held, Stopped, is_stopped, running, has_started, seen, turned, due, due_now, engine}
 use Rattle.root_laws.proofs.NextKnown.{counted_run, TellsNothing, still_seen, still_due, stopped_run, start_puts, turn_comes, output_comes, gives_put}
 use Rattle.root_laws.proofs.NextQueues.{puts_nothing, queue_put, queue_taken}
 use Rattle.root_laws.proofs.Putting.{Stand, both_stand, front_stands, taken_stand, put_stand}
@@ -44,9 +44,8 @@ module _ (r : Root) (q : Note → ℕ) (served : IsServedRoot r) where
   queued_still : (e : Event) (h : List Event) (queued : Queued) → TakesFronts (engine r q) (e ∷ h) → turned e ≡ None → due r (e ∷ h) ≡ due r h
       → AreQueued r q h queued → AreQueued r q (e ∷ h) queued
   queued_still e h queued fronts idle same stand = λ k.
-      let nothing = puts_nothing r q e h same in
-      let empty : List Note = [] in
-      stand k ∙ ap (map Some) (sym (queue_put r q served.well e h fronts idle k ∙ ap (λ l. queue (engine r q) h k ++ filter (λ m. q m == k) l) nothing ∙ append-nil (queue (engine r q) h k)))
+      let left = ap (λ l. queue (engine r q) h k ++ filter (λ m. q m == k) l) (puts_nothing r q e h same) ∙ append-nil (queue (engine r q) h k) in
+      stand k ∙ ap (map Some) (sym (queue_put r q served.well e h fronts idle k ∙ left))
 
   module _ (queue_of : Message → ℕ) (given : List Message) (agrees : AgreesOn r.templates r.graph queue_of q given) where
     -- what an event puts is put
@@ -74,33 +73,40 @@ module _ (ts : List Template) (q : Note → ℕ) (h : List Event) (queued : Queu
   abbrev the_root : Root
   the_root = root_in ts right.depth right.graph right.input
 
-  same_template : i' ≡ record i { scope = i'.scope } → i'.template ≡ i.template
-  same_template kept = ap (λ (u : Instance). u.template) kept
+  -- it is right after one more event that leaves all but its scope: where the run may go on so, the state shows what is known then, and the messages stand in their queues
+  next_right : (e : Event) (queued' : Queued) → i' ≡ record i { scope = i'.scope } → has_started (e ∷ h) ≡ has_started h → is_stopped (e ∷ h) ≡ is_stopped h
+      → IsLegal the_root q (e ∷ h) → Shows ts right.depth (seen (running (e ∷ h))) right.graph right.input i'.scope → AreQueued the_root q (e ∷ h) queued'
+      → IsRight ts q (e ∷ h) queued' i'
+  next_right e queued' kept started stopped legal shows messages = record {
+    depth = right.depth;
+    graph = right.graph;
+    input = right.input;
+    process = ap (λ (u : Instance). graph_of ts u.template) kept ∙ right.process;
+    served = right.served;
+    legal = legal;
+    started = started ∙ right.started;
+    stopped = stopped ∙ right.stopped ∙ sym (ap (λ (u : Instance). u.terminated) kept);
+    shows = shows;
+    messages = messages;
+  }
 
-  same_life : i' ≡ record i { scope = i'.scope } → i'.terminated ≡ i.terminated
-  same_life kept = ap (λ (u : Instance). u.terminated) kept
+  -- while it isn't terminated its state shows what the whole run tells
+  shows_now : is_stopped h ≡ false → Shows ts right.depth (seen h) right.graph right.input i.scope
+  shows_now runs = subst (λ (a : List Event). Shows ts right.depth (seen a) right.graph right.input i.scope) (running_is h runs) right.shows
 
-  process_then : i' ≡ record i { scope = i'.scope } → graph_of ts i'.template ≡ Some right.graph
-  process_then kept = ap (graph_of ts) (same_template kept) ∙ right.process
+  -- a scope that is the same shows the same
+  shows_same : i'.scope ≡ i.scope → Shows ts right.depth (seen (running h)) right.graph right.input i'.scope
+  shows_same same = subst (λ s. Shows ts right.depth (seen (running h)) right.graph right.input s) (sym same) right.shows
 
   pub holds_right : (item : List Part) (held : Bool) → HoldsIn ts i i' → IsRight ts q (Held item held ∷ h) queued i'
   holds_right item held holds =
       let e : Event = Held item held in
       let tells : TellsNothing e h = record { seen = refl; started = refl } in
       let legal : IsLegal the_root q (e ∷ h) = record { fronts = (right.legal.fronts, λ m takes. absurd (none-some m takes)); awaited = right.legal.awaited } in
-      record {
-        depth = right.depth;
-        graph = right.graph;
-        input = right.input;
-        process = process_then holds.kept;
-        served = right.served;
-        legal = legal;
-        started = right.started;
-        stopped = right.stopped ∙ sym (same_life holds.kept);
-        shows = subst (λ k. Shows ts right.depth k right.graph right.input i'.scope) (sym (still_seen e h refl))
-            (holds.shows right.graph right.process right.depth (seen (running h)) right.input right.shows);
-        messages = queued_still the_root q right.served e h queued legal.fronts refl (still_due the_root e h tells) right.messages;
-      }
+      next_right e queued holds.kept refl refl legal
+      (subst (λ k. Shows ts right.depth k right.graph right.input i'.scope) (sym (still_seen e h refl))
+      (holds.shows right.graph right.process right.depth (seen (running h)) right.input right.shows))
+      (queued_still the_root q right.served e h queued legal.fronts refl (still_due the_root e h tells) right.messages)
 
   pub stops_right : i' ≡ record i { terminated = true } → IsRight ts q (Stopped ∷ h) queued i'
   stops_right is =
@@ -115,8 +121,7 @@ module _ (ts : List Template) (q : Note → ℕ) (h : List Event) (queued : Queu
         legal = legal;
         started = right.started;
         stopped = sym (ap (λ (u : Instance). u.terminated) is);
-        shows = subst (λ k. Shows ts right.depth k right.graph right.input i'.scope) (sym (still_seen Stopped h refl))
-            (subst (λ s. Shows ts right.depth (seen (running h)) right.graph right.input s) (sym (ap (λ (u : Instance). u.scope) is)) right.shows);
+        shows = subst (λ k. Shows ts right.depth k right.graph right.input i'.scope) (sym (still_seen Stopped h refl)) (shows_same (ap (λ (u : Instance). u.scope) is));
         messages = queued_still the_root q right.served Stopped h queued legal.fronts refl (still_due the_root Stopped h tells) right.messages;
       }
 
@@ -130,7 +135,7 @@ module _ (ts : List Template) (q : Note → ℕ) (h : List Event) (queued : Queu
     legal = right.legal;
     started = right.started;
     stopped = right.stopped ∙ sym (ap (λ (u : Instance). u.terminated) is);
-    shows = subst (λ s. Shows ts right.depth (seen (running h)) right.graph right.input s) (sym (ap (λ (u : Instance). u.scope) is)) right.shows;
+    shows = shows_same (ap (λ (u : Instance). u.scope) is);
     messages = right.messages;
   }
 
@@ -143,29 +148,19 @@ module _ (ts : List Template) (q : Note → ℕ) (h : List Event) (queued : Queu
       let legal : IsLegal the_root q (Completed f ∷ h)
       = record { fronts = (right.legal.fronts, λ m takes. absurd (none-some m takes)); awaited = (right.legal.awaited, runs, awaits) } in
       let on : running (Completed f ∷ h) ≡ Completed f ∷ h = running_is (Completed f ∷ h) runs in
-      let shows : Shows ts right.depth (seen h) right.graph right.input i.scope
-      = subst (λ (a : List Event). Shows ts right.depth (seen a) right.graph right.input i.scope) (running_is h runs) right.shows in
       let comes = output_comes the_root q right.served f h legal runs in
-      let gave = completes.gives right.graph right.process right.depth (seen h) (seen (Completed f ∷ h)) right.input right.served.well right.served.served right.served.aimed (counted_run h) comes shows in
-      record {
-        depth = right.depth;
-        graph = right.graph;
-        input = right.input;
-        process = process_then completes.kept;
-        served = right.served;
-        legal = legal;
-        started = right.started;
-        stopped = right.stopped ∙ sym (same_life completes.kept);
-        shows = subst (λ (a : List Event). Shows ts right.depth (seen a) right.graph right.input i'.scope) (sym on)
-            (completes.shows right.graph right.process right.depth (seen h) (seen (Completed f ∷ h)) right.input right.served.well right.served.served (counted_run h) comes shows);
-        messages = queued_put the_root q right.served queue_of given agrees (Completed f) h queued legal.fronts refl
-            (gives_put the_root h (Completed f) given right.started runs on gave q) right.messages;
-      }
+      let gave = completes.gives right.graph right.process right.depth (seen h) (seen (Completed f ∷ h)) right.input right.served.well right.served.served right.served.aimed (counted_run h) comes
+      (shows_now runs) in
+      next_right (Completed f) (after_put queue_of given queued) completes.kept refl refl legal
+      (subst (λ (a : List Event). Shows ts right.depth (seen a) right.graph right.input i'.scope) (sym on)
+      (completes.shows right.graph right.process right.depth (seen h) (seen (Completed f ∷ h)) right.input right.served.well right.served.served (counted_run h) comes (shows_now runs)))
+      (queued_put the_root q right.served queue_of given agrees (Completed f) h queued legal.fronts refl
+      (gives_put the_root h (Completed f) given right.started runs on gave q) right.messages)
 
   -- ---- turns
 
   module _ (queue_of : Message → ℕ) (n : ℕ) (message : Message) (given : List Message) (agrees : AgreesOn ts right.graph queue_of q given) (takes : TakesIn ts message given i i')
-    (note : Note) (is : note_in ts right.graph message ≡ Some note) (front : first (queue (engine the_root q) h n) ≡ Some note) where
+      (note : Note) (is : note_in ts right.graph message ≡ Some note) (front : first (queue (engine the_root q) h n) ≡ Some note) where
     legal_turn : IsLegal the_root q (Turned note ∷ h)
     legal_turn = record {
       fronts = (right.legal.fronts, λ m takes. (n, front ∙ takes));
@@ -176,45 +171,22 @@ module _ (ts : List Template) (q : Note → ℕ) (h : List Event) (queued : Queu
     turns false lives =
         let runs : is_stopped h ≡ false = right.stopped ∙ lives in
         let on : running (Turned note ∷ h) ≡ Turned note ∷ h = running_is (Turned note ∷ h) runs in
-        let shows : Shows ts right.depth (seen h) right.graph right.input i.scope
-        = subst (λ (a : List Event). Shows ts right.depth (seen a) right.graph right.input i.scope) (running_is h runs) right.shows in
         let comes = turn_comes the_root q right.served note h legal_turn runs in
-        let gave = takes.gives lives right.graph right.process note is right.depth (seen h) (seen (Turned note ∷ h)) right.input right.served.well right.served.served right.served.aimed (counted_run h) comes shows in
-        record {
-          depth = right.depth;
-          graph = right.graph;
-          input = right.input;
-          process = process_then takes.kept;
-          served = right.served;
-          legal = legal_turn;
-          started = right.started;
-          stopped = right.stopped ∙ sym (same_life takes.kept);
-          shows = subst (λ (a : List Event). Shows ts right.depth (seen a) right.graph right.input i'.scope) (sym on)
-              (takes.shows lives right.graph right.process note is right.depth (seen h) (seen (Turned note ∷ h)) right.input right.served.well right.served.served (counted_run h) comes shows);
-          messages = queued_taken the_root q right.served queue_of given agrees note h queued n legal_turn.fronts front
-              (gives_put the_root h (Turned note) given right.started runs on gave q) right.messages;
-        }
+        let gave = takes.gives lives right.graph right.process note is right.depth (seen h) (seen (Turned note ∷ h)) right.input right.served.well right.served.served right.served.aimed (counted_run h) comes
+        (shows_now runs) in
+        next_right (Turned note) (after_put queue_of given (after_taken n queued)) takes.kept refl refl legal_turn
+        (subst (λ (a : List Event). Shows ts right.depth (seen a) right.graph right.input i'.scope) (sym on)
+        (takes.shows lives right.graph right.process note is right.depth (seen h) (seen (Turned note ∷ h)) right.input right.served.well right.served.served (counted_run h) comes (shows_now runs)))
+        (queued_taken the_root q right.served queue_of given agrees note h queued n legal_turn.fronts front
+        (gives_put the_root h (Turned note) given right.started runs on gave q) right.messages)
     turns true dead =
-        let stopped : is_stopped h ≡ true = right.stopped ∙ dead in
-        let same : running (Turned note ∷ h) ≡ running h = stopped_run (Turned note) h stopped in
+        let same : running (Turned note ∷ h) ≡ running h = stopped_run (Turned note) h (right.stopped ∙ dead) in
         let idle = takes.idle dead in
-        let nothing : put (engine the_root q) (Turned note) h ≡ []
-        = puts_nothing the_root q (Turned note) h (ap (due_now the_root) same) in
-        let gave : Stand (note_in ts right.graph) given (put (engine the_root q) (Turned note) h)
-        = ap (map (note_in ts right.graph)) idle.1 ∙ ap (map Some) (sym nothing) in
-        record {
-          depth = right.depth;
-          graph = right.graph;
-          input = right.input;
-          process = process_then takes.kept;
-          served = right.served;
-          legal = legal_turn;
-          started = right.started;
-          stopped = right.stopped ∙ sym (same_life takes.kept);
-          shows = subst (λ (a : List Event). Shows ts right.depth (seen a) right.graph right.input i'.scope) (sym same)
-              (subst (λ s. Shows ts right.depth (seen (running h)) right.graph right.input s) (sym (ap (λ (u : Instance). u.scope) idle.0)) right.shows);
-          messages = queued_taken the_root q right.served queue_of given agrees note h queued n legal_turn.fronts front gave right.messages;
-        }
+        let nothing : put (engine the_root q) (Turned note) h ≡ [] = puts_nothing the_root q (Turned note) h (ap (due_now the_root) same) in
+        next_right (Turned note) (after_put queue_of given (after_taken n queued)) takes.kept refl refl legal_turn
+        (subst (λ (a : List Event). Shows ts right.depth (seen a) right.graph right.input i'.scope) (sym same) (shows_same (ap (λ (u : Instance). u.scope) idle.0)))
+        (queued_taken the_root q right.served queue_of given agrees note h queued n legal_turn.fronts front
+        (ap (map (note_in ts right.graph)) idle.1 ∙ ap (map Some) (sym nothing)) right.messages)
 
   pub turns_right : (queue_of : Message → ℕ) (n : ℕ) (message : Message) (given : List Message) → slice_get (queued n) 0 ≡ Some message
       → TakesIn ts message given i i' → AgreesOn ts right.graph queue_of q given
@@ -254,7 +226,6 @@ pub starts_right : (ts : List Template) (q : Note → ℕ) (queue_of : Message �
     → queue_of (Begin (record { root = number; parts = [] })) ≡ q (BeginNote [])
     → IsRight ts q (Started ∷ []) (after_put queue_of (Begin (record { root = number; parts = [] }) ∷ []) none_queued) i
 starts_right ts q queue_of t number depth g name input i of served starts same =
-    let r = root_in ts depth g input in
     let legal : IsLegal (root_in ts depth g input) q (Started ∷ []) = record { fronts = (tt, λ m takes. absurd (none-some m takes)); awaited = tt } in
     record {
       depth = depth;

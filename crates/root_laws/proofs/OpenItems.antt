@@ -66,7 +66,7 @@ shown_item (Block' b g) fate outs starts shows p is = absurd is
 shown_item (Process t) fate outs starts shows p is = absurd is
 
 module _ (ts : List Template) (depth : ℕ) (k : Known) (input : Container) (here : Stand) (shows : Shows ts depth k here.graph input here.scope) (q : Part) (e : Entry)
-  (goes : phase_of (fate_of e.state) e.attempt ≡ Ended → ⊥) where
+    (goes : phase_of (fate_of e.state) e.attempt ≡ Ended → ⊥) where
   item_of : (a : ℕ) (activity : Activity) (state : ActivityState) → place_of here.graph q.name ≡ Some a → slice_get (out-Graph here.graph).activities a ≡ Some activity
       → slice_get (out-ScopeState here.scope).states.items a ≡ Some state → entry_of_state here q.attempt a activity state ≡ Some e → IsAwaited ts depth k here.graph input q
   item_of a activity (Nested n) place is there entered = absurd (none-some e entered)
