@@ -3,6 +3,7 @@ use Rattle.std.proofs.Common.{◌≡◌, ℕ, Option, Some, None, true, false, L
 use Rattle.std.specs.Io.KnownBytes.{Keeps}
 use Rattle.text_words.specs.Answers.{Refuses, AnswersTree}
 use Rattle.text_words.specs.FateAnswers.{AnswersText}
+use Rattle.text_words.specs.Gathered.{IsGathered}
 use Rattle.text_words.specs.declared.check.Answer.{Answer}
 use Rattle.text_words.specs.declared.input.Input.{Input}
 use Rattle.flow_words.specs.Printed.{Prints, PrintsAnswer, IsUnanswered, IsCheckOf, IsFateOf, answer_status}
@@ -16,16 +17,16 @@ module _ {E : Type 0} (input : Input) where
   prints_answer Answers (Ok answer) old new ended answers printed = inr (input, answer, answers, printed)
   prints_answer Answers (Err e) old new ended answers printed = inl (subst IsUnanswered (sym printed.0) tt, printed.1)
 
-  -- the clauses of `checked` together
-  pub is_check : (r : Result Answer E) → ((line : ℕ) → input.too_long ≡ Some line → IfOk r (λ answer. Refuses answer (codes "LINE") (line ∷ []))) → (input.too_long ≡ None → IfOk r AnswersTree)
-      → IfOk r (IsCheckOf input)
-  is_check (Ok answer) long judged = record { long = long; judged = judged }
-  is_check (Err e) long judged = tt
+  -- the clauses of `read` and of `checked` together
+  pub is_check : (left : Option (List ℕ)) (r : Result Answer E) → IsGathered false left input → ((line : ℕ) → input.too_long ≡ Some line → IfOk r (λ answer. Refuses answer (codes "LINE") (line ∷ []))) → (input.too_long ≡ None → IfOk r AnswersTree)
+      → IfOk r (IsCheckOf left input)
+  is_check left (Ok answer) gathered long judged = record { gathered = gathered; long = long; judged = judged }
+  is_check left (Err e) gathered long judged = tt
 
-  -- the clauses of `fated` together
-  pub is_fate : (r : Result Answer E) → ((line : ℕ) → input.too_long ≡ Some line → IfOk r (λ answer. Refuses answer (codes "LINE") (line ∷ [])))
+  -- the clauses of `read` and of `fated` together
+  pub is_fate : (left : Option (List ℕ)) (r : Result Answer E) → IsGathered true left input → ((line : ℕ) → input.too_long ≡ Some line → IfOk r (λ answer. Refuses answer (codes "LINE") (line ∷ [])))
       → (input.too_long ≡ None → input.is_ended ≡ false → IfOk r (λ answer. Refuses answer (codes "UNENDED") []))
       → (input.too_long ≡ None → input.is_ended ≡ true → IfOk r (λ answer. AnswersText answer input.behind.items))
-      → IfOk r (IsFateOf input)
-  is_fate (Ok answer) long unended judged = record { long = long; unended = unended; judged = judged }
-  is_fate (Err e) long unended judged = tt
+      → IfOk r (IsFateOf left input)
+  is_fate left (Ok answer) gathered long unended judged = record { gathered = gathered; long = long; unended = unended; judged = judged }
+  is_fate left (Err e) gathered long unended judged = tt

@@ -3,6 +3,7 @@ use Rattle.std.specs.Prelude.{◌≡◌, ◌≢◌, ℕ, ◌≤◌, ◌⊎◌, t
 use Rattle.std.specs.Io.KnownBytes.{Appends, Keeps}
 use Rattle.text_words.specs.Answers.{Refuses, AnswersTree}
 use Rattle.text_words.specs.FateAnswers.{AnswersText}
+use Rattle.text_words.specs.Gathered.{IsGathered}
 use Rattle.text_words.specs.declared.check.Answer.{Answer}
 use Rattle.text_words.specs.declared.input.Input.{Input}
 use Rattle.flow_words.specs.declared.status.Status.{Status}
@@ -37,13 +38,15 @@ abbrev pub PrintsAnswer : (Input → Answer → Type 0) → Option (List ℕ) �
 PrintsAnswer Answers old new ended =
     IsUnanswered ended × Keeps old new ⊎ (input : Input) × (answer : Answer) × Answers input answer × Prints answer.text.items (answer_status answer) old new ended
 
--- what `check` answers: its first line that is too long, else the answer to its text
-pub record IsCheckOf (input : Input) (answer : Answer) : Type 0 where
+-- what `check` answers, where all that the source had left is its text: its first line that is too long, else the answer to its text
+pub record IsCheckOf (left : Option (List ℕ)) (input : Input) (answer : Answer) : Type 0 where
+  pub gathered : IsGathered false left input
   pub long : (line : ℕ) → input.too_long ≡ Some line → Refuses answer (codes "LINE") (line ∷ [])
   pub judged : input.too_long ≡ None → AnswersTree answer
 
--- what `fate` answers: its first line that is too long, else that its text has no end, else the answer to its text
-pub record IsFateOf (input : Input) (answer : Answer) : Type 0 where
+-- what `fate` answers, where a line of what the source had left ends its text: its first line that is too long, else that its text has no end, else the answer to its text
+pub record IsFateOf (left : Option (List ℕ)) (input : Input) (answer : Answer) : Type 0 where
+  pub gathered : IsGathered true left input
   pub long : (line : ℕ) → input.too_long ≡ Some line → Refuses answer (codes "LINE") (line ∷ [])
   pub unended : input.too_long ≡ None → input.is_ended ≡ false → Refuses answer (codes "UNENDED") []
   pub judged : input.too_long ≡ None → input.is_ended ≡ true → AnswersText answer input.behind.items

@@ -83,7 +83,7 @@ fn end_with<K: Sink>(out: &mut K, answer: Result<Answer, AllocError>) -> Status
 #[tactic(auto, using(crate::proofs::EndingLemmas::run_stops, crate::proofs::EndingLemmas::run_prints))]
 fn answer_check<S: Source, K: Sink>(alloc: Global, src: &mut S, out: &mut K) -> Status
     ensures cause { RunCause (S.faults src.old) (S.faults src.new) (K.faults out.old) (K.faults out.new) result }
-    ensures prints { PrintsAnswer IsCheckOf (K.held out.old) (K.held out.new) result }
+    ensures prints { PrintsAnswer (IsCheckOf (S.left src.old)) (K.held out.old) (K.held out.new) result }
 {
     match Input::read(alloc, src, false) {
         Err(stop) => line_status(stop),
@@ -95,7 +95,7 @@ fn answer_check<S: Source, K: Sink>(alloc: Global, src: &mut S, out: &mut K) -> 
 #[tactic(auto, using(crate::proofs::EndingLemmas::run_stops, crate::proofs::EndingLemmas::run_prints))]
 fn answer_fate<S: Source, K: Sink>(alloc: Global, src: &mut S, out: &mut K) -> Status
     ensures cause { RunCause (S.faults src.old) (S.faults src.new) (K.faults out.old) (K.faults out.new) result }
-    ensures prints { PrintsAnswer IsFateOf (K.held out.old) (K.held out.new) result }
+    ensures prints { PrintsAnswer (IsFateOf (S.left src.old)) (K.held out.old) (K.held out.new) result }
 {
     match Input::read(alloc, src, true) {
         Err(stop) => line_status(stop),
@@ -130,8 +130,8 @@ fn print_load<K: Sink>(alloc: Global, seed: u64, roots: u64, out: &mut K) -> Sta
 #[tactic(auto, using(crate::proofs::EndingLemmas::run_prints))]
 fn obey<S: Source, K: Sink>(alloc: Global, word: Word, src: &mut S, out: &mut K) -> Status
     ensures cause { RunCause (S.faults src.old) (S.faults src.new) (K.faults out.old) (K.faults out.new) result }
-    ensures check { word ≡ CheckWord → PrintsAnswer IsCheckOf (K.held out.old) (K.held out.new) result }
-    ensures fate { word ≡ FateWord → PrintsAnswer IsFateOf (K.held out.old) (K.held out.new) result }
+    ensures check { word ≡ CheckWord → PrintsAnswer (IsCheckOf (S.left src.old)) (K.held out.old) (K.held out.new) result }
+    ensures fate { word ≡ FateWord → PrintsAnswer (IsFateOf (S.left src.old)) (K.held out.old) (K.held out.new) result }
 {
     match word {
         Word::Check => answer_check(alloc, src, out),
@@ -145,7 +145,8 @@ fn obey<S: Source, K: Sink>(alloc: Global, word: Word, src: &mut S, out: &mut K)
 ///
 /// `ReadFault` comes only where the source's count of faults rose, and `WriteFault` only where the
 /// sink's did; `Store` never. Under `Done` and `Refused` the words `check` and `fate` have printed the
-/// text of their answer and nothing else, under `WriteFault` a front part of it, and else nothing.
+/// text of their answer and nothing else, under `WriteFault` a front part of it, and else nothing. The
+/// answer is that to an input with the lines of all bytes that the source had left.
 #[tactic(auto, using(crate::proofs::EndingLemmas::ends_run, crate::proofs::EndingLemmas::ends_print))]
 pub fn run_pure<S: Source, K: Sink>(
     alloc: Global,
@@ -154,8 +155,8 @@ pub fn run_pure<S: Source, K: Sink>(
     out: &mut K,
 ) -> Status
     ensures cause { EndCause (S.faults src.old) (S.faults src.new) (K.faults out.old) (K.faults out.new) result }
-    ensures check { map string_bytes words.now ≡ codes "check" ∷ [] → PrintsAnswer IsCheckOf (K.held out.old) (K.held out.new) result }
-    ensures fate { map string_bytes words.now ≡ codes "fate" ∷ [] → PrintsAnswer IsFateOf (K.held out.old) (K.held out.new) result }
+    ensures check { map string_bytes words.now ≡ codes "check" ∷ [] → PrintsAnswer (IsCheckOf (S.left src.old)) (K.held out.old) (K.held out.new) result }
+    ensures fate { map string_bytes words.now ≡ codes "fate" ∷ [] → PrintsAnswer (IsFateOf (S.left src.old)) (K.held out.old) (K.held out.new) result }
     ensures unknown { IsUnknown (map string_bytes words.now) → Prints (codes "no USAGE\n") UsageStatus (K.held out.old) (K.held out.new) result }
     ensures usage { result ≡ UsageStatus → Appends (K.held out.old) (K.held out.new) (codes "no USAGE\n") }
 {

@@ -253,8 +253,8 @@ pub fn run<S: Source, K: Sink, D: Disk + Drop>(
     disk: D,
 ) -> (Status, D)
     ensures store { D.tells → Only (D.seen disk) (D.images disk) → MakesKeepsOrServes D.tells D.moment D.left_since D.seen D.images disk result.1 (result.0 ≡ DoneStatus) }
-    ensures check { map string_bytes words.now ≡ codes "check" ∷ [] → PrintsAnswer IsCheckOf (K.held out.old) (K.held out.new) result.0 }
-    ensures fate { map string_bytes words.now ≡ codes "fate" ∷ [] → PrintsAnswer IsFateOf (K.held out.old) (K.held out.new) result.0 }
+    ensures check { map string_bytes words.now ≡ codes "check" ∷ [] → PrintsAnswer (IsCheckOf (S.left src.old)) (K.held out.old) (K.held out.new) result.0 }
+    ensures fate { map string_bytes words.now ≡ codes "fate" ∷ [] → PrintsAnswer (IsFateOf (S.left src.old)) (K.held out.old) (K.held out.new) result.0 }
 {
     let Some(word) = word_of(words) else {
         return (run_pure(alloc, words, src, out), disk);

@@ -1,6 +1,7 @@
 //! The inputs of `check` and `fate`, read to their end.
-ghost use Rattle.std.specs.Prelude.{◌≡◌, MatchResult};
+ghost use Rattle.std.specs.Prelude.{◌≡◌, [], ◌∷◌, ◌++◌, IfOk, OnOk, MatchResult};
 ghost use Rattle.flow_io.specs.Told.{StopCause};
+ghost use Rattle.text_words.specs.Gathered.{kept, nothing, is_end, with_text, with_line, first_long, with_input, found_input, IsGathered};
 
 use flow_io::{IoStop, Line, Lines, Source};
 use std::alloc::{AllocError, Global};
@@ -26,27 +27,31 @@ pub struct Input {
     pub behind: Vec<Numbered>,
     /// The number of the first line that is too long.
     pub too_long: Option<u64>,
-    lines: u64,
 }
 
 /// Whether a line ends a text: `.`, or `.` and a carriage return.
-pub fn ends_text(line: &[u8]) -> bool {
+pub fn ends_text(line: &[u8]) -> bool
+    ensures { result ≡ is_end line.now }
+{
     line == b".".as_slice() || line == b".\r".as_slice()
 }
 
 impl Input {
-    fn new(alloc: Global) -> Input {
+    fn new(alloc: Global) -> Input
+        ensures { kept result ≡ nothing }
+    {
         Input {
             text: Vec::new(alloc),
             is_ended: false,
             behind: Vec::new(alloc),
             too_long: None,
-            lines: 0,
         }
     }
 
     /// Adds a line to the text, as far as it is judged.
-    fn add_text(&mut self, line: &[u8]) -> Result<(), AllocError> {
+    fn add_text(&mut self, line: &[u8]) -> Result<(), AllocError>
+        ensures { OnOk result (kept self.new ≡ record (kept self.old) { text = with_text self.old.text.items line.now }) }
+    {
         if self.text.len() <= MOST_TEXT {
             self.text.extend_from_slice(line)?;
             self.text.push(b'\n')?;
@@ -54,14 +59,29 @@ impl Input {
         Ok(())
     }
 
+    /// Adds a line behind the end.
+    fn add_behind(&mut self, alloc: Global, number: u64, line: &[u8]) -> Result<(), AllocError>
+        ensures { OnOk result (kept self.new ≡ record (kept self.old) { behind = (kept self.old).behind ++ (number, line.now) ∷ [] }) }
+    {
+        self.behind.push(Numbered {
+            number,
+            line: Vec::from_slice(alloc, line)?,
+        })?;
+        Ok(())
+    }
+
     /// Adds a line; with `has_end` the line `.` ends the text.
-    fn add(&mut self, alloc: Global, line: &[u8], has_end: bool) -> Result<(), AllocError> {
+    fn add_line(
+        &mut self,
+        alloc: Global,
+        number: u64,
+        line: &[u8],
+        has_end: bool,
+    ) -> Result<(), AllocError>
+        ensures { OnOk result (kept self.new ≡ with_line has_end number (kept self.old) line.now) }
+    {
         if self.is_ended {
-            self.behind.push(Numbered {
-                number: self.lines,
-                line: Vec::from_slice(alloc, line)?,
-            })?;
-            return Ok(());
+            return self.add_behind(alloc, number, line);
         }
         if has_end && ends_text(line) {
             self.is_ended = true;
@@ -70,28 +90,51 @@ impl Input {
         self.add_text(line)
     }
 
-    fn note_long(&mut self) {
+    fn note_long(&mut self, number: u64)
+        ensures { kept self.new ≡ record (kept self.old) { too_long = first_long self.old.too_long number } }
+    {
         if self.too_long.is_none() {
-            self.too_long = Some(self.lines);
+            self.too_long = Some(number);
+        }
+    }
+
+    /// Adds what was found as the line of this number.
+    fn add(
+        &mut self,
+        alloc: Global,
+        number: u64,
+        found: Line,
+        line: &[u8],
+        has_end: bool,
+    ) -> Result<(), AllocError>
+        ensures { OnOk result (kept self.new ≡ with_input has_end number (kept self.old) (found_input found line.now)) }
+    {
+        match found {
+            Line::Text => self.add_line(alloc, number, line, has_end),
+            Line::TooLong => {
+                self.note_long(number);
+                Ok(())
+            }
+            Line::Ended => Ok(()),
         }
     }
 
     /// Reads a source to its end. It stops as `Lines::next` does.
     pub fn read<S: Source>(alloc: Global, src: &mut S, has_end: bool) -> Result<Input, IoStop>
-        ensures { MatchResult result (λ _. S.faults src.new ≡ S.faults src.old) (StopCause (S.faults src.old) (S.faults src.new)) }
+        ensures cause { MatchResult result (λ _. S.faults src.new ≡ S.faults src.old) (StopCause (S.faults src.old) (S.faults src.new)) }
+        ensures gathered { IfOk result (IsGathered has_end (S.left src.old)) }
     {
         let mut input = Input::new(alloc);
         let mut lines = Lines::new(alloc, MOST_BYTES)?;
-        for _ in 0..u64::MAX {
-            let line = lines.next(src)?;
-            input.lines = input.lines.saturating_add(1);
-            match line {
-                Line::Text => input.add(alloc, lines.text(), has_end)?,
-                Line::TooLong => input.note_long(),
-                Line::Ended => break,
+        let mut number = 0;
+        'turns: loop {
+            let found = lines.next(src)?;
+            if found == Line::Ended {
+                return Ok(input);
             }
+            number += 1;
+            input.add(alloc, number, found, lines.text(), has_end)?;
         }
-        Ok(input)
     }
 }
 

@@ -1,7 +1,8 @@
 //! What do the words `check` and `fate` answer to a text?
 //!
 //! Knows the order of reading and judging, and what is printed; never a store, an engine or who asks. Begin with
-//! [`fated`] and [`checked`], and with `specs/FateAnswers.antt`, which says what `fate` prints.
+//! [`fated`] and [`checked`], and with `specs/FateAnswers.antt`, which says what `fate` prints. What an
+//! input keeps of the bytes of its source is said in `specs/Gathered.antt`.
 #![tactic(auto)]
 
 mod check;

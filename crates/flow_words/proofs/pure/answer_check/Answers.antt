@@ -6,6 +6,7 @@ pub returns-in-Ok-clause-prints : goal.returns-in-Ok-clause-prints
 returns-in-Ok-clause-prints g c =
     let input = c.in-Ok.input in
     let answer = c.checked.result in
-    prints_answer input IsCheckOf answer (g.K.Sink.held c.args.out.now) (g.K.Sink.held c.end_with.new.out) c.end_with.result
-    (is_check input answer c.checked.ensures.long c.checked.ensures.judged)
+    let left = g.S.Source.left c.args.src.now in
+    prints_answer input (IsCheckOf left) answer (g.K.Sink.held c.args.out.now) (g.K.Sink.held c.end_with.new.out) c.end_with.result
+    (is_check input left answer c.in-Ok.ensures.gathered c.checked.ensures.long c.checked.ensures.judged)
     c.end_with.ensures.prints
