@@ -1,1 +1,4 @@
+-- Read first: Putting (queues), then Moved (roots and transactions).
 pub mod Listed
+pub mod Putting
+pub mod Moved

@@ -2,3 +2,4 @@ pub mod Summaries
 pub mod Verdicts
 pub mod Replies
 pub mod Answers
+pub mod Driving

@@ -1,5 +1,6 @@
 //! Records of a store: which are allowed, and the state after them.
 ghost use Rattle.std.specs.Prelude.{◌≡◌, ◌⊎◌, ◌<◌, ◌≤◌, ◌+◌, None, OnOk, IsTrue};
+ghost use Rattle.flow_core.specs.Driving.{Drives, IsFrontOf};
 ghost use Rattle.flow_core.specs.Summaries.{summary, taken_up, counted, Follows, deleted, roots_after};
 ghost use Rattle.flow_core.specs.declared.adopting.AdoptFault.TheVariants.{NoMemory};
 
@@ -242,6 +243,7 @@ impl Core {
     fn count(&mut self, number: u64, t: &Transaction)
         ensures counted { summary self.new ≡ counted self.old.kept number (summary self.old) }
         ensures kept { self.new.kept ≡ self.old.kept }
+        ensures rest { self.new ≡ record self.old { number = self.new.number; roots = self.new.roots; kept_number = self.new.kept_number; kept_root = self.new.kept_root } }
     {
         if number > self.kept {
             self.number = number;
@@ -258,6 +260,7 @@ impl Core {
         ensures follows { OnOk result (Follows self.old.kept (summary self.old) (record { number = number; transaction = t })) }
         ensures taken { OnOk result (summary self.new ≡ taken_up self.old.kept (record { number = number; transaction = t }) (summary self.old)) }
         ensures kept { OnOk result (self.new.kept ≡ self.old.kept) }
+        ensures drives { IsFrontOf self.old t → OnOk result (Drives self.old t self.new) }
     {
         if !self.allows_place(number, &t) || !self.allows(&t)? {
             return Err(AdoptFault::NotAllowed);

@@ -1,10 +1,16 @@
 //! The state after a transaction that is allowed.
-ghost use Rattle.std.specs.Prelude.{◌≡◌, ℕ, ◌<◌, ◌+◌, OnOk, IfOk};
+ghost use Rattle.std.specs.Prelude.{◌≡◌, ℕ, ◌<◌, ◌+◌, [], ◌∷◌, Some, None, option_copied, option_map, OnOk, IfOk, IfSome};
 ghost use Rattle.flow_model.specs.declared.instances.Fate.{Fate as FateOf};
 ghost use Rattle.flow_model.specs.declared.instances.Message.{Message as MessageOf};
 ghost use Rattle.flow_model.specs.declared.instances.Mode.TheVariants as modes;
 ghost use Rattle.flow_core.specs.Verdicts.{IsNoteOf, IsFront};
 ghost use Rattle.flow_core.specs.declared.applying.Note.TheVariants as notes;
+ghost use Rattle.containers.specs.Settings.{filled};
+ghost use Rattle.flow_model.specs.Containers.{fresh as fresh_of};
+ghost use Rattle.flow_model.specs.declared.transactions.Transaction.TheVariants as made;
+ghost use Rattle.flow_core.specs.Driving.{templates, StartsIn, IsSuspended, IsTerminated, IfLive, ChangesRoot, Drives, IsFrontOf, HoldsItem, CompletesItem, item_of, put_in, queue_now};
+ghost use Rattle.recover_queue.specs.Queues.{root_of as root_of_message};
+ghost use Rattle.root_laws.specs.Becoming.{TakesIn, CompletesIn, HoldsIn};
 ghost use Rattle.flow_core.specs.Summaries.{summary, noted, next, with_transaction, with_root_of, without, kept_by, root_about, is_root, deleted, started};
 
 use crate::paths::{queue_of, rank_of, root_of};
@@ -12,8 +18,8 @@ use crate::refusals::copy_hold;
 use crate::state::{Core, Root};
 use containers::{fresh, with_settings};
 use flow_model::{
-    Bytes, Container, DoneBy, Fate, ItemLine, List, Message, Mode, Name, Numbered, Path, Program,
-    Setting, Transaction, Who,
+    Bytes, Container, DoneBy, Fate, ItemLine, Library, List, Message, Mode, Name, Numbered, Path,
+    Program, Setting, Transaction, Who,
 };
 use navigator::{HoldChange, Instance};
 use std::alloc::{AllocError, Global};
@@ -133,10 +139,53 @@ fn copy_program(alloc: Global, program: &Program) -> Result<Program, AllocError>
     })
 }
 
+impl Root {
+    /// The root takes a message: the messages that it gives, and the items that came to be ready.
+    fn take_message(
+        &mut self,
+        alloc: Global,
+        library: &Library,
+        clock: u64,
+        message: &Message,
+    ) -> Result<(List<Message>, Vec<Path>), AllocError>
+        ensures rest { self.new ≡ record self.old { instance = self.new.instance } }
+        ensures taken { IfOk result (λ given. TakesIn library.now.templates message.now given.0 self.old.instance self.new.instance) }
+    {
+        self.instance.take_message(alloc, library, clock, message)
+    }
+
+    /// An item of the root is completed.
+    fn complete_item(
+        &mut self,
+        alloc: Global,
+        library: &Library,
+        clock: u64,
+        item: &Path,
+        output: Container,
+        performer: Option<Name>,
+    ) -> Result<(List<Message>, Vec<Path>), AllocError>
+        ensures rest { self.new ≡ record self.old { instance = self.new.instance } }
+        ensures completed { IfOk result (λ given. CompletesIn library.now.templates item.now output given.0 self.old.instance self.new.instance) }
+    {
+        self.instance
+            .complete_item(alloc, library, clock, item, output, performer)
+    }
+
+    /// The hold of an item of the root changes; answers the take number of an agent.
+    fn change_hold(&mut self, library: &Library, item: &Path, change: HoldChange) -> u64
+        ensures rest { self.new ≡ record self.old { instance = self.new.instance } }
+        ensures held { HoldsIn library.now.templates self.old.instance self.new.instance }
+    {
+        self.instance.change_hold(library, item, change)
+    }
+}
+
 impl Core {
     /// Puts a message into its queue.
     fn put(&mut self, message: Message) -> Result<(), AllocError>
-        ensures { noted self.new ≡ noted self.old }
+        ensures kept { noted self.new ≡ noted self.old }
+        ensures rest { self.new ≡ record self.old { queues = self.new.queues } }
+        ensures queues { OnOk result (self.new.queues ≡ put_in (queue_now self.old) (message ∷ []) self.old.queues) }
     {
         let queue = match self.root_graph(root_of(&message)) {
             None => 1,
@@ -167,7 +216,7 @@ impl Core {
 
     /// Lists an open manual item as it stands now.
     fn list_item(&mut self, item: &Path) -> Result<(), AllocError>
-        ensures { noted self.new ≡ noted self.old }
+        ensures { self.new ≡ record self.old { worklists = self.new.worklists } }
     {
         let is_manual = match self.known(item) {
             None => false,
@@ -188,7 +237,7 @@ impl Core {
 
     /// Takes an item off the worklists.
     fn unlist_item(&mut self, item: &Path) -> Result<(), AllocError>
-        ensures { noted self.new ≡ noted self.old }
+        ensures { self.new ≡ record self.old { worklists = self.new.worklists } }
     {
         if let Some(graph) = self.root_graph(item.root) {
             let rank = rank_of(self.alloc, self.library(), graph, item)?;
@@ -199,6 +248,7 @@ impl Core {
 
     fn import(&mut self, text: &Bytes) -> Result<Note, AllocError>
         ensures kept { noted self.new ≡ noted self.old }
+        ensures rest { self.new ≡ record self.old { store = self.new.store } }
         ensures note { IfOk result (λ n. (count : ℕ) × (n ≡ notes.Imported count)) }
     {
         match self.store.import(self.alloc, text.as_slice()) {
@@ -216,7 +266,9 @@ impl Core {
         version: u32,
         starter: &Name,
         settings: &[Setting],
-    ) -> Result<Option<Instance>, AllocError> {
+    ) -> Result<Option<Instance>, AllocError>
+        ensures { IfOk result (λ made. IfSome made (StartsIn (templates self.now) root starter.now settings.now)) }
+    {
         let place = match self.store.newest(process) {
             None => return Ok(None),
             Some(place) => match self.store.template(place) {
@@ -236,6 +288,28 @@ impl Core {
         Instance::start(self.alloc, self.library(), place, root, starter, input)
     }
 
+    /// Adds a root under its number and its key.
+    fn add_root(
+        &mut self,
+        root: u64,
+        instance: Instance,
+        key: Option<&Name>,
+    ) -> Result<(), AllocError>
+        ensures rest { self.new ≡ record self.old { live_roots = self.new.live_roots; keys = self.new.keys } }
+        ensures roots { OnOk result (ChangesRoot root (λ _ after. after ≡ Some instance) self.old self.new) }
+    {
+        let key = match key {
+            None => None,
+            Some(key) => {
+                let bytes = Vec::from_slice(self.alloc, key.as_slice())?;
+                self.keys.insert(bytes, root)?;
+                Some(key.copy(self.alloc)?)
+            }
+        };
+        self.live_roots.insert(root, Root { instance, key })?;
+        Ok(())
+    }
+
     fn start(
         &mut self,
         root: u64,
@@ -246,21 +320,14 @@ impl Core {
         settings: &[Setting],
     ) -> Result<Note, AllocError>
         ensures kept { noted self.new ≡ noted self.old }
+        ensures drives { OnOk result (Drives self.old (made.Start root process.now version starter.now (option_copied key.entry) settings.now) self.new) }
         ensures note { IfOk result (λ n. n ≡ notes.Rooted root) }
     {
         let made = self.new_instance(root, process, version, starter, settings)?;
         let Some(instance) = made else {
             return Ok(Note::Rooted(root));
         };
-        let key = match key {
-            None => None,
-            Some(key) => {
-                let bytes = Vec::from_slice(self.alloc, key.as_slice())?;
-                self.keys.insert(bytes, root)?;
-                Some(key.copy(self.alloc)?)
-            }
-        };
-        self.live_roots.insert(root, Root { instance, key })?;
+        self.add_root(root, instance, key)?;
         self.put(Message::Begin(Path {
             root,
             parts: List::new(self.alloc),
@@ -268,23 +335,50 @@ impl Core {
         Ok(Note::Rooted(root))
     }
 
-    /// Puts messages, and lists the items that came to be ready.
-    fn follow(&mut self, messages: List<Message>, ready: Vec<Path>) -> Result<(), AllocError>
-        ensures { noted self.new ≡ noted self.old }
+    /// Puts messages in turn.
+    fn put_all(&mut self, messages: List<Message>) -> Result<(), AllocError>
+        ensures kept { noted self.new ≡ noted self.old }
+        ensures rest { self.new ≡ record self.old { queues = self.new.queues } }
+        ensures queues { OnOk result (self.new.queues ≡ put_in (queue_now self.old) messages self.old.queues) }
     {
         for message in messages.into_vec() {
             self.put(message)?;
         }
+        Ok(())
+    }
+
+    /// Puts messages, and lists the items that came to be ready.
+    fn follow(&mut self, messages: List<Message>, ready: Vec<Path>) -> Result<(), AllocError>
+        ensures kept { noted self.new ≡ noted self.old }
+        ensures rest { self.new ≡ record self.old { queues = self.new.queues; worklists = self.new.worklists } }
+        ensures queues { OnOk result (self.new.queues ≡ put_in (queue_now self.old) messages self.old.queues) }
+    {
+        self.put_all(messages)?;
         for item in ready {
             self.list_item(&item)?;
         }
         Ok(())
     }
 
+    /// What a message does to its root, where that is live: the messages that it gives, and the items that
+    /// came to be ready.
+    fn take_in_root(&mut self, message: &Message) -> Result<(List<Message>, Vec<Path>), AllocError>
+        ensures rest { self.new ≡ record self.old { live_roots = self.new.live_roots } }
+        ensures roots { IfOk result (λ given. ChangesRoot (root_of_message message.now) (IfLive (TakesIn (templates self.old) message.now given.0) given.0) self.old self.new) }
+    {
+        match self.live_roots.get_mut(&root_of(message)) {
+            None => Ok((List::new(self.alloc), Vec::new(self.alloc))),
+            Some(root) => {
+                root.take_message(self.alloc, self.store.library(), self.clock, message)
+            }
+        }
+    }
+
     /// Takes the front message of a queue. Of an empty queue, which `judge` refuses, nothing is taken.
     fn turn(&mut self, queue: u8) -> Result<Note, AllocError>
         ensures kept { noted self.new ≡ noted self.old }
         ensures note { IfOk result (λ n. (message : MessageOf) → IsFront self.old queue message → n ≡ notes.Turned queue message) }
+        ensures drives { OnOk result ((message : MessageOf) → IsFront self.old queue message → Drives self.old (made.Turn queue message) self.new) }
     {
         if queue < 1 || queue > self.queues.count() {
             return Ok(Note::Deleted);
@@ -292,26 +386,43 @@ impl Core {
         let Some(message) = self.queues.take(queue) else {
             return Ok(Note::Deleted);
         };
-        let followed = match self.live_roots.get_mut(&root_of(&message)) {
-            None => None,
-            Some(root) => Some(
-                root.instance
-                    .take_message(self.alloc, self.store.library(), self.clock, &message)?,
-            ),
-        };
-        if let Some((messages, ready)) = followed {
-            self.follow(messages, ready)?;
-        }
+        let (messages, ready) = self.take_in_root(&message)?;
+        self.follow(messages, ready)?;
         Ok(Note::Turned(queue, message))
     }
 
     /// The output of a completion.
-    fn output(&self, item: &Path, settings: &[Setting]) -> Result<Option<Container>, AllocError> {
+    fn output(&self, item: &Path, settings: &[Setting]) -> Result<Option<Container>, AllocError>
+        ensures { IfOk result (λ out. out ≡ option_map (λ e. filled settings.now (fresh_of e.activity.output)) (item_of self.now item.now)) }
+    {
         let Some(known) = self.known(item) else {
             return Ok(None);
         };
         let output = fresh(self.alloc, &known.item.activity.output)?;
         Ok(Some(with_settings(self.alloc, output, settings)?))
+    }
+
+    /// What a completion does to its root, where that is live.
+    fn complete_in_root(
+        &mut self,
+        item: &Path,
+        output: Container,
+        performer: Option<Name>,
+    ) -> Result<(List<Message>, Vec<Path>), AllocError>
+        ensures rest { self.new ≡ record self.old { live_roots = self.new.live_roots } }
+        ensures roots { IfOk result (λ given. ChangesRoot item.now.root (IfLive (CompletesIn (templates self.old) item.now output given.0) given.0) self.old self.new) }
+    {
+        match self.live_roots.get_mut(&item.root) {
+            None => Ok((List::new(self.alloc), Vec::new(self.alloc))),
+            Some(root) => root.complete_item(
+                self.alloc,
+                self.store.library(),
+                self.clock,
+                item,
+                output,
+                performer,
+            ),
+        }
     }
 
     fn complete(
@@ -321,28 +432,15 @@ impl Core {
         settings: &[Setting],
     ) -> Result<Note, AllocError>
         ensures kept { noted self.new ≡ noted self.old }
+        ensures completes { OnOk result (CompletesItem self.old item.now settings.now self.new) }
         ensures note { IfOk result (λ n. (fate : FateOf) × (n ≡ notes.Fated fate)) }
     {
         let Some(output) = self.output(item, settings)? else {
             return Ok(Note::Fated(Fate::Waiting));
         };
         self.unlist_item(item)?;
-        let followed = match self.live_roots.get_mut(&item.root) {
-            None => None,
-            Some(root) => Some(
-                root.instance.complete_item(
-                    self.alloc,
-                    self.store.library(),
-                    self.clock,
-                    item,
-                    output,
-                    performer,
-                )?,
-            ),
-        };
-        if let Some((messages, ready)) = followed {
-            self.follow(messages, ready)?;
-        }
+        let (messages, ready) = self.complete_in_root(item, output, performer)?;
+        self.follow(messages, ready)?;
         Ok(Note::Fated(self.fate_of(item)))
     }
 
@@ -354,22 +452,30 @@ impl Core {
         }
     }
 
+    /// What a change of a hold does to its root, where that is live; answers the take number of an agent.
+    fn hold_in_root(&mut self, item: &Path, change: HoldChange) -> u64
+        ensures rest { self.new ≡ record self.old { live_roots = self.new.live_roots } }
+        ensures roots { ChangesRoot item.now.root (IfLive (HoldsIn (templates self.old)) []) self.old self.new }
+    {
+        match self.live_roots.get_mut(&item.root) {
+            None => 0,
+            Some(root) => root.change_hold(self.store.library(), item, change),
+        }
+    }
+
     /// Changes who holds an item; answers the take number of an agent.
     fn change_hold(&mut self, item: &Path, change: HoldChange) -> Result<u64, AllocError>
-        ensures { noted self.new ≡ noted self.old }
+        ensures rest { self.new ≡ record self.old { live_roots = self.new.live_roots; worklists = self.new.worklists } }
+        ensures roots { OnOk result (ChangesRoot item.now.root (IfLive (HoldsIn (templates self.old)) []) self.old self.new) }
     {
-        let take = match self.live_roots.get_mut(&item.root) {
-            None => 0,
-            Some(root) => root
-                .instance
-                .change_hold(self.store.library(), item, change),
-        };
+        let take = self.hold_in_root(item, change);
         self.list_item(item)?;
         Ok(take)
     }
 
     fn hold_by(&mut self, item: &Path, who: &Name) -> Result<Note, AllocError>
         ensures kept { noted self.new ≡ noted self.old }
+        ensures held { OnOk result (HoldsItem self.old item.now self.new) }
         ensures note { IfOk result (λ n. (fate : FateOf) × (n ≡ notes.Fated fate)) }
     {
         let who = who.copy(self.alloc)?;
@@ -377,61 +483,100 @@ impl Core {
         Ok(Note::Fated(self.fate_of(item)))
     }
 
+    fn hold_by_agent(&mut self, item: &Path) -> Result<Note, AllocError>
+        ensures kept { noted self.new ≡ noted self.old }
+        ensures held { OnOk result (HoldsItem self.old item.now self.new) }
+        ensures note { IfOk result (λ n. (take : ℕ) × (n ≡ notes.Taken take)) }
+    {
+        Ok(Note::Taken(self.change_hold(item, HoldChange::Agent)?))
+    }
+
     fn give_back(&mut self, item: &Path) -> Result<Note, AllocError>
         ensures kept { noted self.new ≡ noted self.old }
+        ensures held { OnOk result (HoldsItem self.old item.now self.new) }
         ensures note { IfOk result (λ n. (fate : FateOf) × (n ≡ notes.Fated fate)) }
     {
         self.change_hold(item, HoldChange::Nobody)?;
         Ok(Note::Fated(self.fate_of(item)))
     }
 
-    fn terminate(&mut self, root: u64) -> Result<Note, AllocError>
-        ensures kept { noted self.new ≡ noted self.old }
-        ensures note { IfOk result (λ n. n ≡ notes.Moded modes.Terminated) }
+    /// Sets whether a root is suspended, where it is live.
+    fn set_suspended(&mut self, root: u64, suspended: bool)
+        ensures rest { self.new ≡ record self.old { live_roots = self.new.live_roots } }
+        ensures roots { ChangesRoot root (IfLive (IsSuspended suspended) []) self.old self.new }
+    {
+        if let Some(found) = self.live_roots.get_mut(&root) {
+            if suspended {
+                found.instance.suspend();
+            } else {
+                found.instance.resume();
+            }
+        }
+    }
+
+    /// Ends a root, where it is live.
+    fn terminate_root(&mut self, root: u64)
+        ensures rest { self.new ≡ record self.old { live_roots = self.new.live_roots } }
+        ensures roots { ChangesRoot root (IfLive IsTerminated []) self.old self.new }
     {
         if let Some(found) = self.live_roots.get_mut(&root) {
             found.instance.terminate();
         }
+    }
+
+    fn terminate(&mut self, root: u64) -> Result<Note, AllocError>
+        ensures kept { noted self.new ≡ noted self.old }
+        ensures drives { OnOk result (Drives self.old (made.Terminate root) self.new) }
+        ensures note { IfOk result (λ n. n ≡ notes.Moded modes.Terminated) }
+    {
+        self.terminate_root(root);
         self.worklists.drop_root(root)?;
         Ok(Note::Moded(Mode::Terminated))
     }
 
     fn suspend(&mut self, root: u64) -> Note
         ensures kept { noted self.new ≡ noted self.old }
+        ensures drives { Drives self.old (made.Suspend root) self.new }
         ensures note { result ≡ notes.Moded modes.Suspended }
     {
-        if let Some(found) = self.live_roots.get_mut(&root) {
-            found.instance.suspend();
-        }
+        self.set_suspended(root, true);
         Note::Moded(Mode::Suspended)
     }
 
     fn resume_root(&mut self, root: u64) -> Note
         ensures kept { noted self.new ≡ noted self.old }
+        ensures drives { Drives self.old (made.Resume root) self.new }
         ensures note { result ≡ notes.Moded modes.Active }
     {
-        if let Some(found) = self.live_roots.get_mut(&root) {
-            found.instance.resume();
-        }
+        self.set_suspended(root, false);
         Note::Moded(Mode::Active)
     }
 
-    /// Removes a root.
-    fn delete(&mut self, root: u64) -> Note
-        ensures kept { noted self.new ≡ noted self.old }
-        ensures note { result ≡ notes.Deleted }
+    /// Takes a root and its key away.
+    fn remove_root(&mut self, root: u64)
+        ensures rest { self.new ≡ record self.old { live_roots = self.new.live_roots; keys = self.new.keys } }
+        ensures roots { ChangesRoot root (λ _ after. after ≡ None) self.old self.new }
     {
         if let Some(found) = self.live_roots.remove(&root) {
             if let Some(key) = &found.key {
                 let _ = self.keys.swap_remove(key.as_slice());
             }
         }
+    }
+
+    fn delete(&mut self, root: u64) -> Note
+        ensures kept { noted self.new ≡ noted self.old }
+        ensures drives { Drives self.old (made.Delete root) self.new }
+        ensures note { result ≡ notes.Deleted }
+    {
+        self.remove_root(root);
         Note::Deleted
     }
 
     /// Completes an item, by a person or by an agent.
     fn done(&mut self, item: &Path, who: &Who, settings: &[Setting]) -> Result<Note, AllocError>
         ensures kept { noted self.new ≡ noted self.old }
+        ensures completes { OnOk result (CompletesItem self.old item.now settings.now self.new) }
         ensures note { IfOk result (λ n. (fate : FateOf) × (n ≡ notes.Fated fate)) }
     {
         let performer = match who {
@@ -443,6 +588,7 @@ impl Core {
 
     fn set_clock(&mut self, minutes: u64) -> Note
         ensures kept { noted self.new ≡ noted self.old }
+        ensures drives { Drives self.old (made.Clock minutes) self.new }
         ensures note { result ≡ notes.Clocked minutes }
     {
         self.clock = minutes;
@@ -452,6 +598,7 @@ impl Core {
     fn change_by(&mut self, t: &Transaction) -> Result<Note, AllocError>
         ensures kept { noted self.new ≡ noted self.old }
         ensures note { IfOk result (IsNoteOf self.old t.now) }
+        ensures drives { IsFrontOf self.old t.now → OnOk result (Drives self.old t.now self.new) }
     {
         match t {
             Transaction::Import(text) => self.import(text),
@@ -467,9 +614,7 @@ impl Core {
             Transaction::Claim(item, who) => self.hold_by(item, who),
             Transaction::Release(item, _) => self.give_back(item),
             Transaction::Transfer(item, _, to) => self.hold_by(item, to),
-            Transaction::Take(item, _) => {
-                Ok(Note::Taken(self.change_hold(item, HoldChange::Agent)?))
-            }
+            Transaction::Take(item, _) => self.hold_by_agent(item),
             Transaction::Done(item, who, settings) => self.done(item, who, settings.as_slice()),
             Transaction::Force(item, settings) => self.complete(item, None, settings.as_slice()),
             Transaction::Restart(item) => self.give_back(item),
@@ -484,7 +629,7 @@ impl Core {
     /// Counts the root of a Start.
     fn count_root(&mut self, t: &Transaction)
         ensures counted { noted self.new ≡ (self.old.kept, with_root_of t.now (summary self.old)) }
-        ensures queues { self.new.queues ≡ self.old.queues }
+        ensures rest { self.new ≡ record self.old { roots = self.new.roots } }
     {
         if let Some(root) = started_root(t) {
             self.roots = self.roots.max(root);
@@ -493,14 +638,16 @@ impl Core {
 
     /// Takes the transactions about a root away.
     fn forget(&mut self, root: u64)
-        ensures { noted self.new ≡ (self.old.kept, without root (summary self.old)) }
+        ensures forgets { noted self.new ≡ (self.old.kept, without root (summary self.old)) }
+        ensures rest { self.new ≡ record self.old { live = self.new.live } }
     {
         self.live.retain(|numbered| !is_about(root, numbered));
     }
 
     /// Keeps a transaction where it is live; a Delete takes those of its root away.
     fn keep(&mut self, number: u64, t: Transaction) -> Result<(), AllocError>
-        ensures { OnOk result (noted self.new ≡ (self.old.kept, kept_by number t (summary self.old))) }
+        ensures keeps { OnOk result (noted self.new ≡ (self.old.kept, kept_by number t (summary self.old))) }
+        ensures rest { self.new ≡ record self.old { live = self.new.live } }
     {
         match deleted_root(&t) {
             Some(root) => self.forget(root),
@@ -517,6 +664,7 @@ impl Core {
         ensures numbered { IfOk result (λ applied. applied.number ≡ number) }
         ensures note { IfOk result (λ applied. IsNoteOf self.old t applied.note) }
         ensures applied { OnOk result (noted self.new ≡ (self.old.kept, with_transaction self.old.number number t (summary self.old))) }
+        ensures drives { IsFrontOf self.old t → OnOk result (Drives self.old t self.new) }
     {
         self.count_root(&t);
         let note = self.change_by(&t)?;
@@ -530,6 +678,7 @@ impl Core {
         ensures next { OnOk result (summary self.new ≡ next t (summary self.old)) }
         ensures number { IfOk result (λ applied. applied.number ≡ self.old.number + 1) }
         ensures note { IfOk result (λ applied. IsNoteOf self.old t applied.note) }
+        ensures drives { IsFrontOf self.old t → OnOk result (Drives self.old t self.new) }
     {
         self.number += 1;
         self.apply_as(self.number, t)

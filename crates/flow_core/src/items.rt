@@ -1,4 +1,8 @@
 //! The tests of commands on items, on paths that are read.
+ghost use Rattle.std.specs.Prelude.{◌≡◌, option_copied, option_map};
+ghost use Rattle.navigator.specs.Items.{entry_of};
+ghost use Rattle.flow_core.specs.Driving.{item_of, program_in};
+
 use crate::refusals::{Refusal, Stop, copy_hold};
 use crate::state::Core;
 use flow_model::{
@@ -58,14 +62,25 @@ impl<'a> Known<'a> {
     }
 }
 
+/// The program that an activity runs; none of a block or a subprocess.
+fn program_of(work: &Work) -> Option<&Program>
+    ensures { option_copied result ≡ program_in work.now }
+{
+    match work {
+        Work::Program(program) => Some(program),
+        Work::Block(_) => None,
+        Work::Process(_) => None,
+    }
+}
+
 impl Core {
     /// The item of a path; None exactly where there is none.
-    pub(crate) fn known(&self, path: &Path) -> Option<Known<'_>> {
+    pub(crate) fn known(&self, path: &Path) -> Option<Known<'_>>
+        ensures { option_map (λ k. entry_of k.item.place.graph.now k.item.place.scope.now k.item.number k.item.activity.now k.item.state.now k.item.attempt) result ≡ item_of self.now path.now }
+    {
         let instance = self.instance(path.root)?;
         let item = instance.item(self.library(), path)?;
-        let Work::Program(program) = &item.activity.work else {
-            return None;
-        };
+        let program = program_of(&item.activity.work)?;
         Some(Known {
             item,
             program,

@@ -1,38 +1,52 @@
 //! Paths: the queue of a message, the rank of an item, and equal messages.
-ghost use Rattle.std.specs.Prelude.{◌≡◌, IfOk};
+ghost use Rattle.std.specs.Prelude.{◌≡◌, ◌-◌, ◌^◌, min, Some, option_copied, IfOk};
+ghost use Rattle.flow_core.specs.Driving.{activity_named as named_activity, is_process as processes_of, processes_along, receiver as receiver_of, queue_in};
 ghost use Rattle.recover_queue.specs.Queues.{root_of as root_in};
 
 use blocks_subprocs::graph_of;
-use flow_model::{Graph, Library, Message, Part, Path, Work};
+use flow_model::{Activity, Graph, Library, Message, Name, Part, Path, Work};
 use navigator::place_of;
 use staff_worklists::Rank;
 use std::alloc::{AllocError, Global};
 
-/// The number of process activities on the way along these parts.
-fn process_count(library: &Library, graph: &Graph, parts: &[Part]) -> u64 {
-    let mut graph = graph;
-    let mut count = 0u64;
-    for part in parts {
-        let Some(place) = place_of(graph, &part.name) else {
-            return count;
-        };
-        let Some(activity) = graph.activities.as_slice().get(place) else {
-            return count;
-        };
-        if let Work::Process(_) = &activity.work {
-            count = count.saturating_add(1);
-        }
-        match graph_of(library, &activity.work) {
-            None => return count,
-            Some(inner) => graph = inner,
-        }
+/// 1 of a process activity, else 0.
+fn is_process(work: &Work) -> u64
+    ensures { result ≡ processes_of work.now }
+{
+    match work {
+        Work::Program(_) => 0,
+        Work::Block(_) => 0,
+        Work::Process(_) => 1,
     }
-    count
+}
+
+/// The activity of a name.
+fn activity_named<'a>(graph: &'a Graph, name: &Name) -> Option<&'a Activity>
+    ensures { option_copied result ≡ named_activity graph.now name.now }
+{
+    graph.activities.as_slice().get(place_of(graph, name)?)
+}
+
+/// The number of process activities on the way along these parts.
+fn process_count(library: &Library, graph: &Graph, parts: &[Part]) -> u64
+    ensures { result ≡ min (processes_along library.now.templates parts.now graph.now) (2 ^ 64 - 1) }
+{
+    let [part, rest @ ..] = parts else {
+        return 0;
+    };
+    let Some(activity) = activity_named(graph, &part.name) else {
+        return 0;
+    };
+    let Some(inner) = graph_of(library, &activity.work) else {
+        return is_process(&activity.work);
+    };
+    is_process(&activity.work).saturating_add(process_count(library, inner, rest))
 }
 
 /// The root and the parts of the scope that receives a message.
 fn receiver(message: &Message) -> (u64, &[Part])
-    ensures { result.0 ≡ root_in message.now }
+    ensures root { result.0 ≡ root_in message.now }
+    ensures parts { result.1.now ≡ receiver_of message.now }
 {
     match message {
         Message::Begin(path) => (path.root, path.parts.as_slice()),
@@ -46,7 +60,9 @@ fn receiver(message: &Message) -> (u64, &[Part])
 
 /// The queue of a message: 1 and the remainder of the root's number and the process activities on the
 /// way to the scope that receives it, by the number of queues.
-pub fn queue_of(library: &Library, graph: &Graph, queues: u8, message: &Message) -> u8 {
+pub fn queue_of(library: &Library, graph: &Graph, queues: u8, message: &Message) -> u8
+    ensures { result ≡ queue_in library.now.templates queues (Some graph.now) message.now }
+{
     let (root, parts) = receiver(message);
     let count = u128::from(root) + u128::from(process_count(library, graph, parts));
     let queues = u128::from(queues.max(1));

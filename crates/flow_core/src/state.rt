@@ -2,6 +2,7 @@
 ghost use Rattle.std.specs.Prelude.{◌≡◌, ◌+◌, ◌<◌, ◌↔◌, ◌≤◌, length, [], IfOk, IsTrue, option_copied};
 ghost use Rattle.flow_core.specs.Summaries.{summary};
 ghost use Rattle.flow_core.specs.Answers.{instance_of};
+ghost use Rattle.flow_core.specs.Driving.{graph_now};
 
 use flow_model::{Graph, Library, Mode, Name, Numbered};
 use indexmap::IndexMap;
@@ -153,7 +154,9 @@ impl Core {
     }
 
     /// The graph of a live root.
-    pub(crate) fn root_graph(&self, root: u64) -> Option<&Graph> {
+    pub(crate) fn root_graph(&self, root: u64) -> Option<&Graph>
+        ensures { option_copied result ≡ graph_now self.now root }
+    {
         self.instance(root)?.graph(self.library())
     }
 

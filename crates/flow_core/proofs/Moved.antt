@@ -1,0 +1,100 @@
+-- What each transaction drives, from what its steps do.
+use Rattle.std.proofs.Common.{◌≡◌, ℕ, List, [], ◌∷◌, length, Option, Some, None, refl, sym, ap, subst, ◌∙◌, inr, option_map, Result, Ok, Err, IfOk, IfSome}
+use Rattle.std.specs.Ordering.{nat_cmp}
+use Rattle.std.specs.BTreeMap as tree
+use Rattle.flow_model.specs.Containers.{fresh}
+use Rattle.flow_model.specs.ScopeContainers.{graph_of}
+use Rattle.flow_model.specs.declared.graphs.Container.{Container}
+use Rattle.flow_model.specs.declared.graphs.Graph.{Graph, out-Graph}
+use Rattle.flow_model.specs.declared.graphs.Template.{Template}
+use Rattle.flow_model.specs.declared.instances.Message.{Message}
+use Rattle.flow_model.specs.declared.instances.Message.TheVariants.{Begin}
+use Rattle.flow_model.specs.declared.names.Name.{Name}
+use Rattle.flow_model.specs.declared.transactions.Setting.{Setting}
+use Rattle.flow_model.specs.declared.transactions.Transaction.{Transaction}
+use Rattle.flow_model.specs.declared.transactions.Transaction.TheVariants.{Start}
+use Rattle.containers.specs.Settings.{filled}
+use Rattle.navigator.specs.Instances.{IsStarted, Starts}
+use Rattle.navigator.specs.declared.instance.Instance.{Instance}
+use Rattle.flow_core.specs.Answers.{instance_of}
+use Rattle.flow_core.specs.Driving.{templates, StartsIn, BecomesStarted, ChangesRoot, ChangesRoots, Drives, IsFrontOf, put_in, queue_now}
+use Rattle.flow_core.specs.Summaries.{root_about}
+use Rattle.flow_core.specs.declared.state.Core.{Core}
+use Rattle.flow_core.proofs.Putting.{put_length, same_queue}
+
+-- ---- roots
+
+-- a state with the same roots has the same instances
+pub same_roots : (b c : Core) → c.live_roots ≡ b.live_roots → (root : ℕ) → instance_of c root ≡ instance_of b root
+same_roots b c same root = ap (λ roots. option_map (λ r. r.instance) (tree.get_by (nat_cmp root) roots)) same
+
+-- a change of a root goes from any state with the roots of the one before to any with the roots of the one after
+pub changes_between : (root : ℕ) (becomes : Option Instance → Option Instance → Type 0) (a b c d : Core) → b.live_roots ≡ a.live_roots → ChangesRoot root becomes b c
+    → d.live_roots ≡ c.live_roots → ChangesRoot root becomes a d
+changes_between root becomes a b c d before changes after = record {
+  here = subst (λ (o : Option Instance). becomes o (instance_of d root)) (same_roots a b before root)
+      (subst (λ (o : Option Instance). becomes (instance_of b root) o) (sym (same_roots c d after root)) changes.here);
+  others = λ other no_. same_roots c d after other ∙ changes.others other no_ ∙ same_roots a b before other;
+}
+
+-- what becomes of a root may be told by more that is so
+pub changes_as : (root : ℕ) (becomes becomes' : Option Instance → Option Instance → Type 0) (a b : Core)
+    → ((before after : Option Instance) → becomes before after → becomes' before after) → ChangesRoot root becomes a b → ChangesRoot root becomes' a b
+changes_as root becomes becomes' a b more changes = record { here = more _ _ changes.here; others = changes.others }
+
+-- ---- what follows is put
+
+-- what is put behind the changes of the roots
+pub put_then : (c2 c3 : Core) (given : List Message) (qs : List (List Message)) → c3.live_roots ≡ c2.live_roots → c3.store ≡ c2.store
+    → c3.queues ≡ put_in (queue_now c2) given c2.queues → c2.queues ≡ qs → c3.queues ≡ put_in (queue_now c3) given qs
+put_then c2 c3 given qs roots store queues before =
+    let many : length c3.queues ≡ length c2.queues = ap length queues ∙ put_length (queue_now c2) given c2.queues in
+    let same : queue_now c3 ≡ queue_now c2 = same_queue c3 c2 roots store many in
+    queues ∙ ap (λ (f : Message → ℕ). put_in f given c2.queues) (sym same) ∙ ap (put_in (queue_now c3) given) before
+
+-- ---- transactions
+
+pub starts : (c c1 c2 : Core) (root : ℕ) (process : Name) (version : ℕ) (starter : Name) (key : Option Name) (settings : List Setting) (i : Instance)
+    → StartsIn (templates c) root starter settings i → c1 ≡ record c { live_roots = c1.live_roots; keys = c1.keys } → ChangesRoot root (λ before after. after ≡ Some i) c c1
+    → c2 ≡ record c1 { queues = c2.queues } → c2.queues ≡ put_in (queue_now c1) (Begin (record { root = root; parts = [] }) ∷ []) c1.queues
+    → Drives c (Start root process version starter key settings) c2
+starts c c1 c2 root process version starter key settings i started rest changes put queues = record {
+  given = Begin (record { root = root; parts = [] }) ∷ [];
+  roots = changes_between root _ c c c1 c2 refl
+      (changes_as root _ (BecomesStarted (templates c) root starter settings (Begin (record { root = root; parts = [] }) ∷ [])) c c1
+      (λ before after e. subst (λ (o : Option Instance). BecomesStarted (templates c) root starter settings (Begin (record { root = root; parts = [] }) ∷ []) before o) (sym e) (inr (started, refl)))
+      changes)
+      (ap (λ (k : Core). k.live_roots) put);
+  queues = put_then c1 c2 (Begin (record { root = root; parts = [] }) ∷ []) c.queues (ap (λ (k : Core). k.live_roots) put) (ap (λ (k : Core). k.store) put) queues
+      (ap (λ (k : Core). k.queues) rest);
+}
+
+pub starts_in : {E : Type 0} (r : Result (Option Instance) E) (ts ts' : List Template) (template : ℕ) (g : Graph) (input : Container) (root : ℕ) (starter starter' : Name) (settings : List Setting)
+    → ts' ≡ ts → starter' ≡ starter → graph_of ts template ≡ Some g → input ≡ filled settings (fresh (out-Graph g).input) → IfOk r (λ i. Starts ts' template root starter' input i)
+    → IfOk r (λ made. IfSome made (StartsIn ts root starter settings))
+starts_in (Err e) ts ts' template g input root starter starter' settings same named there is made = tt
+starts_in (Ok None) ts ts' template g input root starter starter' settings same named there is made = tt
+starts_in (Ok (Some i)) ts ts' template g input root starter starter' settings same named there is made = record {
+  template = template;
+  graph = g;
+  input = input;
+  there = there;
+  filled = is;
+  started = subst (λ (name : Name). IsStarted ts template root name input i) named (subst (λ (us : List Template). IsStarted us template root starter' input i) same made);
+}
+
+-- ---- around a transaction
+
+roots_earlier : (a n c : Core) (t : Transaction) (given : List Message) (o : Option ℕ)
+    → ChangesRoots (record a { number = n.number; roots = n.roots; kept_number = n.kept_number; kept_root = n.kept_root }) t given o c → ChangesRoots a t given o c
+roots_earlier a n c t given None h = h
+roots_earlier a n c t given (Some root) h = record { here = h.here; others = h.others }
+
+-- numbers don't matter
+pub drives_earlier : (a n c : Core) (t : Transaction) → Drives (record a { number = n.number; roots = n.roots; kept_number = n.kept_number; kept_root = n.kept_root }) t c → Drives a t c
+drives_earlier a n c t h = record { given = h.given; roots = roots_earlier a n c t h.given (root_about t) h.roots; queues = h.queues }
+
+-- the front of a queue doesn't go by numbers
+pub front_within : (a b : Core) (t : Transaction) → b ≡ record a { number = b.number; roots = b.roots; kept_number = b.kept_number; kept_root = b.kept_root } → IsFrontOf a t → IsFrontOf b t
+front_within a b t counted h =
+    subst (λ (k : Core). IsFrontOf k t) (sym counted) h
