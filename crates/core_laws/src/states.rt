@@ -1,0 +1,26 @@
+ghost use Rattle.core_laws.specs.Laws.{
+  BeginsRight,
+  StaysRight,
+  RightStatesAreSound,
+  QuietStatesAreWhole,
+};
+
+/// A state with no live root is right.
+pub fn begins_right()
+    ensures { BeginsRight }
+{}
+
+/// A state stays right with each transaction.
+pub fn stays_right()
+    ensures { StaysRight }
+{}
+
+/// What a right state says of its live roots is so by their completions alone.
+pub fn right_states_are_sound()
+    ensures { RightStatesAreSound }
+{}
+
+/// With no message queued it says all that the completions tell.
+pub fn quiet_states_are_whole()
+    ensures { QuietStatesAreWhole }
+{}
