@@ -1,5 +1,5 @@
 -- A state stays right with each transaction.
-use Rattle.std.proofs.Common.{◌≡◌, ℕ, ◌-◌, ◌<◌, ◌≤◌, ◌==◌, Bool, true, false, if◌then◌else◌, List, [], ◌∷◌, ◌++◌, drop, length, Option, Some, None, refl, ap, sym, subst, ◌∙◌, inl, inr, append-nil}
+use Rattle.std.proofs.Common.{◌≡◌, ℕ, zero, suc, ◌-◌, ◌<◌, ◌≤◌, ◌==◌, Bool, true, false, if◌then◌else◌, List, [], ◌∷◌, ◌++◌, drop, length, Option, Some, None, refl, ap, sym, subst, ◌∙◌, inl, inr, arith, append-nil}
 use Rattle.std.proofs.Math.Path.{fun_ext}
 use Rattle.std.proofs.lemmas.Bool.Decides.{eqb_tells}
 use Rattle.std.proofs.lemmas.List.{length-set}
@@ -40,7 +40,7 @@ use Rattle.view_laws.specs.Messages.{Note, BeginNote}
 use Rattle.view_laws.specs.Runs.{Event, Started, Turned, Completed, Held, Stopped, seen}
 use Rattle.core_laws.proofs.Places.{place_same, queue_is, queue_low, queue_high}
 use Rattle.core_laws.proofs.Standing.{messages_put, all_kept, none_kept, front_of_root, taken_here, taken_there}
-use Rattle.core_laws.specs.RightStates.{messages_in, place_queue, note_queue, IsRightRoot, AreRight, with_turn, with_output, note_now, runs_after, IsOpen, IsNew, AreOf, MayBe}
+use Rattle.core_laws.specs.RightStates.{messages_in, place_queue, note_queue, IsRightRoot, AreRight, with_turn, with_output, note_now, runs_after, runs_at, IsOpen, IsNew, AreOf, MayBe}
 
 pub begins : (c : Core) → ((root : ℕ) → instance_of c root ≡ None) → AreRight c (λ root. [])
 begins c none root i live = absurd (none-some i (sym (none root) ∙ live))
@@ -57,6 +57,14 @@ if_live : (becomes : Instance → Instance → Type 0) (given : List Message) (b
 if_live becomes given None after is i' live = absurd (none-some i' (sym is.0 ∙ live))
 if_live becomes given (Some i) None is i' live = absurd is
 if_live becomes given (Some i) (Some j) is i' live = let same : j ≡ i' = cc in (i, refl, subst (λ (u : Instance). becomes i u) same is)
+
+-- messages that are none are of any root, and the BEGIN of a root is of it
+none_of : (root : ℕ) (given : List Message) → given ≡ [] → AreOf root given
+none_of root given none = subst (λ ms. AreOf root ms) (sym none) (λ k m there. absurd (none-some m there))
+
+begin_of : (root : ℕ) → AreOf root (Begin (record { root = root; parts = [] }) ∷ [])
+begin_of root zero m there = let same : Begin (record { root = root; parts = [] }) ≡ m = cc in sym (ap root_of same)
+begin_of root (suc k) m there = absurd (none-some m there)
 
 -- ---- from a state to one whose queues have what is given behind what was left
 
@@ -196,28 +204,38 @@ module _ (c c' : Core) (number : ℕ) (message : Message) (given : List Message)
   many_left : length left ≡ length c.queues
   many_left = length-set c.queues (number - 1) (drop 1 (queue c.queues number))
 
+  -- the run goes on with the note of the message
+  turn_noted : (h : List Event) (i i' : Instance) (live : instance_of c (root_of message) ≡ Some i) → instance_of c' (root_of message) ≡ Some i'
+      → (was : IsRightRoot c (root_of message) h i) → TakesIn (templates c) message given i i' → (note : Note) → note_in (templates c) was.right.graph message ≡ Some note
+      → IsRight (templates c) (note_queue c (root_of message)) (Turned note ∷ h)
+      (after_put (queue_now c') given (after_taken number (messages_in c.queues (root_of message)))) i'
+      → IsRightRoot c' (root_of message) (with_turn (note_now c message) h) i'
+  turn_noted h i i' live live' was takes note named right =
+      let root = root_of message in
+      let template : i'.template ≡ i.template = ap (λ (u : Instance). u.template) takes.kept in
+      let noted : note_now c message ≡ Some note
+      = ap (option_and_then (λ g. note_in (templates c) g message)) (now c c' given left queues many_left some_ library root i live was.right.graph was.right.process) ∙ named in
+      subst (λ (o : Option Note). IsRightRoot c' root (with_turn o h) i') (sym noted)
+      (goes_on c c' given left queues many_left some_ library root i' live' (note_queue c root) (Turned note ∷ h)
+      (after_put (queue_now c') given (after_taken number (messages_in c.queues root)))
+      (ap (λ (u : Instance). u.root) takes.kept ∙ was.number)
+      (λ g there n. now_is c c' given left queues many_left some_ library root i live g (ap (graph_of (templates c)) (sym template) ∙ there) n)
+      (λ n. stand_given c c' given left queues many_left some_ library root of n
+      ∙ ap (λ l. l ++ filter (λ m. queue_now c' m == n) given) (taken_here root c.queues number message low front refl n))
+      right)
+
   turned_right : (h : List Event) → ((i : Instance) → instance_of c (root_of message) ≡ Some i → IsRightRoot c (root_of message) h i)
       → IfLive (TakesIn (templates c) message given) given (instance_of c (root_of message)) (instance_of c' (root_of message))
       → (i' : Instance) → instance_of c' (root_of message) ≡ Some i' → IsRightRoot c' (root_of message) (with_turn (note_now c message) h) i'
   turned_right h was becomes i' live' =
       let root = root_of message in
       let found = if_live (TakesIn (templates c) message given) given (instance_of c root) (instance_of c' root) becomes i' live' in
-      let i = found.0 in
-      let right = (was i found.1).right in
-      let template : i'.template ≡ i.template = ap (λ (u : Instance). u.template) found.2.kept in
-      let turns = turns_right (templates c) (note_queue c root) h (messages_in c.queues root) i i' right (queue_now c') number message given
+      let right = (was found.0 found.1).right in
+      let turns = turns_right (templates c) (note_queue c root) h (messages_in c.queues root) found.0 i' right (queue_now c') number message given
       (front_of_root root c.queues number message low front refl) found.2
-      (agrees c c' given left queues many_left some_ library root i i' found.1 live' template right.depth right.graph right.process right.served.served of) in
-      let named : note_now c message ≡ Some turns.0
-      = ap (option_and_then (λ g. note_in (templates c) g message)) (now c c' given left queues many_left some_ library root i found.1 right.graph right.process) ∙ turns.1 in
-      subst (λ (o : Option Note). IsRightRoot c' root (with_turn o h) i') (sym named)
-      (goes_on c c' given left queues many_left some_ library root i' live' (note_queue c root) (Turned turns.0 ∷ h)
-      (after_put (queue_now c') given (after_taken number (messages_in c.queues root)))
-      (ap (λ (u : Instance). u.root) found.2.kept ∙ (was i found.1).number)
-      (λ g there note. now_is c c' given left queues many_left some_ library root i found.1 g (ap (graph_of (templates c)) (sym template) ∙ there) note)
-      (λ n. stand_given c c' given left queues many_left some_ library root of n
-      ∙ ap (λ l. l ++ filter (λ m. queue_now c' m == n) given) (taken_here root c.queues number message low front refl n))
-      turns.2)
+      (agrees c c' given left queues many_left some_ library root found.0 i' found.1 live' (ap (λ (u : Instance). u.template) found.2.kept)
+      right.depth right.graph right.process right.served.served of) in
+      turn_noted h found.0 i' found.1 live' (was found.0 found.1) found.2 turns.0 turns.1 turns.2
 
 -- ---- a completion
 
@@ -231,33 +249,45 @@ program_is (Some x) e is = entry_is x e (program_in x.activity.work) is
 
 module _ (c c' : Core) (item : Path) (settings : List Setting) (given : List Message) (queues : c'.queues ≡ put_in (queue_now c') given c.queues) (some_ : 1 ≤ length c.queues)
     (library : Agrees (templates c) (templates c')) (of : AreOf item.root given) (open_ : IsOpen c item) where
+  -- the item that is there is awaited
+  awaited : (h : List Event) (i : Instance) → instance_of c item.root ≡ Some i → (right : IsRight (templates c) (note_queue c item.root) h (messages_in c.queues item.root) i)
+      → (e : Entry) → item_of c item ≡ Some e → Awaits (templates c) right.depth (seen h) right.graph right.input item.parts
+  awaited h i live right e is =
+      let opened = open_ i e live is in
+      let there : option_and_then (entry_in (templates c) item) (instance_of c item.root) ≡ Some e
+      = program_is (option_and_then (entry_in (templates c) item) (instance_of c item.root)) e is in
+      let entered : entry_at (templates c) item.parts (stand right.graph i.scope) ≡ Some e
+      = sym (ap (option_and_then (λ g. entry_at (templates c) item.parts (stand g i.scope))) right.process)
+      ∙ sym (ap (option_and_then (entry_in (templates c) item)) live) ∙ there in
+      open_awaited (templates c) item.parts right.depth (seen h) right.input (stand right.graph i.scope) e
+      (subst (λ (a : List Event). Shows (templates c) right.depth (seen a) right.graph right.input i.scope) (running_is h (right.stopped ∙ opened.0)) right.shows)
+      opened.1 entered
+
+  completes : (h : List Event) (i i' : Instance) → instance_of c item.root ≡ Some i → instance_of c' item.root ≡ Some i' → IsRightRoot c item.root h i
+      → (e : Entry) → item_of c item ≡ Some e → CompletesIn (templates c) item (filled settings (fresh e.activity.output)) given i i'
+      → IsRightRoot c' item.root (with_output item settings (Some e) h) i'
+  completes h i i' live live' was e is completed =
+      let root = item.root in
+      let out = filled settings (fresh e.activity.output) in
+      let right = was.right in
+      let template : i'.template ≡ i.template = ap (λ (u : Instance). u.template) completed.kept in
+      goes_on c c' given c.queues queues refl some_ library root i' live' (note_queue c root) (Completed (record { item = item; output = out }) ∷ h)
+      (after_put (queue_now c') given (messages_in c.queues root))
+      (ap (λ (u : Instance). u.root) completed.kept ∙ was.number)
+      (λ g there note. now_is c c' given c.queues queues refl some_ library root i live g (ap (graph_of (templates c)) (sym template) ∙ there) note)
+      (stand_given c c' given c.queues queues refl some_ library root of)
+      (completes_right (templates c) (note_queue c root) h (messages_in c.queues root) i i' right (queue_now c') item out given (open_ i e live is).0
+      (awaited h i live right e is) completed
+      (agrees c c' given c.queues queues refl some_ library root i i' live live' template right.depth right.graph right.process right.served.served of))
+
   completed_right : (h : List Event) → ((i : Instance) → instance_of c item.root ≡ Some i → IsRightRoot c item.root h i)
       → (o : Option Entry) → item_of c item ≡ o → BecomesCompleted (templates c) item settings o given (instance_of c item.root) (instance_of c' item.root)
       → (i' : Instance) → instance_of c' item.root ≡ Some i' → IsRightRoot c' item.root (with_output item settings o h) i'
   completed_right h was None none becomes i' live' = stays c c' item.root h was given queues some_ library becomes.1 becomes.0 i' live'
   completed_right h was (Some e) is becomes i' live' =
-      let root = item.root in
-      let out = filled settings (fresh e.activity.output) in
-      let found = if_live (CompletesIn (templates c) item out given) given (instance_of c root) (instance_of c' root) becomes i' live' in
-      let i = found.0 in
-      let right = (was i found.1).right in
-      let template : i'.template ≡ i.template = ap (λ (u : Instance). u.template) found.2.kept in
-      let opened = open_ i e found.1 is in
-      let there : option_and_then (entry_in (templates c) item) (instance_of c root) ≡ Some e = program_is (option_and_then (entry_in (templates c) item) (instance_of c root)) e is in
-      let entered : entry_at (templates c) item.parts (stand right.graph i.scope) ≡ Some e
-      = sym (ap (option_and_then (λ g. entry_at (templates c) item.parts (stand g i.scope))) right.process)
-      ∙ sym (ap (option_and_then (entry_in (templates c) item)) found.1) ∙ there in
-      let shown : Shows (templates c) right.depth (seen h) right.graph right.input i.scope
-      = subst (λ (a : List Event). Shows (templates c) right.depth (seen a) right.graph right.input i.scope) (running_is h (right.stopped ∙ opened.0)) right.shows in
-      let awaits : Awaits (templates c) right.depth (seen h) right.graph right.input item.parts
-      = open_awaited (templates c) item.parts right.depth (seen h) right.input (stand right.graph i.scope) e shown opened.1 entered in
-      goes_on c c' given c.queues queues refl some_ library root i' live' (note_queue c root) (Completed (record { item = item; output = out }) ∷ h)
-      (after_put (queue_now c') given (messages_in c.queues root))
-      (ap (λ (u : Instance). u.root) found.2.kept ∙ (was i found.1).number)
-      (λ g there note. now_is c c' given c.queues queues refl some_ library root i found.1 g (ap (graph_of (templates c)) (sym template) ∙ there) note)
-      (stand_given c c' given c.queues queues refl some_ library root of)
-      (completes_right (templates c) (note_queue c root) h (messages_in c.queues root) i i' right (queue_now c') item out given opened.0 awaits found.2
-      (agrees c c' given c.queues queues refl some_ library root i i' found.1 live' template right.depth right.graph right.process right.served.served of))
+      let found
+      = if_live (CompletesIn (templates c) item (filled settings (fresh e.activity.output)) given) given (instance_of c item.root) (instance_of c' item.root) becomes i' live' in
+      completes h found.0 i' found.1 live' (was found.0 found.1) e is found.2
 
 -- ---- a start
 
@@ -271,6 +301,14 @@ starts_in ts root starter settings given before (Some i) absent is i' live =
       | inl stay ↦ absurd (none-some i (sym absent ∙ sym stay.0))
       | inr starts ↦ (subst (λ (u : Instance). StartsIn ts root starter settings u) same starts.0, starts.1)
     ]
+
+start_of : (ts : List Template) (root : ℕ) (starter : Name) (settings : List Setting) (given : List Message) (before after : Option Instance)
+    → BecomesStarted ts root starter settings given before after → AreOf root given
+start_of ts root starter settings given before None is = none_of root given is.1
+start_of ts root starter settings given before (Some i) is = elim is [
+  | inl stay ↦ none_of root given stay.1
+  | inr starts ↦ subst (λ ms. AreOf root ms) (sym starts.1) (begin_of root)
+]
 
 module _ (c c' : Core) (root : ℕ) (starter : Name) (settings : List Setting) (given : List Message) (queues : c'.queues ≡ put_in (queue_now c') given c.queues)
     (some_ : 1 ≤ length c.queues) (library : Agrees (templates c) (templates c')) (of : AreOf root given) (new_ : IsNew c root c') where
@@ -325,38 +363,49 @@ module _ (c c' : Core) (runs : ℕ → List Event) (are : AreRight c runs) where
   pub stays_right : (t : Transaction) (drives : Drives c t c') → MayBe c t drives.given c' → AreRight c' (runs_after c t runs)
   stays_right (Import text) drives may = on_none drives.given drives.roots.0 drives.roots.1 drives.queues may.queued may.library
   stays_right (Start root process version starter key settings) drives may =
-      on_root root (λ h. Started ∷ []) drives.given _ drives.roots drives.queues may.queued may.library (may.of_root root refl)
-      (started_right c c' root starter settings drives.given drives.queues may.queued may.library (may.of_root root refl) may.asked drives.roots.here)
+      let of = start_of (templates c) root starter settings drives.given (instance_of c root) (instance_of c' root) drives.roots.here in
+      on_root root (λ h. Started ∷ []) drives.given _ drives.roots drives.queues may.queued may.library of
+      (started_right c c' root starter settings drives.given drives.queues may.queued may.library of may.asked drives.roots.here)
   stays_right (Turn number message) drives may =
-      let low = may.asked.0 in
-      let front = may.asked.1 in
-      let of = may.of_root (root_of message) refl in
+      let low = may.asked.0.0 in
+      let front = may.asked.0.1 in
+      let of = may.asked.1 in
       each c c' drives.given (left c c' number message drives.given drives.queues may.queued may.library of low front) drives.queues
       (many_left c c' number message drives.given drives.queues may.queued may.library of low front) may.queued may.library
       (root_of message) runs (λ h. with_turn (note_now c message) h) are drives.roots.others of
       (λ other apart n. taken_there other c.queues number message low front (λ e. apart (sym e)) n)
       (turned_right c c' number message drives.given drives.queues may.queued may.library of low front (runs (root_of message)) (are (root_of message)) drives.roots.here)
-  stays_right (Claim item who) drives may = on_item item true drives.given drives.roots drives.queues may.queued may.library (may.of_root item.root refl)
-  stays_right (Release item who) drives may = on_item item false drives.given drives.roots drives.queues may.queued may.library (may.of_root item.root refl)
-  stays_right (Transfer item who to) drives may = on_item item true drives.given drives.roots drives.queues may.queued may.library (may.of_root item.root refl)
-  stays_right (Take item take) drives may = on_item item true drives.given drives.roots drives.queues may.queued may.library (may.of_root item.root refl)
+  stays_right (Claim item who) drives may = on_item item true drives.given drives.roots drives.queues may.queued may.library (none_of item.root drives.given drives.roots.here.1)
+  stays_right (Release item who) drives may = on_item item false drives.given drives.roots drives.queues may.queued may.library (none_of item.root drives.given drives.roots.here.1)
+  stays_right (Transfer item who to) drives may = on_item item true drives.given drives.roots drives.queues may.queued may.library (none_of item.root drives.given drives.roots.here.1)
+  stays_right (Take item take) drives may = on_item item true drives.given drives.roots drives.queues may.queued may.library (none_of item.root drives.given drives.roots.here.1)
   stays_right (Done item who settings) drives may =
-      on_root item.root (λ h. with_output item settings (item_of c item) h) drives.given _ drives.roots drives.queues may.queued may.library (may.of_root item.root refl)
-      (completed_right c c' item settings drives.given drives.queues may.queued may.library (may.of_root item.root refl) may.asked (runs item.root) (are item.root) (item_of c item) refl drives.roots.here)
+      on_root item.root (λ h. with_output item settings (item_of c item) h) drives.given _ drives.roots drives.queues may.queued may.library may.asked.1
+      (completed_right c c' item settings drives.given drives.queues may.queued may.library may.asked.1 may.asked.0 (runs item.root) (are item.root) (item_of c item) refl drives.roots.here)
   stays_right (Force item settings) drives may =
-      on_root item.root (λ h. with_output item settings (item_of c item) h) drives.given _ drives.roots drives.queues may.queued may.library (may.of_root item.root refl)
-      (completed_right c c' item settings drives.given drives.queues may.queued may.library (may.of_root item.root refl) may.asked (runs item.root) (are item.root) (item_of c item) refl drives.roots.here)
-  stays_right (Restart item) drives may = on_item item false drives.given drives.roots drives.queues may.queued may.library (may.of_root item.root refl)
+      on_root item.root (λ h. with_output item settings (item_of c item) h) drives.given _ drives.roots drives.queues may.queued may.library may.asked.1
+      (completed_right c c' item settings drives.given drives.queues may.queued may.library may.asked.1 may.asked.0 (runs item.root) (are item.root) (item_of c item) refl drives.roots.here)
+  stays_right (Restart item) drives may = on_item item false drives.given drives.roots drives.queues may.queued may.library (none_of item.root drives.given drives.roots.here.1)
   stays_right (Suspend root) drives may =
-      on_root root (λ h. h) drives.given _ drives.roots drives.queues may.queued may.library (may.of_root root refl)
+      on_root root (λ h. h) drives.given _ drives.roots drives.queues may.queued may.library (none_of root drives.given drives.roots.here.1)
       (suspended c c' root (runs root) (are root) drives.given drives.queues may.queued may.library true drives.roots.here)
   stays_right (Resume root) drives may =
-      on_root root (λ h. h) drives.given _ drives.roots drives.queues may.queued may.library (may.of_root root refl)
+      on_root root (λ h. h) drives.given _ drives.roots drives.queues may.queued may.library (none_of root drives.given drives.roots.here.1)
       (suspended c c' root (runs root) (are root) drives.given drives.queues may.queued may.library false drives.roots.here)
   stays_right (Terminate root) drives may =
-      on_root root (λ h. Stopped ∷ h) drives.given _ drives.roots drives.queues may.queued may.library (may.of_root root refl)
+      on_root root (λ h. Stopped ∷ h) drives.given _ drives.roots drives.queues may.queued may.library (none_of root drives.given drives.roots.here.1)
       (terminated c c' root (runs root) (are root) drives.given drives.queues may.queued may.library drives.roots.here)
   stays_right (Delete root) drives may =
-      on_root root (λ h. h) drives.given _ drives.roots drives.queues may.queued may.library (may.of_root root refl)
+      on_root root (λ h. h) drives.given _ drives.roots drives.queues may.queued may.library (none_of root drives.given drives.roots.here.1)
       (λ i' live'. absurd (none-some i' (sym drives.roots.here.0 ∙ live')))
   stays_right (Clock minutes) drives may = on_none drives.given drives.roots.0 drives.roots.1 drives.queues may.queued may.library
+
+-- along a history
+pub history_right : (states : ℕ → Core) (made : ℕ → Transaction) (runs : ℕ → List Event) (count : ℕ) → AreRight (states 0) runs
+    → (drives : (n : ℕ) → n < count → Drives (states n) (made n) (states (suc n)))
+    → ((n : ℕ) (below : n < count) → MayBe (states n) (made n) (drives n below).given (states (suc n)))
+    → (n : ℕ) → n ≤ count → AreRight (states n) (runs_at states made runs n)
+history_right states made runs count are drives may zero upto = are
+history_right states made runs count are drives may (suc n) upto =
+    let below : n < count = omega arith in
+    stays_right (states n) (states (suc n)) (runs_at states made runs n) (history_right states made runs count are drives may n (omega arith)) (made n) (drives n below) (may n below)

@@ -1,5 +1,5 @@
 -- Laws of states: all their roots are right, and go on being right.
-use Rattle.std.specs.Prelude.{◌≡◌, ℕ, false, Some, None, List, [], IsTrue}
+use Rattle.std.specs.Prelude.{◌≡◌, ℕ, suc, ◌<◌, ◌≤◌, false, Some, None, List, [], IsTrue}
 use Rattle.blocks_subprocs.specs.Ends.{ends_of}
 use Rattle.flow_core.specs.Answers.{instance_of}
 use Rattle.flow_core.specs.Driving.{templates, Drives}
@@ -10,7 +10,7 @@ use Rattle.flow_model.specs.declared.transactions.Transaction.{Transaction}
 use Rattle.navigator.specs.declared.instance.Instance.{Instance}
 use Rattle.navigator.specs.declared.scopes.ScopeState.{out-ScopeState}
 use Rattle.recover_queue.specs.Queues.{is_quiet}
-use Rattle.core_laws.specs.RightStates.{AreRight, runs_after, MayBe}
+use Rattle.core_laws.specs.RightStates.{AreRight, runs_after, runs_at, MayBe}
 use Rattle.view_laws.specs.Runs.{Event, running, fated}
 
 -- a state with no live root is right, before any event
@@ -22,6 +22,14 @@ abbrev pub StaysRight : Type 0
 StaysRight =
     (c c' : Core) (t : Transaction) (runs : ℕ → List Event) → AreRight c runs → (drives : Drives c t c') → MayBe c t drives.given c'
     → AreRight c' (runs_after c t runs)
+
+-- so it does along a history, after each of its transactions
+abbrev pub HistoriesAreRight : Type 0
+HistoriesAreRight =
+    (states : ℕ → Core) (made : ℕ → Transaction) (runs : ℕ → List Event) (count : ℕ) → AreRight (states 0) runs
+    → (drives : (n : ℕ) → n < count → Drives (states n) (made n) (states (suc n)))
+    → ((n : ℕ) (below : n < count) → MayBe (states n) (made n) (drives n below).given (states (suc n)))
+    → (n : ℕ) → n ≤ count → AreRight (states n) (runs_at states made runs n)
 
 -- whatever the state of a live root says of how an activity of its scope has ended is so by the completions alone
 abbrev pub RightStatesAreSound : Type 0

@@ -98,7 +98,12 @@ run_after c (Clock minutes) h = h
 abbrev pub runs_after : Core → Transaction → (ℕ → List Event) → ℕ → List Event
 runs_after c t runs root = if is_root root (root_about t) then run_after c t (runs root) else runs root
 
--- ---- what is asked of a transaction
+-- the runs after so many transactions of a history of states
+abbrev pub runs_at : (ℕ → Core) → (ℕ → Transaction) → (ℕ → List Event) → ℕ → ℕ → List Event
+runs_at states made runs zero = runs
+runs_at states made runs (suc n) = runs_after (states n) (made n) (runs_at states made runs n)
+
+-- ---- what is asked of a transaction, which the laws take as given
 
 -- an item that is there is open, and its root isn't terminated
 abbrev pub IsOpen : Core → Path → Type 0
@@ -113,31 +118,30 @@ pub record IsNew (c : Core) (root : ℕ) (c' : Core) : Type 0 where
   pub served : (i : Instance) → instance_of c' root ≡ Some i → (g : Graph) → graph_of (templates c) i.template ≡ Some g
       → (input : Container) → (depth : ℕ) × IsServedRoot (root_in (templates c) depth g input)
 
--- a Turn takes the front of its queue, a completion is of an open item, and a Start is of a new root
-abbrev pub IsAsked : Core → Transaction → Core → Type 0
-IsAsked c (Import text) c' = Unit {0}
-IsAsked c (Start root process version starter key settings) c' = IsNew c root c'
-IsAsked c (Turn number message) c' = IsFront c number message
-IsAsked c (Claim item who) c' = Unit {0}
-IsAsked c (Release item who) c' = Unit {0}
-IsAsked c (Transfer item who to) c' = Unit {0}
-IsAsked c (Take item take) c' = Unit {0}
-IsAsked c (Done item who settings) c' = IsOpen c item
-IsAsked c (Force item settings) c' = IsOpen c item
-IsAsked c (Restart item) c' = Unit {0}
-IsAsked c (Suspend root) c' = Unit {0}
-IsAsked c (Resume root) c' = Unit {0}
-IsAsked c (Terminate root) c' = Unit {0}
-IsAsked c (Delete root) c' = Unit {0}
-IsAsked c (Clock minutes) c' = Unit {0}
-
 -- these messages are all of one root
 abbrev pub AreOf : ℕ → List Message → Type 0
 AreOf root given = (k : ℕ) (m : Message) → slice_get given k ≡ Some m → root_of m ≡ root
 
--- that, and what the laws take as given of the states for now: there is a queue, each template stays at its place, and what a transaction gives is of its root
+-- a Turn takes the front of its queue, a completion is of an open item, and a Start is of a new root; what a Turn or a completion gives is of its root
+abbrev pub IsAsked : Core → Transaction → List Message → Core → Type 0
+IsAsked c (Import text) given c' = Unit {0}
+IsAsked c (Start root process version starter key settings) given c' = IsNew c root c'
+IsAsked c (Turn number message) given c' = IsFront c number message × AreOf (root_of message) given
+IsAsked c (Claim item who) given c' = Unit {0}
+IsAsked c (Release item who) given c' = Unit {0}
+IsAsked c (Transfer item who to) given c' = Unit {0}
+IsAsked c (Take item take) given c' = Unit {0}
+IsAsked c (Done item who settings) given c' = IsOpen c item × AreOf item.root given
+IsAsked c (Force item settings) given c' = IsOpen c item × AreOf item.root given
+IsAsked c (Restart item) given c' = Unit {0}
+IsAsked c (Suspend root) given c' = Unit {0}
+IsAsked c (Resume root) given c' = Unit {0}
+IsAsked c (Terminate root) given c' = Unit {0}
+IsAsked c (Delete root) given c' = Unit {0}
+IsAsked c (Clock minutes) given c' = Unit {0}
+
+-- a transaction may be: what is asked of it is so, there is a queue, and each template stays at its place in the library after it
 pub record MayBe (c : Core) (t : Transaction) (given : List Message) (c' : Core) : Type 0 where
-  pub asked : IsAsked c t c'
+  pub asked : IsAsked c t given c'
   pub queued : 1 ≤ length c.queues
   pub library : Agrees (templates c) (templates c')
-  pub of_root : (root : ℕ) → root_about t ≡ Some root → AreOf root given

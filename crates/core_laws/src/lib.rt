@@ -9,4 +9,6 @@
 
 mod states;
 
-pub use states::{begins_right, quiet_states_are_whole, right_states_are_sound, stays_right};
+pub use states::{
+    begins_right, histories_are_right, quiet_states_are_whole, right_states_are_sound, stays_right,
+};

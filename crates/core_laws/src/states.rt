@@ -1,6 +1,7 @@
 ghost use Rattle.core_laws.specs.Laws.{
   BeginsRight,
   StaysRight,
+  HistoriesAreRight,
   RightStatesAreSound,
   QuietStatesAreWhole,
 };
@@ -13,6 +14,11 @@ pub fn begins_right()
 /// A state stays right with each transaction.
 pub fn stays_right()
     ensures { StaysRight }
+{}
+
+/// So it does along a history of transactions.
+pub fn histories_are_right()
+    ensures { HistoriesAreRight }
 {}
 
 /// What a right state says of its live roots is so by their completions alone.
