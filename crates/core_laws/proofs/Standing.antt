@@ -29,15 +29,15 @@ module _ (p : Message → Bool) (f : Message → ℕ) where
       → filter p (queue (with_queue qs (f m) (queue qs (f m) ++ m ∷ [])) (suc n)) ≡ filter p (queue qs (suc n)) ++ filter (λ u. f u == suc n) (filter p (m ∷ []))
   put_message qs m n low high = elim (eqb_tells (f m) (suc n)) [
     | inl is ↦
-      ap (λ j. filter p (queue (with_queue qs j (queue qs j ++ m ∷ [])) (suc n))) is.1
-      ∙ ap (filter p) (get_or-set_same qs (suc n - 1) (queue qs (suc n) ++ m ∷ []) [] (subst (λ j. j - 1 < length qs) is.1 high))
-      ∙ filter-append p (queue qs (suc n)) (m ∷ [])
-      ∙ ap (λ l. filter p (queue qs (suc n)) ++ l) (sym (keep_one (λ u. f u == suc n) m is.0 (p m)))
+        ap (λ j. filter p (queue (with_queue qs j (queue qs j ++ m ∷ [])) (suc n))) is.1
+        ∙ ap (filter p) (get_or-set_same qs (suc n - 1) (queue qs (suc n) ++ m ∷ []) [] (subst (λ j. j - 1 < length qs) is.1 high))
+        ∙ filter-append p (queue qs (suc n)) (m ∷ [])
+        ∙ ap (λ l. filter p (queue qs (suc n)) ++ l) (sym (keep_one (λ u. f u == suc n) m is.0 (p m)))
     | inr other ↦
-      let apart : suc n - 1 ≡ f m - 1 → ⊥ = λ e. other.1 (omega arith) in
-      ap (filter p) (get_or-set_other qs (f m - 1) (suc n - 1) (queue qs (f m) ++ m ∷ []) [] apart)
-      ∙ sym (append-nil (filter p (queue qs (suc n))))
-      ∙ ap (λ l. filter p (queue qs (suc n)) ++ l) (sym (drop_one (λ u. f u == suc n) m other.0 (p m)))
+        let apart : suc n - 1 ≡ f m - 1 → ⊥ = λ e. other.1 (omega arith) in
+        ap (filter p) (get_or-set_other qs (f m - 1) (suc n - 1) (queue qs (f m) ++ m ∷ []) [] apart)
+        ∙ sym (append-nil (filter p (queue qs (suc n))))
+        ∙ ap (λ l. filter p (queue qs (suc n)) ++ l) (sym (drop_one (λ u. f u == suc n) m other.0 (p m)))
   ]
 
   put_messages : (given : List Message) (qs : List (List Message)) → ((m : Message) → 1 ≤ f m) → ((m : Message) → f m - 1 < length qs) → (n : ℕ)
@@ -71,8 +71,8 @@ pub all_kept : (root : ℕ) (given : List Message) → AreOf root given → filt
 all_kept root [] of = refl
 all_kept root (m ∷ given) of = elim (eqb_tells (root_of m) root) [
   | inl is ↦
-    ap (λ b. cond b (m ∷ filter (λ m. root_of m == root) given) (filter (λ m. root_of m == root) given)) is.0
-    ∙ ap (λ l. m ∷ l) (all_kept root given (λ k. of (suc k)))
+      ap (λ b. cond b (m ∷ filter (λ m. root_of m == root) given) (filter (λ m. root_of m == root) given)) is.0
+      ∙ ap (λ l. m ∷ l) (all_kept root given (λ k. of (suc k)))
   | inr other ↦ absurd (other.1 (of 0 m refl))
 ]
 
@@ -81,8 +81,8 @@ none_kept root other apart [] of = refl
 none_kept root other apart (m ∷ given) of = elim (eqb_tells (root_of m) other) [
   | inl is ↦ absurd (apart (sym is.1 ∙ of 0 m refl))
   | inr no_ ↦
-    ap (λ b. cond b (m ∷ filter (λ m. root_of m == other) given) (filter (λ m. root_of m == other) given)) no_.0
-    ∙ none_kept root other apart given (λ k. of (suc k))
+      ap (λ b. cond b (m ∷ filter (λ m. root_of m == other) given) (filter (λ m. root_of m == other) given)) no_.0
+      ∙ none_kept root other apart given (λ k. of (suc k))
 ]
 
 -- ---- what is taken
@@ -147,16 +147,16 @@ module _ (root : ℕ) (qs : List (List Message)) (number : ℕ) (m : Message) (l
   taken_here of zero = no_front (0 == number)
   taken_here of (suc n) = elim (eqb_tells (suc n) number) [
     | inl is ↦
-      let front' : slice_get (queue qs (suc n)) 0 ≡ Some m = ap (λ j. slice_get (queue qs j) 0) is.1 ∙ front in
-      ap (filter (λ u. root_of u == root)) (here_taken n (sym is.1))
-      ∙ (elim (eqb_tells (root_of m) root) [
-        | inl yes_ ↦ drop_front (λ u. root_of u == root) (queue qs (suc n)) m front' yes_.0
-        | inr other ↦ absurd (other.1 of)
-      ])
-      ∙ sym (ap (λ b. if b then drop 1 (messages_in qs root (suc n)) else messages_in qs root (suc n)) is.0)
+        let front' : slice_get (queue qs (suc n)) 0 ≡ Some m = ap (λ j. slice_get (queue qs j) 0) is.1 ∙ front in
+        ap (filter (λ u. root_of u == root)) (here_taken n (sym is.1))
+        ∙ (elim (eqb_tells (root_of m) root) [
+          | inl yes_ ↦ drop_front (λ u. root_of u == root) (queue qs (suc n)) m front' yes_.0
+          | inr other ↦ absurd (other.1 of)
+        ])
+        ∙ sym (ap (λ b. if b then drop 1 (messages_in qs root (suc n)) else messages_in qs root (suc n)) is.0)
     | inr other ↦
-      ap (filter (λ u. root_of u == root)) (there_left n other.1)
-      ∙ sym (ap (λ b. if b then drop 1 (messages_in qs root (suc n)) else messages_in qs root (suc n)) other.0)
+        ap (filter (λ u. root_of u == root)) (there_left n other.1)
+        ∙ sym (ap (λ b. if b then drop 1 (messages_in qs root (suc n)) else messages_in qs root (suc n)) other.0)
   ]
 
   -- and leaves what stands of any other
@@ -164,12 +164,12 @@ module _ (root : ℕ) (qs : List (List Message)) (number : ℕ) (m : Message) (l
   taken_there apart zero = refl
   taken_there apart (suc n) = elim (eqb_tells (suc n) number) [
     | inl is ↦
-      let front' : slice_get (queue qs (suc n)) 0 ≡ Some m = ap (λ j. slice_get (queue qs j) 0) is.1 ∙ front in
-      ap (filter (λ u. root_of u == root)) (here_taken n (sym is.1))
-      ∙ (elim (eqb_tells (root_of m) root) [
-        | inl yes_ ↦ absurd (apart yes_.1)
-        | inr other ↦ drop_other (λ u. root_of u == root) (queue qs (suc n)) m front' other.0
-      ])
+        let front' : slice_get (queue qs (suc n)) 0 ≡ Some m = ap (λ j. slice_get (queue qs j) 0) is.1 ∙ front in
+        ap (filter (λ u. root_of u == root)) (here_taken n (sym is.1))
+        ∙ (elim (eqb_tells (root_of m) root) [
+          | inl yes_ ↦ absurd (apart yes_.1)
+          | inr other ↦ drop_other (λ u. root_of u == root) (queue qs (suc n)) m front' other.0
+        ])
     | inr other ↦ ap (filter (λ u. root_of u == root)) (there_left n other.1)
   ]
 

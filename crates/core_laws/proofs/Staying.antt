@@ -148,14 +148,14 @@ module _ (c c' : Core) (given : List Message) (qs : List (List Message)) (queues
       → (root : ℕ) (i' : Instance) → instance_of c' root ≡ Some i' → IsRightRoot c' root (if about == root then after (runs root) else runs root) i'
   each about runs after are others of left here root i' live' = elim (eqb_tells about root) [
     | inl is ↦
-      subst (λ (l : List Event). IsRightRoot c' root l i') (sym (ap (λ b. if b then after (runs root) else runs root) is.0))
-      (subst (λ (r : ℕ). (j : Instance) → instance_of c' r ≡ Some j → IsRightRoot c' r (after (runs r)) j) is.1 here i' live')
+        subst (λ (l : List Event). IsRightRoot c' root l i') (sym (ap (λ b. if b then after (runs root) else runs root) is.0))
+        (subst (λ (r : ℕ). (j : Instance) → instance_of c' r ≡ Some j → IsRightRoot c' r (after (runs r)) j) is.1 here i' live')
     | inr other ↦
-      let apart : root ≡ about → ⊥ = λ e. other.1 (sym e) in
-      let live : instance_of c root ≡ Some i' = sym (others root apart) ∙ live' in
-      let was = are root i' live in
-      subst (λ (l : List Event). IsRightRoot c' root l i') (sym (ap (λ b. if b then after (runs root) else runs root) other.0))
-      (still root (runs root) (runs root) i' i' live live' refl refl (none_kept about root apart given of) (left root apart) was was.right)
+        let apart : root ≡ about → ⊥ = λ e. other.1 (sym e) in
+        let live : instance_of c root ≡ Some i' = sym (others root apart) ∙ live' in
+        let was = are root i' live in
+        subst (λ (l : List Event). IsRightRoot c' root l i') (sym (ap (λ b. if b then after (runs root) else runs root) other.0))
+        (still root (runs root) (runs root) i' i' live live' refl refl (none_kept about root apart given of) (left root apart) was was.right)
   ]
 
 -- ---- transactions that give and take nothing
