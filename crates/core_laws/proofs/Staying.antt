@@ -59,7 +59,7 @@ if_live becomes given (Some i) None is i' live = absurd is
 if_live becomes given (Some i) (Some j) is i' live = let same : j ≡ i' = cc in (i, refl, subst (λ (u : Instance). becomes i u) same is)
 
 -- messages that are none are of any root, and the BEGIN of a root is of it
-none_of : (root : ℕ) (given : List Message) → given ≡ [] → AreOf root given
+pub none_of : (root : ℕ) (given : List Message) → given ≡ [] → AreOf root given
 none_of root given none = subst (λ ms. AreOf root ms) (sym none) (λ k m there. absurd (none-some m there))
 
 begin_of : (root : ℕ) → AreOf root (Begin (record { root = root; parts = [] }) ∷ [])
@@ -86,7 +86,7 @@ module _ (c c' : Core) (given : List Message) (qs : List (List Message)) (queues
   stand_given : (root : ℕ) → AreOf root given → (n : ℕ) → messages_in c'.queues root n ≡ after_put (queue_now c') given (messages_in qs root) n
   stand_given root are n = stand_after root n ∙ ap (λ l. messages_in qs root n ++ filter (λ m. queue_now c' m == n) l) (all_kept root given are)
 
-  stand_still : (root : ℕ) → filter (λ m. root_of m == root) given ≡ [] → ((n : ℕ) → messages_in qs root n ≡ messages_in c.queues root n)
+  pub stand_still : (root : ℕ) → filter (λ m. root_of m == root) given ≡ [] → ((n : ℕ) → messages_in qs root n ≡ messages_in c.queues root n)
       → (n : ℕ) → messages_in c'.queues root n ≡ messages_in c.queues root n
   stand_still root none left n =
       stand_after root n
@@ -302,7 +302,7 @@ starts_in ts root starter settings given before (Some i) absent is i' live =
       | inr starts ↦ (subst (λ (u : Instance). StartsIn ts root starter settings u) same starts.0, starts.1)
     ]
 
-start_of : (ts : List Template) (root : ℕ) (starter : Name) (settings : List Setting) (given : List Message) (before after : Option Instance)
+pub start_of : (ts : List Template) (root : ℕ) (starter : Name) (settings : List Setting) (given : List Message) (before after : Option Instance)
     → BecomesStarted ts root starter settings given before after → AreOf root given
 start_of ts root starter settings given before None is = none_of root given is.1
 start_of ts root starter settings given before (Some i) is = elim is [
@@ -316,7 +316,7 @@ module _ (c c' : Core) (root : ℕ) (starter : Name) (settings : List Setting) (
       → (i' : Instance) → instance_of c' root ≡ Some i' → IsRightRoot c' root (Started ∷ []) i'
   started_right becomes i' live' =
       let begin : Message = Begin (record { root = root; parts = [] }) in
-      let both = starts_in (templates c) root starter settings given (instance_of c root) (instance_of c' root) new_.absent becomes i' live' in
+      let both = starts_in (templates c) root starter settings given (instance_of c root) (instance_of c' root) new_.unused.absent becomes i' live' in
       let starts = both.0 in
       let g = starts.graph in
       let count = length c.queues in
@@ -332,7 +332,7 @@ module _ (c c' : Core) (root : ℕ) (starter : Name) (settings : List Setting) (
       (λ g' there note. ap (λ o. place_queue (templates c) count root o note) (sym process ∙ there))
       (λ n. stand_given c c' given c.queues queues refl some_ library root of n
       ∙ ap (λ l. messages_in c.queues root n ++ filter (λ m. queue_now c' m == n) l) both.1
-      ∙ ap (λ l. l ++ filter (λ m. queue_now c' m == n) (begin ∷ [])) (new_.unqueued n))
+      ∙ ap (λ l. l ++ filter (λ m. queue_now c' m == n) (begin ∷ [])) (new_.unused.unqueued n))
       (starts_right (templates c) (place_queue (templates c) count root (Some g)) (queue_now c') starts.template root served.0 g starter starts.input i'
       starts.there served.1 starts.started same)
 

@@ -1,5 +1,5 @@
 -- A state whose roots are right, and how the runs of its roots go on with a transaction.
-use Rattle.std.specs.Prelude.{◌≡◌, ℕ, zero, suc, ◌+◌, ◌-◌, ◌^◌, ◌%◌, ◌==◌, ◌≤◌, min, max, true, false, if◌then◌else◌, Option, Some, None, option_and_then, List, [], ◌∷◌, length, slice_get}
+use Rattle.std.specs.Prelude.{◌≡◌, ℕ, zero, suc, ◌+◌, ◌-◌, ◌^◌, ◌%◌, ◌==◌, ◌<◌, ◌≤◌, min, max, true, false, if◌then◌else◌, Option, Some, None, option_and_then, List, [], ◌∷◌, length, slice_get}
 use Rattle.std.specs.List.{filter}
 use Rattle.activity_states.specs.States.{fate_of}
 use Rattle.containers.specs.Settings.{filled}
@@ -103,6 +103,17 @@ abbrev pub runs_at : (ℕ → Core) → (ℕ → Transaction) → (ℕ → List 
 runs_at states made runs zero = runs
 runs_at states made runs (suc n) = runs_after (states n) (made n) (runs_at states made runs n)
 
+-- ---- numbers of roots
+
+-- no root of this number is live, and no message of it is queued
+pub record IsUnused (c : Core) (root : ℕ) : Type 0 where
+  pub absent : instance_of c root ≡ None
+  pub unqueued : (n : ℕ) → messages_in c.queues root n ≡ []
+
+-- no number above that of the roots so far is used
+abbrev pub AreCounted : Core → Type 0
+AreCounted c = (root : ℕ) → c.roots < root → IsUnused c root
+
 -- ---- what is asked of a transaction, which the laws take as given
 
 -- an item that is there is open, and its root isn't terminated
@@ -111,10 +122,9 @@ IsOpen c item =
     (i : Instance) (e : Entry) → instance_of c item.root ≡ Some i → item_of c item ≡ Some e
     → (i.terminated ≡ false) × (phase_of (fate_of e.state) e.attempt ≡ Ended → ⊥)
 
--- a root is new: its number isn't live, none of its messages are queued, and what is started runs a process that is served
+-- a root is new: its number is unused, and what is started runs a process that is served
 pub record IsNew (c : Core) (root : ℕ) (c' : Core) : Type 0 where
-  pub absent : instance_of c root ≡ None
-  pub unqueued : (n : ℕ) → messages_in c.queues root n ≡ []
+  pub unused : IsUnused c root
   pub served : (i : Instance) → instance_of c' root ≡ Some i → (g : Graph) → graph_of (templates c) i.template ≡ Some g
       → (input : Container) → (depth : ℕ) × IsServedRoot (root_in (templates c) depth g input)
 

@@ -2,6 +2,8 @@ ghost use Rattle.core_laws.specs.Laws.{
   BeginsRight,
   StaysRight,
   HistoriesAreRight,
+  StaysCounted,
+  NextIsUnused,
   RightStatesAreSound,
   QuietStatesAreWhole,
 };
@@ -19,6 +21,16 @@ pub fn stays_right()
 /// So it does along a history of transactions.
 pub fn histories_are_right()
     ensures { HistoriesAreRight }
+{}
+
+/// Numbers above that of the roots so far stay unused.
+pub fn stays_counted()
+    ensures { StaysCounted }
+{}
+
+/// The number of the next root is unused.
+pub fn next_is_unused()
+    ensures { NextIsUnused }
 {}
 
 /// What a right state says of its live roots is so by their completions alone.
