@@ -1,5 +1,5 @@
 -- Numbers above that of the roots so far stay unused.
-use Rattle.std.proofs.Common.{◌≡◌, ℕ, ◌-◌, ◌<◌, ◌≤◌, List, [], ◌∷◌, ◌++◌, drop, length, Option, Some, None, refl, ap, sym, subst, ◌∙◌, inl, inr, arith}
+use Rattle.std.proofs.Common.{◌≡◌, ℕ, ◌-◌, ◌<◌, ◌≤◌, List, [], drop, length, Option, Some, None, refl, ap, sym, subst, ◌∙◌, inl, inr, arith}
 use Rattle.std.proofs.lemmas.Bool.Decides.{eqb_tells}
 use Rattle.std.proofs.lemmas.List.{length-set}
 use Rattle.std.proofs.lemmas.Option.{none-some}
@@ -23,7 +23,6 @@ use Rattle.core_laws.proofs.Standing.{none_kept, front_of_root, taken_there}
 use Rattle.core_laws.proofs.Staying.{stand_still, none_of, start_of}
 use Rattle.core_laws.specs.RightStates.{messages_in, AreOf, IsUnused, AreCounted, MayBe}
 
-
 -- where a root isn't live nothing is given, and it isn't live after that
 idle_live : (becomes : Instance → Instance → Type 0) (given : List Message) (before after : Option Instance) → IfLive becomes given before after
     → before ≡ None → (after ≡ None) × (given ≡ [])
@@ -43,15 +42,15 @@ module _ (c c' : Core) (counted : AreCounted c) where
       → c.roots ≤ c'.roots → (c'.roots < about → IsUnused c about → IsUnused c' about) → AreCounted c'
   by_root about given qs becomes changes queues many some_ library of left more here root above = elim (eqb_tells about root) [
     | inl is ↦
-      subst (λ r. IsUnused c' r) is.1
-      (here (subst (λ r. c'.roots < r) (sym is.1) above) (subst (λ r. IsUnused c r) (sym is.1) (counted root (omega arith))))
+        subst (λ r. IsUnused c' r) is.1
+        (here (subst (λ r. c'.roots < r) (sym is.1) above) (subst (λ r. IsUnused c r) (sym is.1) (counted root (omega arith))))
     | inr other ↦
-      let apart : root ≡ about → ⊥ = λ e. other.1 (sym e) in
-      let unused : IsUnused c root = counted root (omega arith) in
-      record {
-        absent = changes.others root apart ∙ unused.absent;
-        unqueued = λ n. stand_still c c' given qs queues many some_ library root (none_kept about root apart given of) (left root apart) n ∙ unused.unqueued n;
-      }
+        let apart : root ≡ about → ⊥ = λ e. other.1 (sym e) in
+        let unused : IsUnused c root = counted root (omega arith) in
+        record {
+          absent = changes.others root apart ∙ unused.absent;
+          unqueued = λ n. stand_still c c' given qs queues many some_ library root (none_kept about root apart given of) (left root apart) n ∙ unused.unqueued n;
+        }
   ]
 
   -- a transaction about a root, that takes no message, and gives none where the root isn't live

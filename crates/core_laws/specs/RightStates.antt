@@ -43,11 +43,12 @@ receiver_of (BeginNote p) = p
 receiver_of (SignalNote p a b v) = p
 receiver_of (EndNote p) = around p
 
--- the queue of a message of a root, by the places of its activities, as the states have it for messages
+-- the queue of a message of a root, by the places of its activities: that of `queue_in` for the message itself
 abbrev pub place_queue : List Template → ℕ → ℕ → Option Graph → Note → ℕ
 place_queue ts count root None note = 1
 place_queue ts count root (Some g) note = (root + min (processes_along ts (receiver_of note) g) (2 ^ 64 - 1)) % max count 1 + 1
 
+-- its queue in a state
 abbrev pub note_queue : Core → ℕ → Note → ℕ
 note_queue c root = place_queue (templates c) (length c.queues) root (graph_now c root)
 
@@ -62,12 +63,12 @@ AreRight c runs = (root : ℕ) (i : Instance) → instance_of c root ≡ Some i 
 
 -- ---- how runs go on
 
--- a run, and a message taken, where its activities are there
+-- a run goes on with a message that is taken, where its activities are there
 abbrev pub with_turn : Option Note → List Event → List Event
 with_turn None h = h
 with_turn (Some note) h = Turned note ∷ h
 
--- a run, and a completion of an item, where it is there
+-- a run goes on with a completion of an item, where it is there
 abbrev pub with_output : Path → List Setting → Option Entry → List Event → List Event
 with_output item settings None h = h
 with_output item settings (Some e) h = Completed (record { item = item; output = filled settings (fresh e.activity.output) }) ∷ h
