@@ -1,0 +1,2 @@
+pub mod RightStates
+pub mod Laws

@@ -1,0 +1,15 @@
+//! Do all roots of a state go on being right, whatever transactions come?
+//!
+//! Each function here is a law: it takes nothing, does nothing, and its `ensures` is a statement
+//! about the definitions, which is proved. The laws go from what a transaction does to a state, which
+//! `flow_core` proves of its calls, to the run of events that each live root has had.
+//!
+//! Begin with `specs/RightStates.antt`; then `specs/Laws.antt`.
+#![tactic(auto)]
+
+mod states;
+
+pub use states::{
+    begins_right, histories_are_right, next_is_unused, quiet_states_are_whole,
+    right_states_are_sound, stays_counted, stays_right,
+};
