@@ -13,17 +13,17 @@ pub fn begins_right()
     ensures { BeginsRight }
 {}
 
-/// A state stays right with each transaction.
+/// A state stays right with each transaction that may be.
 pub fn stays_right()
     ensures { StaysRight }
 {}
 
-/// So it does along a history of transactions.
+/// So it does along a history of transactions, each of which may be.
 pub fn histories_are_right()
     ensures { HistoriesAreRight }
 {}
 
-/// Numbers above that of the roots so far stay unused.
+/// Numbers above that of the roots so far stay unused, by each transaction that may be.
 pub fn stays_counted()
     ensures { StaysCounted }
 {}
