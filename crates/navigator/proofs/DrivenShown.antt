@@ -126,17 +126,17 @@ module _ (r : Root) (q : Note → ℕ) (root : IsServedRoot r) where
       let gave = taken_given r.templates does.0 does.1 r.graph s s' given does.2 does.4 m does.3 r.depth (seen h) (seen (Turned m ∷ h)) r.input root.well root.served root.aimed (counted_run h)
       (turn_comes m h legal driven.runs) shows in
       put_given r h (Turned m) given (started_running h driven.runs started)
-      (going_on h (Turned m) given driven.runs driven.runs gave)
+      (going_on h (Turned m) given driven.runs driven.runs gave.due)
 
   pub complete_gives : (f : Fact) (h : List Event) (s s' : ScopeState) (given : List Message) → IsDriven r q h s → has_started h ≡ true → IsLegal r q (Completed f ∷ h)
       → DoesComplete r f s s' given → GivesPut r h (Completed f) given
   complete_gives f h s s' given driven started legal does =
       let shows = shows_run h s driven.legal driven.runs driven.driven in
       let comes = subst (λ (out : Container). ComesOutput r.templates r.depth (seen h) r.graph r.input f.item.parts out (seen (Completed f ∷ h))) (sym does.3) (output_comes f h legal driven.runs) in
-      let gave = completed_given r.templates does.0 f.item.root f.item.parts does.1 r.graph s s' given does.2 does.4 r.depth (seen h) (seen (Completed f ∷ h)) r.input root.well root.served root.aimed (counted_run h)
+      let gave = completed_given r.templates does.0 f.item does.1 r.graph s s' given does.2 does.4 r.depth (seen h) (seen (Completed f ∷ h)) r.input root.well root.served root.aimed (counted_run h)
       comes shows in
       put_given r h (Completed f) given (started_running h driven.runs started)
-      (going_on h (Completed f) given driven.runs driven.runs gave)
+      (going_on h (Completed f) given driven.runs driven.runs gave.due)
 
   -- ---- what the state says is so
 

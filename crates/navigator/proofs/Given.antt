@@ -24,10 +24,10 @@ use Rattle.navigator.proofs.MoreLooked.{most_shows}
 use Rattle.navigator.proofs.SignalGiven.{signal_given}
 use Rattle.navigator.proofs.Stepping.{leads_along, counted_covers, counted_most}
 use Rattle.navigator.proofs.TakesShown.{usable_of, begin_local, signal_local, end_local, output_local, output_most, taken_shown, completed_shown}
-use Rattle.navigator.proofs.ToldNotes.{told_append, push_all, told_notes, kind_only, kind_append, kind_along}
+use Rattle.navigator.proofs.ToldNotes.{AreTold, told_append, told_roots, push_all, told_notes, kind_only, kind_append, kind_along}
 use Rattle.navigator.specs.Events.{Begins, Signals, Ends as EndsOf, Completes, IsUsable, Receives, Happens, Takes, nothing}
 use Rattle.view_laws.specs.NextEvents.{Aimed}
-use Rattle.navigator.specs.Giving.{root_engine, GivesDue, GivesTaken, GivesCompleted}
+use Rattle.navigator.specs.Giving.{root_engine, AreOf, GivesDue, Gives, GivesTaken, GivesCompleted}
 use Rattle.navigator.specs.Reading.{place_of}
 use Rattle.navigator.specs.Serving.{Served}
 use Rattle.navigator.specs.Showing.{graph_along, signal_between, signal_in, note_in, IsCounted}
@@ -61,23 +61,32 @@ end_kinds false true n = go (2 == n) refl
     go true is = rw is refl
     go false is = rw is refl
 
+-- the END of the scope at the end of a path, where it is over; the root has none
+abbrev last_note : Path → Bool → List Note
+last_note path over = if is_root path.parts then [] else end_note over
+
+-- all that is told of a scope, by kinds
+told_along : (ts : List Template) (depth : ℕ) (k k' : Known) (g : Graph) (input : Container) (path : Path) (tells : Told) → (is : IsGivenAlong ts depth k k' g input path.parts path tells)
+    → AreTold is.graph path (tells.signals ++ tells.begins ++ tells.ends) (kind_only 0 is.added ++ kind_only 1 is.added ++ last_note path is.over)
+told_along ts depth k k' g input path tells is =
+    told_append is.graph path (tells.signals ++ tells.begins) (kind_only 0 is.added ++ kind_only 1 is.added) tells.ends (last_note path is.over)
+    (told_append is.graph path tells.signals (kind_only 0 is.added) tells.begins (kind_only 1 is.added) is.signals is.begins) is.ends
+
 -- what is told of a scope is what came to be due, from the root
-given_root : (ts : List Template) (depth : ℕ) (k k' : Known) (g : Graph) (input : Container) (path : Path) (tells : Told) (given : List Message) → Well ts depth g
+due_root : (ts : List Template) (depth : ℕ) (k k' : Known) (g : Graph) (input : Container) (path : Path) (tells : Told) (given : List Message) → Well ts depth g
     → IsGivenAlong ts depth k k' g input path.parts path tells → given ≡ tells.signals ++ tells.begins ++ tells.ends → GivesDue ts depth g input k k' given
-given_root ts depth k k' g input path tells given well is messages = λ queue_of.
+due_root ts depth k k' g input path tells given well is messages = λ queue_of.
     let p = path.parts in
     let r : Root = record { templates = ts; depth = depth; graph = g; input = input } in
     let x : Engine Note Event = root_engine ts depth g input queue_of in
-    let last : List Note = if is_root p then [] else end_note is.over in
+    let last : List Note = last_note path is.over in
     let came : filter (λ m. not (has x (due_in ts depth k g input) m)) (due_in ts depth k' g input) ≡ map (push_all p) (last ++ is.added)
     = merges_new x itself one (due_in ts depth k g input) (map (push_all p) (last ++ is.added)) (due_in ts depth k' g input) is.due (λ m. due_once r queue_of ts depth k' g input well m) in
     let kinds : (n : ℕ) → kind_only n (map (push_all p) (last ++ is.added)) ≡ map (push_all p) ((if 2 == n then last else []) ++ kind_only n is.added)
     = λ n. kind_along n p (last ++ is.added) ∙ ap (map (push_all p)) (kind_append n last is.added ∙ ap (λ l. l ++ kind_only n is.added) (end_kinds (is_root p) is.over n)) in
     let notes : List Note = kind_only 0 is.added ++ kind_only 1 is.added ++ last in
-    let told = told_append is.graph path (tells.signals ++ tells.begins) (kind_only 0 is.added ++ kind_only 1 is.added) tells.ends last
-    (told_append is.graph path tells.signals (kind_only 0 is.added) tells.begins (kind_only 1 is.added) is.signals is.begins) is.ends in
     let read : map (note_in ts g) given ≡ map Some (map (push_all p) notes)
-    = ap (map (note_in ts g)) messages ∙ told_notes ts g is.graph path (tells.signals ++ tells.begins ++ tells.ends) notes is.along told in
+    = ap (map (note_in ts g)) messages ∙ told_notes ts g is.graph path (tells.signals ++ tells.begins ++ tells.ends) notes is.along (told_along ts depth k k' g input path tells is) in
     let third : kind_only 2 (map (push_all p) (last ++ is.added)) ≡ map (push_all p) last
     = kinds 2 ∙ ap (λ l. map (push_all p) (last ++ l)) is.none ∙ ap (map (push_all p)) (append-nil last) in
     let sorted : by_kind x (map (push_all p) (last ++ is.added)) ≡ map (push_all p) notes
@@ -87,6 +96,16 @@ given_root ts depth k k' g input path tells given well is messages = λ queue_of
     ∙ ap (λ l. l ++ map (push_all p) last) (sym (map-append (push_all p) (kind_only 0 is.added) (kind_only 1 is.added)))
     ∙ sym (map-append (push_all p) (kind_only 0 is.added ++ kind_only 1 is.added) last) in
     read ∙ ap (map Some) (sym sorted) ∙ ap (λ l. map Some (by_kind x l)) (sym came)
+
+-- and it names the root
+given_root : (ts : List Template) (depth : ℕ) (k k' : Known) (g : Graph) (input : Container) (path : Path) (tells : Told) (given : List Message) → Well ts depth g
+    → IsGivenAlong ts depth k k' g input path.parts path tells → given ≡ tells.signals ++ tells.begins ++ tells.ends → Gives path.root ts depth g input k k' given
+given_root ts depth k k' g input path tells given well is messages = record {
+  due = due_root ts depth k k' g input path tells given well is messages;
+  named = subst (AreOf path.root) (sym messages)
+      (told_roots is.graph path (tells.signals ++ tells.begins ++ tells.ends) (kind_only 0 is.added ++ kind_only 1 is.added ++ last_note path is.over)
+      (told_along ts depth k k' g input path tells is));
+}
 
 -- ---- messages
 
@@ -122,7 +141,7 @@ taken_given ts clock (Signal path from to v) g s s' given items takes = λ note 
 
     between : (h : Graph) → graph_along ts path.parts g ≡ Some h → (oa ob : Option ℕ) → place_of h to ≡ ob → (note : Note) → signal_between path.parts v oa ob ≡ Some note
         → (depth : ℕ) (k k' : Known) (input : Container) → Well ts depth g → Served ts depth g → Aimed ts depth g → IsCounted k → Comes ts depth k g input note k'
-        → Shows ts depth k g input s → Shows ts depth k' g input s' → GivesDue ts depth g input k k' given
+        → Shows ts depth k g input s → Shows ts depth k' g input s' → Gives path.root ts depth g input k k' given
     between h along None ob place note is depth k k' input well served aimed counted comes shows shown = let n : ⊥ = cc in absurd n
     between h along (Some a) None place note is depth k k' input well served aimed counted comes shows shown = let n : ⊥ = cc in absurd n
     between h along (Some a) (Some b) place note is depth k k' input well served aimed counted comes shows shown =
@@ -135,7 +154,7 @@ taken_given ts clock (Signal path from to v) g s s' given items takes = λ note 
 
     by : (o : Option Graph) → graph_along ts path.parts g ≡ o → (note : Note) → signal_in path.parts from to v (graph_along ts path.parts g) ≡ Some note
         → (depth : ℕ) (k k' : Known) (input : Container) → Well ts depth g → Served ts depth g → Aimed ts depth g → IsCounted k → Comes ts depth k g input note k'
-        → Shows ts depth k g input s → Shows ts depth k' g input s' → GivesDue ts depth g input k k' given
+        → Shows ts depth k g input s → Shows ts depth k' g input s' → Gives path.root ts depth g input k k' given
     by None along note is depth k k' input well served aimed counted comes shows shown = let wrong : None ≡ Some note = rw along at is in let n : ⊥ = cc in absurd n
     by (Some h) along note is depth k k' input well served aimed counted comes shows shown =
         between h along (place_of h from) (place_of h to) refl note (rw along at is) depth k k' input well served aimed counted comes shows shown
@@ -158,17 +177,17 @@ taken_given ts clock (End path) g s s' given items takes = λ note is depth k k'
 
 -- ---- completions
 
-pub completed_given : (ts : List Template) (clock root : ℕ) (item : List Part) (c : Completed) (g : Graph) (s s' : ScopeState) (given : List Message) (items : List Path)
-    → ((around : List Part) (q : Part) → item ≡ around ++ q ∷ [] → Happens ts (record { root = root; parts = around }) clock (Completes q.name c) g s s' given items)
+pub completed_given : (ts : List Template) (clock : ℕ) (item : Path) (c : Completed) (g : Graph) (s s' : ScopeState) (given : List Message) (items : List Path)
+    → ((around : List Part) (q : Part) → item.parts ≡ around ++ q ∷ [] → Happens ts (record { root = item.root; parts = around }) clock (Completes q.name c) g s s' given items)
     → GivesCompleted ts g item c.output s given
-completed_given ts clock root item c g s s' given items happening = λ depth k k' input well served aimed counted comes shows.
-    let shown = completed_shown ts clock root item c g s s' given items happening depth k k' input well served counted comes shows in
+completed_given ts clock item c g s s' given items happening = λ depth k k' input well served aimed counted comes shows.
+    let shown = completed_shown ts clock item.root item.parts c g s s' given items happening depth k k' input well served counted comes shows in
     let around = comes.0 in
     let q = comes.1 in
     let happens = happening around q comes.2 in
     let most : ℕ = suc k.most in
     let enough = counted.enough in
-    let scope : Path = record { root = root; parts = around } in
+    let scope : Path = record { root = item.root; parts = around } in
     let larger = most_shows ts depth k most counted.items g input s well (counted_covers k counted) enough (omega arith) shows in
     let then_known : learnt (with_output q c.output) around (with_most most k) ≡ k' = output_most q c.output most around k ∙ sym comes.4 in
     let along = path_given ts (λ h t t'. IsUsable h → Receives ts scope clock (Completes q.name c) nothing happens.tells h t t')
@@ -177,10 +196,13 @@ completed_given ts clock root item c g s s' given items happening = λ depth k k
     complete_given ts d j h i t t' scope clock happens.tells q c well' served' aimed' may was after (receives (usable_of ts d h served')))
     around depth (with_most most k) g input s s' well served aimed (counted_most most k (omega arith) counted)
     (leads_ready ts q most around depth k g input well counted (omega arith) comes.3) larger (subst (λ j. Shows ts depth j g input s') (sym then_known) shown) happens.changes in
-    let gives : GivesDue ts depth g input (with_most most k) k' given
+    let gives : Gives item.root ts depth g input (with_most most k) k' given
     = given_root ts depth (with_most most k) k' g input scope happens.tells given well
     (subst (λ j. IsGivenAlong ts depth (with_most most k) j g input around scope happens.tells) then_known along) happens.messages in
-    λ queue_of.
-    gives queue_of
-    ∙ ap (λ old. map Some (by_kind (root_engine ts depth g input queue_of) (filter (λ m. not (has (root_engine ts depth g input queue_of) old m)) (due_in ts depth k' g input))))
-    (due_most ts depth k most counted.items g input well (counted_covers k counted) enough (omega arith))
+    record {
+      due = λ queue_of.
+          gives.due queue_of
+          ∙ ap (λ old. map Some (by_kind (root_engine ts depth g input queue_of) (filter (λ m. not (has (root_engine ts depth g input queue_of) old m)) (due_in ts depth k' g input))))
+          (due_most ts depth k most counted.items g input well (counted_covers k counted) enough (omega arith));
+      named = gives.named;
+    }

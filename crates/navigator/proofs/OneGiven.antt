@@ -43,7 +43,7 @@ grown_scopes next n (Nested n') grows = grows.scopes
 
 -- the BEGIN of an attempt is told
 pub told_begin : (g : Graph) (path : Path) (r : Part) → AreTold g path (Begin (below path r) ∷ []) (BeginNote (r ∷ []) ∷ [])
-told_begin g path r = (BeginNote (r ∷ []), [], refl, (r ∷ [], refl, refl), refl)
+told_begin g path r = (BeginNote (r ∷ []), [], refl, (r ∷ [], refl, refl, refl), refl)
 
 grown_none : (ts : List Template) (states states' : List ActivityState) (a : ℕ) → states' ≡ states → (x : ℕ) (y : Activity) (was now : ActivityState)
     → slice_get states x ≡ Some was → slice_get states' x ≡ Some now → Grown ts y was now (if x == a then None else None)

@@ -140,6 +140,6 @@ module _ (ts : List Template) (depth : ℕ) (k k' : Known) (g : Graph) (input : 
     where
       told_end : (b r : Bool) → AreTold g path (if b && not r then End path ∷ [] else []) (if r then [] else end_note b)
       told_end true true = refl
-      told_end true false = (EndNote [], [], refl, ([], sym (append-nil path.parts), refl), refl)
+      told_end true false = (EndNote [], [], refl, ([], sym (append-nil path.parts), refl, refl), refl)
       told_end false true = refl
       told_end false false = refl

@@ -44,13 +44,13 @@ module _ {T E : Type 0} (first : T → List Message) (second : T → List Path) 
       go (Ok x) is = λ g of. taken_given ts clock message g s s' (first x) (second x) (is g of)
       go (Err e) is = is
 
-  pub completed_result_given : (root : ℕ) (item : List Part) (c : Completed)
-      → IfOk r (λ x. (g : Graph) → graph_of ts t ≡ Some g → (around : List Part) (q : Part) → item ≡ around ++ q ∷ [] → Happens ts (record { root = root; parts = around }) clock (Completes q.name c) g s s' (first x) (second x))
+  pub completed_result_given : (item : Path) (c : Completed)
+      → IfOk r (λ x. (g : Graph) → graph_of ts t ≡ Some g → (around : List Part) (q : Part) → item.parts ≡ around ++ q ∷ [] → Happens ts (record { root = item.root; parts = around }) clock (Completes q.name c) g s s' (first x) (second x))
       → IfOk r (λ x. (g : Graph) → graph_of ts t ≡ Some g → GivesCompleted ts g item c.output s (first x))
-  completed_result_given root item c completes = go r completes
+  completed_result_given item c completes = go r completes
     where
       go : (q : Result T E)
-          → IfOk q (λ x. (g : Graph) → graph_of ts t ≡ Some g → (around : List Part) (p : Part) → item ≡ around ++ p ∷ [] → Happens ts (record { root = root; parts = around }) clock (Completes p.name c) g s s' (first x) (second x))
+          → IfOk q (λ x. (g : Graph) → graph_of ts t ≡ Some g → (around : List Part) (p : Part) → item.parts ≡ around ++ p ∷ [] → Happens ts (record { root = item.root; parts = around }) clock (Completes p.name c) g s s' (first x) (second x))
           → IfOk q (λ x. (g : Graph) → graph_of ts t ≡ Some g → GivesCompleted ts g item c.output s (first x))
-      go (Ok x) is = λ g of. completed_given ts clock root item c g s s' (first x) (second x) (is g of)
+      go (Ok x) is = λ g of. completed_given ts clock item c g s s' (first x) (second x) (is g of)
       go (Err e) is = is

@@ -1,5 +1,5 @@
 -- Messages that are told in a scope, against the notes of it: SIGNALs of an activity that has ended, BEGINs and ENDs.
-use Rattle.std.proofs.Common.{◌≡◌, ℕ, suc, ◌<◌, ◌==◌, Bool, true, false, if◌then◌else◌, List, [], ◌∷◌, ◌++◌, map, length, Option, Some, None, refl, ap, sym, ◌∙◌, inl, inr}
+use Rattle.std.proofs.Common.{◌≡◌, ℕ, zero, suc, ◌<◌, ◌==◌, Bool, true, false, if◌then◌else◌, List, [], ◌∷◌, ◌++◌, map, length, Option, Some, None, refl, ap, sym, ◌∙◌, subst, inl, inr}
 use Rattle.std.specs.Prelude.{slice_get, filter_map}
 use Rattle.std.specs.List.{filter}
 use Rattle.std.proofs.lemmas.Bool.Decides.{eqb_tells}
@@ -19,6 +19,7 @@ use Rattle.navigator.proofs.Merges.{Merges, merges_same, merges_all, merges_appe
 use Rattle.navigator.proofs.OneActivity.{ends_with}
 use Rattle.navigator.proofs.Places.{present}
 use Rattle.navigator.proofs.SameActivities.{Named, place_found}
+use Rattle.navigator.specs.Giving.{root_named, AreOf}
 use Rattle.navigator.specs.Reading.{place_of}
 use Rattle.navigator.specs.Showing.{graph_along, note_in}
 use Rattle.view_laws.specs.Messages.{Note, BeginNote, SignalNote, EndNote, push, note_of, notes}
@@ -28,9 +29,9 @@ use Rattle.view_laws.specs.Runs.{kind}
 
 -- a message of a scope is this note, from there
 abbrev pub IsTold : Graph → Path → Message → Note → Type 0
-IsTold g path (Begin p) n = (r : List Part) × (p.parts ≡ path.parts ++ r) × (n ≡ BeginNote r)
+IsTold g path (Begin p) n = (r : List Part) × (p.parts ≡ path.parts ++ r) × (n ≡ BeginNote r) × (p.root ≡ path.root)
 IsTold g path (Signal p from to v) n = (a : ℕ) × (b : ℕ) × (p ≡ path) × (place_of g from ≡ Some a) × (place_of g to ≡ Some b) × (n ≡ SignalNote [] a b v)
-IsTold g path (End p) n = (r : List Part) × (p.parts ≡ path.parts ++ r) × (n ≡ EndNote r)
+IsTold g path (End p) n = (r : List Part) × (p.parts ≡ path.parts ++ r) × (n ≡ EndNote r) × (p.root ≡ path.root)
 
 -- so are all of a list
 abbrev pub AreTold : Graph → Path → List Message → List Note → Type 0
@@ -71,6 +72,18 @@ told_note ts g h path (Signal p from to v) n along is =
     rw (here, is.3, is.4) (ap (λ (q : Path). Some (SignalNote q.parts is.0 is.1 v)) is.2)
     ∙ ap Some (sym (signal_along path.parts is.0 is.1 v)) ∙ ap (λ m. Some (push_all path.parts m)) (sym is.5)
 told_note ts g h path (End p) n along is = ap (λ parts. Some (EndNote parts)) is.1 ∙ ap Some (sym (end_along path.parts is.0)) ∙ ap (λ m. Some (push_all path.parts m)) (sym is.2)
+
+-- it names the root of the scope
+told_root : (g : Graph) (path : Path) (m : Message) (n : Note) → IsTold g path m n → root_named m ≡ path.root
+told_root g path (Begin p) n is = is.3
+told_root g path (Signal p from to v) n is = ap (λ (q : Path). q.root) is.2
+told_root g path (End p) n is = is.3
+
+-- so do all of a list
+pub told_roots : (g : Graph) (path : Path) (ms : List Message) (ns : List Note) → AreTold g path ms ns → AreOf path.root ms
+told_roots g path [] ns is i m there = let n : ⊥ = cc in absurd n
+told_roots g path (m ∷ ms) ns is zero m' there = let same : m ≡ m' = cc in subst (λ x. root_named x ≡ path.root) same (told_root g path m is.0 is.3)
+told_roots g path (m ∷ ms) ns is (suc i) m' there = told_roots g path ms is.1 is.4 i m' there
 
 -- the messages by the places of their activities
 pub told_notes : (ts : List Template) (g h : Graph) (path : Path) (ms : List Message) (ns : List Note) → graph_along ts path.parts g ≡ Some h → AreTold h path ms ns

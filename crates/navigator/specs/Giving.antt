@@ -1,5 +1,5 @@
 -- What an event gives: the messages that came to be due by it.
-use Rattle.std.specs.Prelude.{◌≡◌, ℕ, not, Some, List, map}
+use Rattle.std.specs.Prelude.{◌≡◌, ℕ, not, Some, List, map, slice_get}
 use Rattle.std.specs.List.{filter}
 use Rattle.fate_laws.specs.WellFormed.{Well}
 use Rattle.flow_model.specs.Scopes.{Known}
@@ -7,7 +7,8 @@ use Rattle.flow_model.specs.declared.graphs.Container.{Container}
 use Rattle.flow_model.specs.declared.graphs.Graph.{Graph}
 use Rattle.flow_model.specs.declared.graphs.Template.{Template}
 use Rattle.flow_model.specs.declared.instances.Message.{Message}
-use Rattle.flow_model.specs.declared.instances.Part.{Part}
+use Rattle.flow_model.specs.declared.instances.Message.TheVariants.{Begin, Signal, End}
+use Rattle.flow_model.specs.declared.instances.Path.{Path}
 use Rattle.navigator.specs.Serving.{Served}
 use Rattle.navigator.specs.Showing.{note_in, IsCounted}
 use Rattle.navigator.specs.Views.{Shows}
@@ -35,22 +36,37 @@ GivesDue ts depth g input k k' given =
     → map (note_in ts g) given
     ≡ map Some (by_kind (root_engine ts depth g input queue_of) (came_due (root_engine ts depth g input queue_of) ts depth g input k k'))
 
+-- the root that a message names
+abbrev pub root_named : Message → ℕ
+root_named (Begin scope) = scope.root
+root_named (Signal scope from to v) = scope.root
+root_named (End scope) = scope.root
+
+-- all of these messages name this root
+abbrev pub AreOf : ℕ → List Message → Type 0
+AreOf root given = (i : ℕ) (m : Message) → slice_get given i ≡ Some m → root_named m ≡ root
+
+-- the messages came to be due, and name this root
+pub record Gives (root : ℕ) (ts : List Template) (depth : ℕ) (g : Graph) (input : Container) (k k' : Known) (given : List Message) : Type 0 where
+  pub due : GivesDue ts depth g input k k' given
+  pub named : AreOf root given
+
 -- ---- what an event gives
 
--- whatever is known: where the state shows it, what is given came to be due by the event
-abbrev pub GivesWhatCame : (ℕ → Known → Container → Known → Type 0) → List Template → Graph → ScopeState → List Message → Type 0
-GivesWhatCame comes ts g s given =
+-- whatever is known: where the state shows it, what is given came to be due by the event, and names this root
+abbrev pub GivesWhatCame : (ℕ → Known → Container → Known → Type 0) → ℕ → List Template → Graph → ScopeState → List Message → Type 0
+GivesWhatCame comes root ts g s given =
     (depth : ℕ) (k k' : Known) (input : Container) → Well ts depth g → Served ts depth g → Aimed ts depth g → IsCounted k → comes depth k input k'
-    → Shows ts depth k g input s → GivesDue ts depth g input k k' given
+    → Shows ts depth k g input s → Gives root ts depth g input k k' given
 
 -- a message that may come is taken
 abbrev pub GivesTaken : List Template → Graph → Message → ScopeState → List Message → Type 0
 GivesTaken ts g message s given =
-    (note : Note) → note_in ts g message ≡ Some note → GivesWhatCame (λ depth k input k'. Comes ts depth k g input note k') ts g s given
+    (note : Note) → note_in ts g message ≡ Some note → GivesWhatCame (λ depth k input k'. Comes ts depth k g input note k') (root_named message) ts g s given
 
 -- an item that may be completed is
-abbrev pub GivesCompleted : List Template → Graph → List Part → Container → ScopeState → List Message → Type 0
-GivesCompleted ts g item out s given = GivesWhatCame (λ depth k input k'. ComesOutput ts depth k g input item out k') ts g s given
+abbrev pub GivesCompleted : List Template → Graph → Path → Container → ScopeState → List Message → Type 0
+GivesCompleted ts g item out s given = GivesWhatCame (λ depth k input k'. ComesOutput ts depth k g input item.parts out k') item.root ts g s given
 
 -- ---- in a run
 

@@ -313,7 +313,7 @@ impl Instance {
         ensures kept { self.new ≡ record self.old { scope = self.new.scope } }
         ensures completes { IfOk result (λ given. (g : Process) → template_graph library.now.templates self.old.template ≡ Some g → (parts : Seq Step) → (q : Step) → item.now.parts ≡ parts ++ q ∷ [] → Happens library.now.templates (record { root = item.now.root; parts = parts }) clock (Completes q.name (record { output = output; performer = performer })) g self.old.scope self.new.scope given.0 given.1.items) }
         ensures shows { OnOk result ((g : Process) → template_graph library.now.templates self.old.template ≡ Some g → ShowsCompleted library.now.templates g item.now.parts output self.old.scope self.new.scope) }
-        ensures gives { IfOk result (λ given. (g : Process) → template_graph library.now.templates self.old.template ≡ Some g → GivesCompleted library.now.templates g item.now.parts output self.old.scope given.0) }
+        ensures gives { IfOk result (λ given. (g : Process) → template_graph library.now.templates self.old.template ≡ Some g → GivesCompleted library.now.templates g item.now output self.old.scope given.0) }
     {
         let with = Context {
             alloc,

@@ -22,6 +22,7 @@ use Rattle.library_laws.specs.Larger.{Agrees}
 use Rattle.navigator.proofs.OneChanged.{incoming_of, few_of}
 use Rattle.navigator.proofs.Untouched.{fresh_shows}
 use Rattle.navigator.specs.Driven.{IsServedRoot}
+use Rattle.navigator.specs.Giving.{root_named, AreOf, Gives}
 use Rattle.navigator.specs.Instances.{IsStarted}
 use Rattle.navigator.specs.Showing.{note_in}
 use Rattle.navigator.specs.Views.{Shows}
@@ -139,6 +140,23 @@ module _ (ts : List Template) (q : Note → ℕ) (h : List Event) (queued : Queu
     messages = right.messages;
   }
 
+  -- what a completion gives came to be due by it
+  gave_completed : (item : Path) (out : Container) (given : List Message) → i.terminated ≡ false → Awaits ts right.depth (seen h) right.graph right.input item.parts
+      → CompletesIn ts item out given i i'
+      → Gives item.root ts right.depth right.graph right.input (seen h) (seen (Completed (record { item = item; output = out }) ∷ h)) given
+  gave_completed item out given lives awaits completes =
+      let f : Fact = record { item = item; output = out } in
+      let runs : is_stopped h ≡ false = right.stopped ∙ lives in
+      let legal : IsLegal the_root q (Completed f ∷ h)
+      = record { fronts = (right.legal.fronts, λ m takes. absurd (none-some m takes)); awaited = (right.legal.awaited, runs, awaits) } in
+      completes.gives right.graph right.process right.depth (seen h) (seen (Completed f ∷ h)) right.input right.served.well right.served.served right.served.aimed (counted_run h)
+      (output_comes the_root q right.served f h legal runs) (shows_now runs)
+
+  -- and names its root
+  pub completes_named : (item : Path) (out : Container) (given : List Message) → i.terminated ≡ false → Awaits ts right.depth (seen h) right.graph right.input item.parts
+      → CompletesIn ts item out given i i' → AreOf item.root given
+  completes_named item out given lives awaits completes = (gave_completed item out given lives awaits completes).named
+
   pub completes_right : (queue_of : Message → ℕ) (item : Path) (out : Container) (given : List Message) → i.terminated ≡ false
       → Awaits ts right.depth (seen h) right.graph right.input item.parts → CompletesIn ts item out given i i' → AgreesOn ts right.graph queue_of q given
       → IsRight ts q (Completed (record { item = item; output = out }) ∷ h) (after_put queue_of given queued) i'
@@ -149,17 +167,15 @@ module _ (ts : List Template) (q : Note → ℕ) (h : List Event) (queued : Queu
       = record { fronts = (right.legal.fronts, λ m takes. absurd (none-some m takes)); awaited = (right.legal.awaited, runs, awaits) } in
       let on : running (Completed f ∷ h) ≡ Completed f ∷ h = running_is (Completed f ∷ h) runs in
       let comes = output_comes the_root q right.served f h legal runs in
-      let gave = completes.gives right.graph right.process right.depth (seen h) (seen (Completed f ∷ h)) right.input right.served.well right.served.served right.served.aimed (counted_run h) comes
-      (shows_now runs) in
       next_right (Completed f) (after_put queue_of given queued) completes.kept refl refl legal
       (subst (λ (a : List Event). Shows ts right.depth (seen a) right.graph right.input i'.scope) (sym on)
       (completes.shows right.graph right.process right.depth (seen h) (seen (Completed f ∷ h)) right.input right.served.well right.served.served (counted_run h) comes (shows_now runs)))
       (queued_put the_root q right.served queue_of given agrees (Completed f) h queued legal.fronts refl
-      (gives_put the_root h (Completed f) given right.started runs on gave q) right.messages)
+      (gives_put the_root h (Completed f) given right.started runs on (gave_completed item out given lives awaits completes).due q) right.messages)
 
   -- ---- turns
 
-  module _ (queue_of : Message → ℕ) (n : ℕ) (message : Message) (given : List Message) (agrees : AgreesOn ts right.graph queue_of q given) (takes : TakesIn ts message given i i')
+  module _ (n : ℕ) (message : Message) (given : List Message) (takes : TakesIn ts message given i i')
       (note : Note) (is : note_in ts right.graph message ≡ Some note) (front : first (queue (engine the_root q) h n) ≡ Some note) where
     legal_turn : IsLegal the_root q (Turned note ∷ h)
     legal_turn = record {
@@ -167,19 +183,30 @@ module _ (ts : List Template) (q : Note → ℕ) (h : List Event) (queued : Queu
       awaited = right.legal.awaited;
     }
 
-    turns : (b : Bool) → i.terminated ≡ b → IsRight ts q (Turned note ∷ h) (after_put queue_of given (after_taken n queued)) i'
-    turns false lives =
+    -- what a turn gives came to be due by it
+    gave_turned : i.terminated ≡ false → Gives (root_named message) ts right.depth right.graph right.input (seen h) (seen (Turned note ∷ h)) given
+    gave_turned lives =
+        let runs : is_stopped h ≡ false = right.stopped ∙ lives in
+        takes.gives lives right.graph right.process note is right.depth (seen h) (seen (Turned note ∷ h)) right.input right.served.well right.served.served right.served.aimed (counted_run h)
+        (turn_comes the_root q right.served note h legal_turn runs) (shows_now runs)
+
+    -- and names its root
+    named : (b : Bool) → i.terminated ≡ b → AreOf (root_named message) given
+    named false lives = (gave_turned lives).named
+    named true dead = subst (AreOf (root_named message)) (sym (takes.idle dead).1) (λ k m there. absurd (none-some m there))
+
+    turns : (queue_of : Message → ℕ) → AgreesOn ts right.graph queue_of q given → (b : Bool) → i.terminated ≡ b
+        → IsRight ts q (Turned note ∷ h) (after_put queue_of given (after_taken n queued)) i'
+    turns queue_of agrees false lives =
         let runs : is_stopped h ≡ false = right.stopped ∙ lives in
         let on : running (Turned note ∷ h) ≡ Turned note ∷ h = running_is (Turned note ∷ h) runs in
         let comes = turn_comes the_root q right.served note h legal_turn runs in
-        let gave = takes.gives lives right.graph right.process note is right.depth (seen h) (seen (Turned note ∷ h)) right.input right.served.well right.served.served right.served.aimed (counted_run h) comes
-        (shows_now runs) in
         next_right (Turned note) (after_put queue_of given (after_taken n queued)) takes.kept refl refl legal_turn
         (subst (λ (a : List Event). Shows ts right.depth (seen a) right.graph right.input i'.scope) (sym on)
         (takes.shows lives right.graph right.process note is right.depth (seen h) (seen (Turned note ∷ h)) right.input right.served.well right.served.served (counted_run h) comes (shows_now runs)))
         (queued_taken the_root q right.served queue_of given agrees note h queued n legal_turn.fronts front
-        (gives_put the_root h (Turned note) given right.started runs on gave q) right.messages)
-    turns true dead =
+        (gives_put the_root h (Turned note) given right.started runs on (gave_turned lives).due q) right.messages)
+    turns queue_of agrees true dead =
         let same : running (Turned note ∷ h) ≡ running h = stopped_run (Turned note) h (right.stopped ∙ dead) in
         let idle = takes.idle dead in
         let nothing : put (engine the_root q) (Turned note) h ≡ [] = puts_nothing the_root q (Turned note) h (ap (due_now the_root) same) in
@@ -188,12 +215,18 @@ module _ (ts : List Template) (q : Note → ℕ) (h : List Event) (queued : Queu
         (queued_taken the_root q right.served queue_of given agrees note h queued n legal_turn.fronts front
         (ap (map (note_in ts right.graph)) idle.1 ∙ ap (map Some) (sym nothing)) right.messages)
 
+  -- a message of the queue is one of the run, and what its turn gives names its root
+  pub turns_named : (n : ℕ) (message : Message) (given : List Message) → slice_get (queued n) 0 ≡ Some message → TakesIn ts message given i i' → AreOf (root_named message) given
+  turns_named n message given there takes =
+      let found = front_stands (note_in ts right.graph) (queued n) (queue (engine the_root q) h n) message (right.messages n) there in
+      named n message given takes found.0 found.1 found.2 i.terminated refl
+
   pub turns_right : (queue_of : Message → ℕ) (n : ℕ) (message : Message) (given : List Message) → slice_get (queued n) 0 ≡ Some message
       → TakesIn ts message given i i' → AgreesOn ts right.graph queue_of q given
       → (note : Note) × (note_in ts right.graph message ≡ Some note) × IsRight ts q (Turned note ∷ h) (after_put queue_of given (after_taken n queued)) i'
   turns_right queue_of n message given there takes agrees =
       let found = front_stands (note_in ts right.graph) (queued n) (queue (engine the_root q) h n) message (right.messages n) there in
-      (found.0, found.1, turns queue_of n message given agrees takes found.0 found.1 found.2 i.terminated refl)
+      (found.0, found.1, turns n message given takes found.0 found.1 found.2 queue_of agrees i.terminated refl)
 
 -- so it is where each queue is written in another way
 pub requeued : (ts : List Template) (q : Note → ℕ) (h : List Event) (queued queued' : Queued) (i : Instance) → ((n : ℕ) → queued' n ≡ queued n)

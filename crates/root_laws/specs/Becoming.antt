@@ -21,7 +21,7 @@ pub record TakesIn (ts : List Template) (message : Message) (given : List Messag
 pub record CompletesIn (ts : List Template) (item : Path) (out : Container) (given : List Message) (i i' : Instance) : Type 0 where
   pub kept : i' ≡ record i { scope = i'.scope }
   pub shows : (g : Graph) → graph_of ts i.template ≡ Some g → ShowsCompleted ts g item.parts out i.scope i'.scope
-  pub gives : (g : Graph) → graph_of ts i.template ≡ Some g → GivesCompleted ts g item.parts out i.scope given
+  pub gives : (g : Graph) → graph_of ts i.template ≡ Some g → GivesCompleted ts g item out i.scope given
 
 -- an item of it is held, or given back
 pub record HoldsIn (ts : List Template) (i i' : Instance) : Type 0 where

@@ -16,6 +16,7 @@ use Rattle.flow_model.specs.declared.instances.Phase.TheVariants.{Ended}
 use Rattle.flow_model.specs.declared.names.Name.{Name}
 use Rattle.library_laws.specs.Larger.{Agrees}
 use Rattle.navigator.specs.Driven.{IsServedRoot}
+use Rattle.navigator.specs.Giving.{root_named, AreOf}
 use Rattle.navigator.specs.Instances.{IsStarted}
 use Rattle.navigator.specs.Items.{Entry, stand, entry_at, phase_of}
 use Rattle.navigator.specs.Showing.{note_in}
@@ -71,6 +72,18 @@ CompletesRight =
     → (right : IsRight ts q h queued i) → i.terminated ≡ false
     → Awaits ts right.depth (seen h) right.graph right.input item.parts → CompletesIn ts item out given i i' → AgreesOn ts right.graph queue_of q given
     → IsRight ts q (Completed (record { item = item; output = out }) ∷ h) (after_put queue_of given queued) i'
+
+-- what it gives then names its root, as that of its message or item
+abbrev pub TurnsNamed : Type 0
+TurnsNamed =
+    (ts : List Template) (q : Note → ℕ) (h : List Event) (queued : Queued) (i i' : Instance) (n : ℕ) (message : Message) (given : List Message)
+    → IsRight ts q h queued i → slice_get (queued n) 0 ≡ Some message → TakesIn ts message given i i' → AreOf (root_named message) given
+
+abbrev pub CompletesNamed : Type 0
+CompletesNamed =
+    (ts : List Template) (q : Note → ℕ) (h : List Event) (queued : Queued) (i i' : Instance) (item : Path) (out : Container) (given : List Message)
+    → (right : IsRight ts q h queued i) → i.terminated ≡ false → Awaits ts right.depth (seen h) right.graph right.input item.parts
+    → CompletesIn ts item out given i i' → AreOf item.root given
 
 -- it stays right in a larger library
 abbrev pub ImportsRight : Type 0

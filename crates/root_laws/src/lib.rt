@@ -12,6 +12,7 @@ mod right;
 mod said;
 
 pub use right::{
-    completes_right, holds_right, imports_right, mode_right, starts_right, stops_right, turns_right,
+    completes_named, completes_right, holds_right, imports_right, mode_right, starts_right,
+    stops_right, turns_named, turns_right,
 };
 pub use said::{open_items_are_awaited, quiet_roots_are_whole, right_roots_are_sound};

@@ -5,6 +5,8 @@ ghost use Rattle.root_laws.specs.Laws.{
   ModeRight,
   TurnsRight,
   CompletesRight,
+  TurnsNamed,
+  CompletesNamed,
   ImportsRight,
 };
 
@@ -36,6 +38,16 @@ pub fn turns_right()
 /// A root stays right when an item of it is completed.
 pub fn completes_right()
     ensures { CompletesRight }
+{}
+
+/// What a root gives when it takes a message names the root of the message.
+pub fn turns_named()
+    ensures { TurnsNamed }
+{}
+
+/// What a root gives when an item of it is completed names the root of the item.
+pub fn completes_named()
+    ensures { CompletesNamed }
 {}
 
 /// A root stays right in a larger library.
