@@ -6,4 +6,6 @@ pub mod Naming
 pub mod Judging
 pub mod Listing
 pub mod Laying
+pub mod Calling
+pub mod ProcessNames
 pub mod Together

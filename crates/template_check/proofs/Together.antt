@@ -22,7 +22,7 @@ use Rattle.template_check.proofs.Listing.{judged_blocks}
 use Rattle.view_laws.specs.NextEvents.{IsAimed, Aimed}
 
 -- the graph of a template of the list
-template_sound : (ts : List Template) (t : ℕ) (h : Graph) → AreSound ts → graph_of ts t ≡ Some h → IsSoundAlone h
+template_sound : (ts : List Template) (t : ℕ) (h : Graph) → All (λ u. IsSoundAlone u.graph) ts → graph_of ts t ≡ Some h → IsSoundAlone h
 template_sound [] t h all is = cc
 template_sound (x ∷ xs) zero h all is = let same : x.graph ≡ h = cc in subst IsSoundAlone same (all 0 x (omega arith))
 template_sound (x ∷ xs) (suc t) h all is = template_sound xs t h (λ k d less. all (suc k) d (omega arith)) is
@@ -80,7 +80,7 @@ module _ (ts : List Template) (all : AreSound ts) where
       by_work : (w : Work) (h : Graph) → (graph_in [] w ≡ Some h → IsSoundAlone h) → graph_in ts w ≡ Some h → IsSoundAlone h
       by_work (Program p) h alone is = cc
       by_work (Block' p g) h alone is = alone is
-      by_work (Process k) h alone is = template_sound ts k h all is
+      by_work (Process k) h alone is = template_sound ts k h all.alone is
 
   runs_sound : (g : Graph) → IsSoundAlone g → (a : ℕ) → OfInside ts IsSoundAlone (slice_get (out-Graph g).activities a)
   runs_sound g alone a = run_sound (slice_get (out-Graph g).activities a) (λ depth. (alone (suc depth)).inside a)
@@ -96,13 +96,13 @@ module _ (ts : List Template) (all : AreSound ts) where
   }
 
   pub laid_together : (depth : ℕ) → All (λ t. Laid ts depth t.graph) ts
-  laid_together depth = λ k d less. let g = (get_or ts k d).graph in sound_laid ts depth g (sound_with depth g (all k d less))
+  laid_together depth = λ k d less. let g = (get_or ts k d).graph in sound_laid ts depth g (sound_with depth g (all.alone k d less))
 
   pub well_together : (depth : ℕ) → All (λ t. Well ts depth t.graph) ts
-  well_together depth = λ k d less. let g = (get_or ts k d).graph in sound_well ts depth g (sound_with depth g (all k d less))
+  well_together depth = λ k d less. let g = (get_or ts k d).graph in sound_well ts depth g (sound_with depth g (all.alone k d less))
 
   pub aimed_together : (depth : ℕ) → All (λ t. Aimed ts depth t.graph) ts
-  aimed_together depth = λ k d less. let g = (get_or ts k d).graph in sound_aimed ts depth g (sound_with depth g (all k d less))
+  aimed_together depth = λ k d less. let g = (get_or ts k d).graph in sound_aimed ts depth g (sound_with depth g (all.alone k d less))
 
 -- where the rules find nothing in the graphs of a text, its processes are sound
 pub sound_text : (scopes : List Scope) (processes : List ProcessTree) → All (λ s. AreNamesApart s.elements.now) scopes → All (λ s. IsConnected s.elements.now) scopes

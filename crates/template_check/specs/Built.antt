@@ -19,6 +19,7 @@ use Rattle.flow_model.specs.declared.trees.EndTree.TheVariants as tree
 use Rattle.flow_model.specs.declared.trees.ProcessTree.{ProcessTree}
 use Rattle.graph_check.specs.Walks.{Reaches}
 use Rattle.template_check.specs.Blocks.{IsBlockOf, JudgedTo}
+use Rattle.template_check.specs.Calling.{AreOrdered}
 use Rattle.template_check.specs.Texts.{activities_in, number_in, edges_in, AllDiffer, IsLimited}
 use Rattle.template_check.specs.Wires.{IsEndBelow}
 use Rattle.template_check.specs.declared.scopes.Scope.{Scope}
@@ -63,9 +64,14 @@ IsSoundAlone g = (depth : ℕ) → SoundTo [] depth g
 abbrev pub IsSoundWork : Work → Type 0
 IsSoundWork work = (g : Graph) → graph_in [] work ≡ Some g → IsSoundAlone g
 
--- each template is sound, but for the processes that it runs
+-- templates are sound behind so many others: each but for the processes that it runs, and those stand before it
+pub record AreSoundBehind (before : ℕ) (ts : List Template) : Type 0 where
+  pub alone : All (λ t. IsSoundAlone t.graph) ts
+  pub ordered : AreOrdered before ts
+
+-- the templates of a library are sound
 abbrev pub AreSound : List Template → Type 0
-AreSound ts = All (λ t. IsSoundAlone t.graph) ts
+AreSound ts = AreSoundBehind 0 ts
 
 -- a graph of a text and those inside it are sound
 abbrev pub IsSound : List ElementTree → Type 0

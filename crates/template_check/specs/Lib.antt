@@ -5,5 +5,7 @@ pub mod Meeting
 pub mod GraphEdges
 pub mod Blocks
 pub mod Wires
+pub mod Calling
 pub mod Built
 pub mod Passed
+pub mod Compiling

@@ -2,6 +2,8 @@
 ghost use Rattle.std.specs.Prelude.{◌≡◌, ◌<◌, length, map, IfOk, IfSome};
 ghost use Rattle.std.specs.List.{All};
 ghost use Rattle.template_check.specs.Built.{end_in, IsDrawn, IsSound, IsSoundAlone, IsSoundInside, IsSoundWork};
+ghost use Rattle.template_check.specs.Calling.{place_behind, IsCalling, IsCallingWork};
+ghost use Rattle.template_check.specs.declared.building.BuildFault.TheVariants.{NoMemory};
 ghost use Rattle.template_check.specs.Texts.{activities_in, names_in, lines_in, edges_in, IsLineAlong};
 ghost use Rattle.template_check.specs.Wires.{pairs_of};
 
@@ -19,7 +21,35 @@ use flow_model::{
     MapEnd, NameAt, PersonDef, PersonTree, ProcessTree, Program, Template, When, WhenTree, Work,
     WorkTree,
 };
-use std::alloc::{AllocError, Global};
+use std::alloc::{AllocError, AllocFailed, Global};
+use thiserror::Error;
+
+/// Why an accepted text isn't built.
+#[derive(Clone, Copy, Debug, PartialEq, Eq, Drop, Error)]
+pub enum BuildFault {
+    /// The name at this place is that of a process that isn't there yet.
+    #[error("UnknownProcess")]
+    UnknownProcess(u32),
+    /// There was no memory for it.
+    #[error("NoMemory")]
+    NoMemory,
+}
+
+impl From<AllocError> for BuildFault {
+    ghost from_gives = { λ _ e. e ≡ NoMemory };
+
+    fn from(_fault: AllocError) -> BuildFault {
+        BuildFault::NoMemory
+    }
+}
+
+impl<T: Drop> From<AllocFailed<T>> for BuildFault {
+    ghost from_gives = { λ _ e. e ≡ NoMemory };
+
+    fn from(_fault: AllocFailed<T>) -> BuildFault {
+        BuildFault::NoMemory
+    }
+}
 
 /// What building rests on: the structures with their leaves, and what names stand for.
 #[derive(Drop)]
@@ -122,14 +152,16 @@ impl<'a> Builder<'a> {
     }
 
     /// The place in the library of the process that an activity runs.
-    fn callee(&self, process: u32, name: &'a NameAt) -> u32 {
+    fn callee(&self, process: u32, name: &'a NameAt) -> Result<u32, BuildFault>
+        ensures { IfOk result (λ place. place < place_behind self.now.known.catalog.now process) }
+    {
         match self.known.callee(process, name) {
-            Some(Callee::Library(place)) => place,
+            Some(Callee::Library(place)) => Ok(place),
             Some(Callee::Text(number)) => {
                 let earlier = small(self.known.catalog().library().templates.len());
-                earlier.saturating_add(number)
+                Ok(earlier.saturating_add(number))
             }
-            None => 0,
+            None => Err(BuildFault::UnknownProcess(name.place)),
         }
     }
 
@@ -249,13 +281,14 @@ impl<'a> Builder<'a> {
     }
 
     #[cycle(building)]
-    fn work(&self, scope: &Scope<'a>, activity: &'a ActivityTree) -> Result<Work, AllocError>
+    fn work(&self, scope: &Scope<'a>, activity: &'a ActivityTree) -> Result<Work, BuildFault>
         requires { IsSoundInside activity.now }
-        ensures { IfOk result IsSoundWork }
+        ensures sound { IfOk result IsSoundWork }
+        ensures calls { IfOk result (IsCallingWork (place_behind self.now.known.catalog.now scope.now.process)) }
     {
         match &activity.work {
             WorkTree::Program => Ok(Work::Program(self.program(scope, activity)?)),
-            WorkTree::Process(name) => Ok(Work::Process(self.callee(scope.process, name))),
+            WorkTree::Process(name) => Ok(Work::Process(self.callee(scope.process, name)?)),
             WorkTree::Block(elements) => {
                 let (input, output) = (&activity.input, &activity.output);
                 let elements = elements.as_slice();
@@ -270,10 +303,11 @@ impl<'a> Builder<'a> {
         &self,
         scope: &Scope<'a>,
         activity: &'a ActivityTree,
-    ) -> Result<Activity, AllocError>
+    ) -> Result<Activity, BuildFault>
         requires { IsSoundInside activity.now }
         ensures named { IfOk result (λ built. built.name ≡ activity.now.name.name) }
         ensures sound { IfOk result (λ built. IsSoundWork built.work) }
+        ensures calls { IfOk result (λ built. IsCallingWork (place_behind self.now.known.catalog.now scope.now.process) built.work) }
     {
         let structures = self.table.structures();
         Ok(Activity {
@@ -291,10 +325,11 @@ impl<'a> Builder<'a> {
         &self,
         scope: &Scope<'a>,
         elements: &'a [ElementTree],
-    ) -> Result<List<Activity>, AllocError>
+    ) -> Result<List<Activity>, BuildFault>
         requires { All IsSoundInside (activities_in elements.now) }
         ensures named { IfOk result (λ built. map (λ a. a.name) built ≡ names_in elements.now) }
         ensures sound { IfOk result (All (λ built. IsSoundWork built.work)) }
+        ensures calls { IfOk result (All (λ built. IsCallingWork (place_behind self.now.known.catalog.now scope.now.process) built.work)) }
     {
         let mut activities = List::new(self.alloc);
         for element in elements {
@@ -317,9 +352,10 @@ impl<'a> Builder<'a> {
         input: &'a NameAt,
         output: &'a NameAt,
         elements: &'a [ElementTree],
-    ) -> Result<Graph, AllocError>
+    ) -> Result<Graph, BuildFault>
         requires { IsSound elements.now }
-        ensures { IfOk result IsSoundAlone }
+        ensures sound { IfOk result IsSoundAlone }
+        ensures calls { IfOk result (IsCalling (place_behind self.now.known.catalog.now process)) }
     {
         let scope = Scope::new(self.alloc, process, place, input, output, elements)?;
         let activities = self.activities(&scope, elements)?;
@@ -351,9 +387,11 @@ impl<'a> Builder<'a> {
         number: u32,
         process: &'a ProcessTree,
         shape: Shape,
-    ) -> Result<Template, AllocError>
+    ) -> Result<Template, BuildFault>
         requires { IsSound process.now.elements }
-        ensures { IfOk result (λ template. IsSoundAlone template.graph) }
+        ensures named { IfOk result (λ template. template.name ≡ process.now.name.name) }
+        ensures sound { IfOk result (λ template. IsSoundAlone template.graph) }
+        ensures calls { IfOk result (λ template. IsCalling (place_behind self.now.known.catalog.now number) template.graph) }
     {
         let (input, output) = (&process.input, &process.output);
         let elements = process.elements.as_slice();

@@ -1,12 +1,13 @@
 //! The rules in their order, and what an accepted text compiles to.
-ghost use Rattle.std.specs.Prelude.{◌≡◌, None, IfOk};
+ghost use Rattle.std.specs.Prelude.{◌≡◌, None, length, IfOk};
 ghost use Rattle.std.specs.List.{All};
 ghost use Rattle.template_check.specs.Blocks.{lists_of, IsCovered};
-ghost use Rattle.template_check.specs.Built.{AreSound, AreSoundWithin, IsSound};
+ghost use Rattle.template_check.specs.Built.{AreSoundBehind, AreSoundWithin, IsSound};
+ghost use Rattle.template_check.specs.Compiling.{AreBuilt, HasTree, IsNamedBy};
 ghost use Rattle.template_check.specs.Passed.{IsPassed};
 ghost use Rattle.template_check.specs.Texts.{lines_in, processes_in, AreNamesApart, IsConnected, IsLimited, IsLineAlong};
 
-use crate::building::Builder;
+use crate::building::{BuildFault, Builder};
 use crate::catalog::Catalog;
 use crate::connectors::{
     cycle, double_connector, empty_graph, otherwise, unknown_activity, unreachable_data,
@@ -16,7 +17,7 @@ use crate::least::lesser;
 use crate::members::{LeafTable, Search, leaf_fault};
 use crate::names::{duplicate, end_name};
 use crate::people::{Known, container_mismatch, performer, unknown_person, unknown_process};
-use crate::scopes::{Scope, small};
+use crate::scopes::{Scope, narrow, small};
 use crate::sizes::{Shape, count_limit, expanded_size, nesting, number, shapes};
 use crate::structures::Structures;
 use crate::text_graphs::text_scopes;
@@ -50,7 +51,9 @@ fn fault(text: &[u8], rule: u8, place: u32) -> ImportFault {
 }
 
 /// The tree of a text; else the first of rules 1, 2 and 3 that is broken, or rule 24 of a text that is too long.
-pub fn syntax_tree(alloc: Global, text: &[u8]) -> Result<Tree, ImportFault> {
+pub fn syntax_tree(alloc: Global, text: &[u8]) -> Result<Tree, ImportFault>
+    ensures { IfOk result (HasTree text.now) }
+{
     if text.len() > MOST_BYTES {
         return Err(fault(text, 24, 0));
     }
@@ -268,12 +271,16 @@ fn sized_and_built<'a>(
     scopes: &[Scope<'a>],
 ) -> Result<Result<Compiled, (u8, u32)>, AllocError>
     requires { AreSoundWithin scopes.now (processes_in tree.now.items) }
-    ensures { IfOk result (λ judged. IfOk judged (λ compiled. AreSound compiled.templates)) }
+    ensures { IfOk result (λ judged. IfOk judged (λ compiled. AreBuilt (length builder.now.known.catalog.now.library.templates) tree.now.items compiled.templates)) }
 {
     let structures = builder.table.structures();
     match first_sizes(builder.alloc, structures, &builder.known, shapes, scopes)? {
         Some(fault) => Ok(Err(fault)),
-        None => Ok(Ok(built(builder, tree, shapes)?)),
+        None => match built(builder, tree, shapes) {
+            Ok(compiled) => Ok(Ok(compiled)),
+            Err(BuildFault::UnknownProcess(place)) => Ok(Err((17, place))),
+            Err(BuildFault::NoMemory) => Err(AllocError),
+        },
     }
 }
 
@@ -286,7 +293,7 @@ fn shaped_and_built<'a>(
     earlier: &'a Catalog,
 ) -> Result<Result<Compiled, (u8, u32)>, AllocError>
     requires { AreSoundWithin scopes.now (processes_in tree.now.items) }
-    ensures { IfOk result (λ judged. IfOk judged (λ compiled. AreSound compiled.templates)) }
+    ensures { IfOk result (λ judged. IfOk judged (λ compiled. AreBuilt (length earlier.now.library.templates) tree.now.items compiled.templates)) }
 {
     let known = Known::new(alloc, tree, earlier)?;
     if let Some(fault) = first_people(alloc, &known, &table, scopes)? {
@@ -312,7 +319,7 @@ fn judged_and_built<'a>(
     requires covered { All (λ p. IsCovered (lists_of scopes.now) p.elements) (processes_in tree.now.items) }
     requires named { All (λ s. AreNamesApart s.elements.now) scopes.now }
     requires connected { All (λ s. IsConnected s.elements.now) scopes.now }
-    ensures { IfOk result (λ judged. IfOk judged (λ compiled. AreSound compiled.templates)) }
+    ensures { IfOk result (λ judged. IfOk judged (λ compiled. AreBuilt (length earlier.now.library.templates) tree.now.items compiled.templates)) }
 {
     let table = LeafTable::new(alloc, structures, scopes)?;
     match first_members(alloc, &table, scopes)? {
@@ -326,9 +333,9 @@ fn built<'a>(
     builder: &Builder<'a>,
     tree: &'a Tree,
     shapes: &[Shape],
-) -> Result<Compiled, AllocError>
+) -> Result<Compiled, BuildFault>
     requires { All (λ p. IsSound p.elements) (processes_in tree.now.items) }
-    ensures { IfOk result (λ compiled. AreSound compiled.templates) }
+    ensures { IfOk result (λ compiled. AreBuilt (length builder.now.known.catalog.now.library.templates) tree.now.items compiled.templates) }
 {
     let mut templates = List::new(builder.alloc);
     let mut people = List::new(builder.alloc);
@@ -339,7 +346,7 @@ fn built<'a>(
             ItemTree::Process(process) => {
                 let number = templates.len();
                 let shape = shape_of(shapes, number);
-                let template = builder.template(small(number), process, shape)?;
+                let template = builder.template(narrow(number)?, process, shape)?;
                 templates.push(template)?;
             }
         }
@@ -363,7 +370,7 @@ fn connected_and_built<'a>(
 ) -> Result<Result<Compiled, (u8, u32)>, AllocError>
     requires covered { All (λ p. IsCovered (lists_of scopes.now) p.elements) (processes_in tree.now.items) }
     requires named { All (λ s. AreNamesApart s.elements.now) scopes.now }
-    ensures { IfOk result (λ judged. IfOk judged (λ compiled. AreSound compiled.templates)) }
+    ensures { IfOk result (λ judged. IfOk judged (λ compiled. AreBuilt (length earlier.now.library.templates) tree.now.items compiled.templates)) }
 {
     match first_connectors(alloc, scopes)? {
         Some(fault) => Ok(Err(fault)),
@@ -377,7 +384,7 @@ fn compile_tree(
     tree: &Tree,
     earlier: &Catalog,
 ) -> Result<Result<Compiled, (u8, u32)>, AllocError>
-    ensures { IfOk result (λ judged. IfOk judged (λ compiled. AreSound compiled.templates)) }
+    ensures { IfOk result (λ judged. IfOk judged (λ compiled. AreBuilt (length earlier.now.library.templates) tree.now.items compiled.templates)) }
 {
     let scopes = text_scopes(alloc, tree)?;
     let mut structures = Structures::new(alloc, tree)?;
@@ -391,7 +398,8 @@ fn compile_tree(
 ///
 /// `Rule` comes exactly where it breaks a rule: the least rule, and then the least place.
 pub fn compile(alloc: Global, text: &[u8], earlier: &Catalog) -> Result<Compiled, ImportFault>
-    ensures { IfOk result (λ compiled. AreSound compiled.templates) }
+    ensures sound { IfOk result (λ compiled. AreSoundBehind (length earlier.now.library.templates) compiled.templates) }
+    ensures named { IfOk result (λ compiled. IsNamedBy text.now compiled.templates) }
 {
     let tree = syntax_tree(alloc, text)?;
     match compile_tree(alloc, &tree, earlier)? {

@@ -1,4 +1,7 @@
 //! Rules 17 to 20: the processes and the people that activities name.
+ghost use Rattle.std.specs.Prelude.{◌≡◌, ℕ, IfOk, IfSome};
+ghost use Rattle.template_check.specs.Calling.{IsBefore};
+
 use crate::catalog::Catalog;
 use crate::least::lesser;
 use crate::members::LeafTable;
@@ -28,11 +31,9 @@ pub struct Known<'a> {
 }
 
 impl<'a> Known<'a> {
-    pub fn new(
-        alloc: Global,
-        tree: &'a Tree,
-        catalog: &'a Catalog,
-    ) -> Result<Known<'a>, AllocError> {
+    pub fn new(alloc: Global, tree: &'a Tree, catalog: &'a Catalog) -> Result<Known<'a>, AllocError>
+        ensures { IfOk result (λ known. known.catalog.now ≡ catalog.now) }
+    {
         let mut known = Known {
             catalog,
             processes: Vec::new(alloc),
@@ -45,7 +46,9 @@ impl<'a> Known<'a> {
         Ok(known)
     }
 
-    fn add(&mut self, item: &'a ItemTree) -> Result<(), AllocError> {
+    fn add(&mut self, item: &'a ItemTree) -> Result<(), AllocError>
+        ensures { self.new.catalog ≡ self.old.catalog }
+    {
         match item {
             ItemTree::Structure(_) => Ok(()),
             ItemTree::Person(person) => {
@@ -67,20 +70,30 @@ impl<'a> Known<'a> {
     }
 
     /// The library of earlier imports.
-    pub fn catalog(&self) -> &'a Catalog {
+    pub fn catalog(&self) -> &'a Catalog
+        ensures { result.now ≡ self.now.catalog.now }
+    {
         self.catalog
     }
 
     /// What an activity in the process of this number runs: a process that stands before it in the text,
     /// else the newest version that was imported earlier.
-    pub fn callee(&self, process: u32, name: &'a NameAt) -> Option<Callee> {
+    pub fn callee(&self, process: u32, name: &'a NameAt) -> Option<Callee>
+        ensures { IfSome result (IsBefore self.now.catalog.now process) }
+    {
         match self.numbers.get(&name.name.as_slice()).copied() {
             Some(number) if number < process => Some(Callee::Text(number)),
-            _ => {
-                let place = self.catalog.newest(&name.name)?;
-                Some(Callee::Library(place))
-            }
+            _ => self.stored(name),
         }
+    }
+
+    /// The newest version of a process in the library.
+    fn stored(&self, name: &'a NameAt) -> Option<Callee>
+        ensures { IfSome result (λ found. (number : ℕ) → IsBefore self.now.catalog.now number found) }
+    {
+        let place = self.catalog.newest(&name.name)?;
+        let _template = self.catalog.template(place)?;
+        Some(Callee::Library(place))
     }
 
     fn is_person(&self, name: &'a NameAt) -> bool {

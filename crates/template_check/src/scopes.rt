@@ -1,5 +1,5 @@
 //! The graphs of a text: its processes, and the blocks in them.
-ghost use Rattle.std.specs.Prelude.{◌≡◌, ℕ, ◌<◌, map, bytes_eq, IfOk, OnOk, option_copied, length, slice_get};
+ghost use Rattle.std.specs.Prelude.{◌≡◌, ℕ, ◌<◌, ◌≤◌, map, bytes_eq, IfOk, OnOk, option_copied, length, slice_get};
 ghost use Rattle.template_check.specs.Texts.{activities_in, controls_in, lines_in, number_in, pair_of, AreNumbered};
 ghost use Rattle.template_check.specs.GraphEdges.{AreEdgesOf};
 
@@ -9,7 +9,9 @@ use indexmap::IndexMap;
 use std::alloc::{AllocError, Global};
 
 /// A number of something of which a text has fewer than 2^32.
-pub fn small(number: usize) -> u32 {
+pub fn small(number: usize) -> u32
+    ensures { result ≤ number }
+{
     u32::try_from(number).unwrap_or(u32::MAX)
 }
 
@@ -118,7 +120,8 @@ impl<'a> Scope<'a> {
         output: &'a NameAt,
         elements: &'a [ElementTree],
     ) -> Result<Scope<'a>, AllocError>
-        ensures { IfOk result (λ scope. scope.elements.now ≡ elements.now) }
+        ensures numbered { IfOk result (λ scope. scope.process ≡ process) }
+        ensures elements { IfOk result (λ scope. scope.elements.now ≡ elements.now) }
     {
         let activities = activities_of(alloc, elements)?;
         let numbers = numbers_of(alloc, &activities)?;

@@ -1,9 +1,10 @@
 //! The imports so far.
-ghost use Rattle.std.specs.Prelude.{◌≡◌, ◌-◌, ◌^◌, ◌<◌, ◌≤◌, ◌+◌, [], ◌++◌, min, length, slice_get, option_copied, OnOk, IfOk, ◌==◌, ◌&&◌, position, bytes_eq, true};
-ghost use Rattle.template_check.specs.Built.{AreSound};
+ghost use Rattle.std.specs.Prelude.{◌≡◌, ◌-◌, ◌^◌, ◌<◌, ◌≤◌, ◌+◌, [], ◌++◌, min, length, slice_get, option_copied, Some, OnOk, IfOk, IfSome, ◌==◌, ◌&&◌, position, bytes_eq, true};
+ghost use Rattle.template_check.specs.Built.{AreSound, AreSoundBehind};
+ghost use Rattle.template_check.specs.Compiling.{IsNamedBy};
 ghost use Rattle.template_check.specs.Imports.{IsIndexed, newest_place, latest_person};
 ghost use Rattle.template_check.specs.declared.compiling.Compiled.{Compiled as Added};
-ghost use Rattle.template_store.specs.Store.{version_place, with_compiled, is_refusal, KeepsIndex};
+ghost use Rattle.template_store.specs.Store.{version_place, with_compiled, is_refusal, AddsProcessesOf, KeepsIndex};
 
 use flow_model::{Library, Name, PersonDef, Template};
 use std::alloc::{AllocError, Global};
@@ -29,7 +30,8 @@ impl TemplateStore {
 
     /// What a text would add; `Rule` where it breaks one. Nothing is changed.
     pub fn check(&self, alloc: Global, text: &[u8]) -> Result<Compiled, ImportFault>
-        ensures { IfOk result (λ compiled. AreSound compiled.templates) }
+        ensures sound { IfOk result (λ compiled. AreSoundBehind (length self.now.catalog.library.templates) compiled.templates) }
+        ensures named { IfOk result (λ compiled. IsNamedBy text.now compiled.templates) }
     {
         compile(alloc, text, &self.catalog)
     }
@@ -38,6 +40,7 @@ impl TemplateStore {
     /// Without memory a part of them may have been added, the last one with no name that leads to it.
     pub fn import(&mut self, alloc: Global, text: &[u8]) -> Result<u32, ImportFault>
         ensures added { IfOk result (λ count. (added : Added) × (count ≡ min (length added.templates) (2 ^ 32 - 1)) × (self.new.catalog.library ≡ with_compiled self.old.catalog.library added)) }
+        ensures named { OnOk result (AddsProcessesOf text.now self.old.catalog.library self.new.catalog.library) }
         ensures indexed { OnOk result (KeepsIndex self.old.catalog self.new.catalog) }
         ensures refused { is_refusal result ≡ true → self.new ≡ self.old }
         ensures sound { OnOk result (AreSound self.old.catalog.library.templates → AreSound self.new.catalog.library.templates) }
@@ -49,8 +52,6 @@ impl TemplateStore {
 
     /// Adds what a text compiled to; answers the number of processes.
     fn add(&mut self, alloc: Global, compiled: Compiled) -> Result<u32, AllocError>
-        requires { AreSound compiled.templates }
-        ensures sound { OnOk result (AreSound self.old.catalog.library.templates → AreSound self.new.catalog.library.templates) }
         ensures indexed { OnOk result (KeepsIndex self.old.catalog self.new.catalog) }
         ensures added { IfOk result (λ count. (count ≡ min (length compiled.templates) (2 ^ 32 - 1)) × (self.new.catalog.library ≡ with_compiled self.old.catalog.library compiled)) }
     {
@@ -104,11 +105,15 @@ impl TemplateStore {
 
     /// The place of this version of a name; None exactly where there is none.
     pub fn version(&self, name: &Name, version: u32) -> Option<u32>
-        ensures { length self.now.catalog.library.templates ≤ 2 ^ 32 → result ≡ version_place self.now.catalog.library name.now version }
+        ensures exact { length self.now.catalog.library.templates ≤ 2 ^ 32 → result ≡ version_place self.now.catalog.library name.now version }
+        ensures there { IfSome result (λ place. version_place self.now.catalog.library name.now version ≡ Some place) }
     {
         let templates = self.catalog.library().templates.as_slice();
         let place = position_of(templates, name, version)?;
-        u32::try_from(place).ok()
+        match u32::try_from(place) {
+            Ok(place) => Some(place),
+            Err(_) => None,
+        }
     }
 
     /// The latest declaration of the person of this name; None exactly where there is none.

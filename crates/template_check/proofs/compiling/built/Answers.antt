@@ -1,12 +1,13 @@
-use Rattle.std.proofs.Common.{ap}
-use Rattle.std.proofs.lemmas.List.Elements.{All-push}
-use Rattle.flow_model.specs.declared.graphs.Template.{Template}
+use Rattle.std.proofs.Common.{◌≡◌, ℕ, ◌+◌, length, Some, None, ap, subst, ◌∙◌}
 use Rattle.flow_model.specs.declared.trees.ProcessTree.{ProcessTree}
-use Rattle.template_check.specs.Built.{IsSound, IsSoundAlone}
+use Rattle.template_check.specs.Built.{IsSound}
+use Rattle.template_check.specs.Calling.{IsCalling}
 use Rattle.template_check.specs.Texts.{process_of}
+use Rattle.template_check.proofs.Calling.{sound_push}
+use Rattle.template_check.proofs.ProcessNames.{named_next, named_past}
 use Rattle.template_check.proofs.Judging.{all_kept}
 use Rattle.template_check.proofs.compiling.built.Goals as goal
-use Rattle.template_check.proofs.compiling.built.Goals.{in-Structure, in-Person+in_ok-person-in-Person+in_ok-push-in-Person, in-Process+in_ok-template-in-Process+in_ok-push-in-Process}
+use Rattle.template_check.proofs.compiling.built.Goals.{in-Structure, in-Person+in_ok-person-in-Person+in_ok-push-in-Person, in-Process+in_ok-narrow-in-Process+in_ok-template-in-Process+in_ok-push-in-Process}
 
 pub template-requires : goal.template-requires
 template-requires c =
@@ -15,10 +16,24 @@ template-requires c =
     all_kept process_of (λ (p : ProcessTree). IsSound p.elements) c.args.tree.now.items c.loop-item.item-index c.item-item.result c.in-Process.process c.requires less is (ap process_of c.in-Process.is)
 
 pub loop-item-preserved : goal.loop-item-preserved
-loop-item-preserved c = elim c.match-item.branch [
-  | in-Structure w ↦ rw w.templates-is c.loop-item.invariant
-  | in-Person+in_ok-person-in-Person+in_ok-push-in-Person w ↦ rw w.templates-is c.loop-item.invariant
-  | in-Process+in_ok-template-in-Process+in_ok-push-in-Process w ↦
-      let P = λ (t : Template). IsSoundAlone t.graph in
-      rw (w.templates-is, w.in_ok-push-in-Process.ensures.ok) (All-push P c.loop-item.templates _ c.loop-item.invariant w.in_ok-template-in-Process.ensures)
-]
+loop-item-preserved c =
+    let items = c.args.tree.now.items in
+    let i = c.loop-item.item-index in
+    let x = c.item-item.result in
+    let less = rw c.as_slice-item-items.ensures at c.loop-item-test.true in
+    let is = rw c.as_slice-item-items.ensures at c.item-item.is in
+    let so_far = c.loop-item.invariant in
+    let past = λ (none : process_of x ≡ None). named_past items i x less is c.loop-item.templates none so_far.named in
+    elim c.match-item.branch [
+      | in-Structure w ↦ rw w.templates-is (record { sound = so_far.sound; named = past (ap process_of w.in-Structure.is) })
+      | in-Person+in_ok-person-in-Person+in_ok-push-in-Person w ↦ rw w.templates-is (record { sound = so_far.sound; named = past (ap process_of w.in-Person.is) })
+      | in-Process+in_ok-narrow-in-Process+in_ok-template-in-Process+in_ok-push-in-Process w ↦
+          let before = length c.args.builder.now.known.catalog.now.library.templates in
+          let built = w.in_ok-template-in-Process in
+          let calls = subst (λ (k : ℕ). IsCalling (before + k) built.template.graph) (w.in_ok-narrow-in-Process.ensures ∙ w.len-number.ensures) built.ensures.calls in
+          let some : process_of x ≡ Some w.in-Process.process = ap process_of w.in-Process.is in
+          rw w.templates-is (record {
+            sound = rw w.in_ok-push-in-Process.ensures.ok (sound_push before c.loop-item.templates built.template so_far.sound built.ensures.sound calls);
+            named = named_next items i x less is c.loop-item.templates w.push-in-Process.new.self built.template w.in-Process.process some w.in_ok-push-in-Process.ensures.ok built.ensures.named so_far.named;
+          })
+    ]

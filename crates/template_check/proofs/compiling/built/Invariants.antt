@@ -1,5 +1,10 @@
-use Rattle.template_check.specs.Built.{AreSound}
+use Rattle.std.proofs.Common.{◌≡◌, length, take}
+use Rattle.template_check.specs.Built.{AreSoundBehind}
+use Rattle.template_check.specs.Compiling.{process_names, template_names}
 use Rattle.template_check.proofs.compiling.built.Given as goal
 
 abbrev pub invariant-loop-item : goal.invariant-loop-item
-invariant-loop-item l = AreSound l.templates
+invariant-loop-item l = record {
+  sound : AreSoundBehind (length l.builder.known.catalog.now.library.templates) l.templates;
+  named : template_names l.templates ≡ process_names (take l.item-index l.tree.items);
+}

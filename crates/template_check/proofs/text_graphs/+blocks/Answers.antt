@@ -19,7 +19,7 @@ add_block-returns-in_ok-push-in-Block-clause-listed t c =
     let lists = lists_of c.add_blocks.new.scopes.items in
     let elements = c.in-Block.elements in
     let scope = c.in_ok-scope-in-Block.scope in
-    let here = has_pushed c.args.scopes.now.items c.push.new.self.items scope elements c.in_ok-push-in-Block.ensures.items (c.in_ok-scope-in-Block.ensures ∙ c.as_slice-elements.ensures) in
+    let here = has_pushed c.args.scopes.now.items c.push.new.self.items scope elements c.in_ok-push-in-Block.ensures.items (c.in_ok-scope-in-Block.ensures.elements ∙ c.as_slice-elements.ensures) in
     let blocks = rw c.as_slice-elements.ensures at c.add_blocks.ensures.blocks in
     on_ok_both c.add_blocks.result (λ grows inside. listed_block lists c.args.activity.now elements c.in-Block.is (grows elements here, inside)) c.add_blocks.ensures.kept blocks
 

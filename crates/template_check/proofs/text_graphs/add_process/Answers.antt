@@ -11,6 +11,6 @@ returns-clause-kept c =
 pub returns-clause-covered : goal.returns-clause-covered
 returns-clause-covered c =
     let elements = c.args.process.now.elements in
-    let here = has_pushed c.args.scopes.now.items c.push.new.self.items c.in_ok-scope.scope elements c.in_ok-push.ensures.items (c.in_ok-scope.ensures ∙ c.as_slice-elements.ensures) in
+    let here = has_pushed c.args.scopes.now.items c.push.new.self.items c.in_ok-scope.scope elements c.in_ok-push.ensures.items (c.in_ok-scope.ensures.elements ∙ c.as_slice-elements.ensures) in
     let blocks = rw c.as_slice-elements.ensures at c.add_blocks.ensures.blocks in
     on_ok_both c.add_blocks.result (λ grows inside. (grows elements here, inside)) c.add_blocks.ensures.kept blocks

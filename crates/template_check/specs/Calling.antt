@@ -1,0 +1,49 @@
+-- Which processes the activities of a template run: those that stand before it in the library, so that nesting ends.
+use Rattle.std.specs.Prelude.{◌≡◌, ℕ, zero, suc, ◌+◌, ◌<◌, Some, List, [], length, slice_get}
+use Rattle.std.specs.List.{All}
+use Rattle.fate_laws.specs.Layout.{OfInside}
+use Rattle.flow_model.specs.ScopeContainers.{graph_in}
+use Rattle.flow_model.specs.declared.graphs.Graph.{Graph, out-Graph}
+use Rattle.flow_model.specs.declared.graphs.Template.{Template}
+use Rattle.flow_model.specs.declared.graphs.Work.{Work, Program, Block', Process}
+use Rattle.template_check.specs.declared.catalog.Catalog.{Catalog}
+use Rattle.template_check.specs.declared.people.Callee.{Callee}
+use Rattle.template_check.specs.declared.people.Callee.TheVariants as callee
+
+-- an activity that runs a process runs one at a place below this
+abbrev pub CallsBelow : ℕ → Work → Type 0
+CallsBelow limit (Program p) = Unit {0}
+CallsBelow limit (Block' b g) = Unit {0}
+CallsBelow limit (Process t) = t < limit
+
+-- so do all activities of a graph, whose blocks have this property
+pub record CallsWith (limit : ℕ) (g : Graph) (P : Graph → Type 0) : Type 0 where
+  pub here : All (λ a. CallsBelow limit a.work) (out-Graph g).activities
+  pub inside : (a : ℕ) → OfInside [] P (slice_get (out-Graph g).activities a)
+
+-- so do all activities of a graph, and of the blocks inside it, of which none nests deeper than this
+abbrev pub CallsTo : ℕ → ℕ → Graph → Type 0
+CallsTo limit zero g = CallsWith limit g (λ h. ⊥)
+CallsTo limit (suc depth) g = CallsWith limit g (CallsTo limit depth)
+
+-- however deep they nest
+abbrev pub IsCalling : ℕ → Graph → Type 0
+IsCalling limit g = (depth : ℕ) × CallsTo limit depth g
+
+-- what an activity does runs processes at places below this alone: its own, or those in its block
+pub record IsCallingWork (limit : ℕ) (work : Work) : Type 0 where
+  pub below : CallsBelow limit work
+  pub inside : (g : Graph) → graph_in [] work ≡ Some g → IsCalling limit g
+
+-- each of these templates, before the first of which so many stand, runs processes at places before its own alone
+abbrev pub AreOrdered : ℕ → List Template → Type 0
+AreOrdered before ts = (k : ℕ) (t : Template) → slice_get ts k ≡ Some t → IsCalling (before + k) t.graph
+
+-- the place that the process of this number of a text has behind the templates of a library
+abbrev pub place_behind : Catalog → ℕ → ℕ
+place_behind earlier number = length earlier.library.templates + number
+
+-- what the process of this number runs is there before it: an earlier process of the text, or a template of the library
+abbrev pub IsBefore : Catalog → ℕ → Callee → Type 0
+IsBefore earlier number (callee.Text t) = t < number
+IsBefore earlier number (callee.Library place) = place < length earlier.library.templates

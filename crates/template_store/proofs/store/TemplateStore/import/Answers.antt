@@ -1,0 +1,17 @@
+use Rattle.std.proofs.Common.{sym, ap, subst}
+use Rattle.flow_model.specs.declared.graphs.Library.{Library}
+use Rattle.template_check.proofs.Calling.{sound_added}
+use Rattle.template_check.specs.Built.{AreSound}
+use Rattle.template_store.proofs.store.TemplateStore.import.Goals as goal
+
+pub returns-clause-sound : goal.returns-clause-sound
+returns-clause-sound c = λ sound.
+    subst (λ (library : Library). AreSound library.templates) (sym c.in_ok-count.ensures.added.1)
+    (sound_added c.args.self.now.catalog.library.templates c.in_ok-compiled.compiled.templates sound c.in_ok-compiled.ensures.sound)
+
+pub returns-clause-named : goal.returns-clause-named
+returns-clause-named c = record {
+  added = c.in_ok-compiled.compiled.templates;
+  named = c.in_ok-compiled.ensures.named;
+  behind = ap (λ (library : Library). library.templates) c.in_ok-count.ensures.added.1;
+}
