@@ -10,7 +10,8 @@ use Rattle.flow_core.specs.Driving.{put_in}
 use Rattle.flow_model.specs.declared.instances.Message.{Message}
 use Rattle.recover_queue.specs.Queues.{queue, with_queue, root_of, is_quiet}
 use Rattle.root_laws.specs.RightRoots.{after_put, after_taken}
-use Rattle.core_laws.specs.RightStates.{messages_in, AreOf}
+use Rattle.core_laws.proofs.Asked.{AreOf}
+use Rattle.core_laws.specs.RightStates.{messages_in}
 
 -- ---- one message in a filter
 

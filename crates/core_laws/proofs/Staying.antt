@@ -40,7 +40,8 @@ use Rattle.view_laws.specs.Messages.{Note, BeginNote}
 use Rattle.view_laws.specs.Runs.{Event, Started, Turned, Completed, Held, Stopped, seen}
 use Rattle.core_laws.proofs.Places.{place_same, queue_is, queue_low, queue_high}
 use Rattle.core_laws.proofs.Standing.{messages_put, all_kept, none_kept, front_of_root, taken_here, taken_there}
-use Rattle.core_laws.specs.RightStates.{messages_in, place_queue, note_queue, IsRightRoot, AreRight, with_turn, with_output, note_now, runs_after, runs_at, IsOpen, IsNew, AreOf, MayBe}
+use Rattle.core_laws.proofs.Asked.{IsOpen, IsNew, AreOf, MayBe}
+use Rattle.core_laws.specs.RightStates.{messages_in, place_queue, note_queue, IsRightRoot, AreRight, with_turn, with_output, note_now, runs_after}
 
 pub begins : (c : Core) → ((root : ℕ) → instance_of c root ≡ None) → AreRight c (λ root. [])
 begins c none root i live = absurd (none-some i (sym (none root) ∙ live))
@@ -52,7 +53,7 @@ carried ts ts' q q' h queued queued' i agrees same stand right =
     subst (λ (f : Note → ℕ). IsRight ts' f h queued' i) (sym (fun_ext same)) (requeued ts' q h queued queued' i stand (imports_right ts ts' q h queued i agrees right))
 
 -- what became of a root that is live was of one that was
-if_live : (becomes : Instance → Instance → Type 0) (given : List Message) (before after : Option Instance) → IfLive becomes given before after
+pub if_live : (becomes : Instance → Instance → Type 0) (given : List Message) (before after : Option Instance) → IfLive becomes given before after
     → (i' : Instance) → after ≡ Some i' → (i : Instance) × (before ≡ Some i) × becomes i i'
 if_live becomes given None after is i' live = absurd (none-some i' (sym is.0 ∙ live))
 if_live becomes given (Some i) None is i' live = absurd is
@@ -247,10 +248,9 @@ program_is : (o : Option Entry) (e : Entry) → program_entry o ≡ Some e → o
 program_is None e is = is
 program_is (Some x) e is = entry_is x e (program_in x.activity.work) is
 
-module _ (c c' : Core) (item : Path) (settings : List Setting) (given : List Message) (queues : c'.queues ≡ put_in (queue_now c') given c.queues) (some_ : 1 ≤ length c.queues)
-    (library : Agrees (templates c) (templates c')) (of : AreOf item.root given) (open_ : IsOpen c item) where
+module _ (c : Core) (item : Path) (open_ : IsOpen c item) where
   -- the item that is there is awaited
-  awaited : (h : List Event) (i : Instance) → instance_of c item.root ≡ Some i → (right : IsRight (templates c) (note_queue c item.root) h (messages_in c.queues item.root) i)
+  pub awaited : (h : List Event) (i : Instance) → instance_of c item.root ≡ Some i → (right : IsRight (templates c) (note_queue c item.root) h (messages_in c.queues item.root) i)
       → (e : Entry) → item_of c item ≡ Some e → Awaits (templates c) right.depth (seen h) right.graph right.input item.parts
   awaited h i live right e is =
       let opened = open_ i e live is in
@@ -263,6 +263,8 @@ module _ (c c' : Core) (item : Path) (settings : List Setting) (given : List Mes
       (subst (λ (a : List Event). Shows (templates c) right.depth (seen a) right.graph right.input i.scope) (running_is h (right.stopped ∙ opened.0)) right.shows)
       opened.1 entered
 
+module _ (c c' : Core) (item : Path) (settings : List Setting) (given : List Message) (queues : c'.queues ≡ put_in (queue_now c') given c.queues) (some_ : 1 ≤ length c.queues)
+    (library : Agrees (templates c) (templates c')) (of : AreOf item.root given) (open_ : IsOpen c item) where
   completes : (h : List Event) (i i' : Instance) → instance_of c item.root ≡ Some i → instance_of c' item.root ≡ Some i' → IsRightRoot c item.root h i
       → (e : Entry) → item_of c item ≡ Some e → CompletesIn (templates c) item (filled settings (fresh e.activity.output)) given i i'
       → IsRightRoot c' item.root (with_output item settings (Some e) h) i'
@@ -277,7 +279,7 @@ module _ (c c' : Core) (item : Path) (settings : List Setting) (given : List Mes
       (λ g there note. now_is c c' given c.queues queues refl some_ library root i live g (ap (graph_of (templates c)) (sym template) ∙ there) note)
       (stand_given c c' given c.queues queues refl some_ library root of)
       (completes_right (templates c) (note_queue c root) h (messages_in c.queues root) i i' right (queue_now c') item out given (open_ i e live is).0
-      (awaited h i live right e is) completed
+      (awaited c item open_ h i live right e is) completed
       (agrees c c' given c.queues queues refl some_ library root i i' live live' template right.depth right.graph right.process right.served.served of))
 
   completed_right : (h : List Event) → ((i : Instance) → instance_of c item.root ≡ Some i → IsRightRoot c item.root h i)
@@ -291,32 +293,32 @@ module _ (c c' : Core) (item : Path) (settings : List Setting) (given : List Mes
 
 -- ---- a start
 
-starts_in : (ts : List Template) (root : ℕ) (starter : Name) (settings : List Setting) (given : List Message) (before after : Option Instance) → before ≡ None
-    → BecomesStarted ts root starter settings given before after → (i' : Instance) → after ≡ Some i'
-    → StartsIn ts root starter settings i' × (given ≡ Begin (record { root = root; parts = [] }) ∷ [])
-starts_in ts root starter settings given before None absent is i' live = absurd (none-some i' live)
-starts_in ts root starter settings given before (Some i) absent is i' live =
+starts_in : (ts : List Template) (root : ℕ) (process : Name) (version : ℕ) (starter : Name) (settings : List Setting) (given : List Message) (before after : Option Instance) → before ≡ None
+    → BecomesStarted ts root process version starter settings given before after → (i' : Instance) → after ≡ Some i'
+    → StartsIn ts root process version starter settings i' × (given ≡ Begin (record { root = root; parts = [] }) ∷ [])
+starts_in ts root process version starter settings given before None absent is i' live = absurd (none-some i' live)
+starts_in ts root process version starter settings given before (Some i) absent is i' live =
     let same : i ≡ i' = cc in
     elim is [
-      | inl stay ↦ absurd (none-some i (sym absent ∙ sym stay.0))
-      | inr starts ↦ (subst (λ (u : Instance). StartsIn ts root starter settings u) same starts.0, starts.1)
+      | inl stay ↦ absurd (none-some i (sym absent ∙ sym stay.0.0))
+      | inr starts ↦ (subst (λ (u : Instance). StartsIn ts root process version starter settings u) same starts.0, starts.1)
     ]
 
-pub start_of : (ts : List Template) (root : ℕ) (starter : Name) (settings : List Setting) (given : List Message) (before after : Option Instance)
-    → BecomesStarted ts root starter settings given before after → AreOf root given
-start_of ts root starter settings given before None is = none_of root given is.1
-start_of ts root starter settings given before (Some i) is = elim is [
-  | inl stay ↦ none_of root given stay.1
+pub start_of : (ts : List Template) (root : ℕ) (process : Name) (version : ℕ) (starter : Name) (settings : List Setting) (given : List Message) (before after : Option Instance)
+    → BecomesStarted ts root process version starter settings given before after → AreOf root given
+start_of ts root process version starter settings given before None is = none_of root given is.0.1
+start_of ts root process version starter settings given before (Some i) is = elim is [
+  | inl stay ↦ none_of root given stay.0.1
   | inr starts ↦ subst (λ ms. AreOf root ms) (sym starts.1) (begin_of root)
 ]
 
-module _ (c c' : Core) (root : ℕ) (starter : Name) (settings : List Setting) (given : List Message) (queues : c'.queues ≡ put_in (queue_now c') given c.queues)
+module _ (c c' : Core) (root : ℕ) (process : Name) (version : ℕ) (starter : Name) (settings : List Setting) (given : List Message) (queues : c'.queues ≡ put_in (queue_now c') given c.queues)
     (some_ : 1 ≤ length c.queues) (library : Agrees (templates c) (templates c')) (of : AreOf root given) (new_ : IsNew c root c') where
-  started_right : BecomesStarted (templates c) root starter settings given (instance_of c root) (instance_of c' root)
+  started_right : BecomesStarted (templates c) root process version starter settings given (instance_of c root) (instance_of c' root)
       → (i' : Instance) → instance_of c' root ≡ Some i' → IsRightRoot c' root (Started ∷ []) i'
   started_right becomes i' live' =
       let begin : Message = Begin (record { root = root; parts = [] }) in
-      let both = starts_in (templates c) root starter settings given (instance_of c root) (instance_of c' root) new_.unused.absent becomes i' live' in
+      let both = starts_in (templates c) root process version starter settings given (instance_of c root) (instance_of c' root) new_.unused.absent becomes i' live' in
       let starts = both.0 in
       let g = starts.graph in
       let count = length c.queues in
@@ -363,9 +365,9 @@ module _ (c c' : Core) (runs : ℕ → List Event) (are : AreRight c runs) where
   pub stays_right : (t : Transaction) (drives : Drives c t c') → MayBe c t drives.given c' → AreRight c' (runs_after c t runs)
   stays_right (Import text) drives may = on_none drives.given drives.roots.0 drives.roots.1 drives.queues may.queued may.library
   stays_right (Start root process version starter key settings) drives may =
-      let of = start_of (templates c) root starter settings drives.given (instance_of c root) (instance_of c' root) drives.roots.here in
+      let of = start_of (templates c) root process version starter settings drives.given (instance_of c root) (instance_of c' root) drives.roots.here in
       on_root root (λ h. Started ∷ []) drives.given _ drives.roots drives.queues may.queued may.library of
-      (started_right c c' root starter settings drives.given drives.queues may.queued may.library of may.asked drives.roots.here)
+      (started_right c c' root process version starter settings drives.given drives.queues may.queued may.library of may.asked drives.roots.here)
   stays_right (Turn number message) drives may =
       let low = may.asked.0.0 in
       let front = may.asked.0.1 in
@@ -399,13 +401,3 @@ module _ (c c' : Core) (runs : ℕ → List Event) (are : AreRight c runs) where
       on_root root (λ h. h) drives.given _ drives.roots drives.queues may.queued may.library (none_of root drives.given drives.roots.here.1)
       (λ i' live'. absurd (none-some i' (sym drives.roots.here.0 ∙ live')))
   stays_right (Clock minutes) drives may = on_none drives.given drives.roots.0 drives.roots.1 drives.queues may.queued may.library
-
--- along a history
-pub history_right : (states : ℕ → Core) (made : ℕ → Transaction) (runs : ℕ → List Event) (count : ℕ) → AreRight (states 0) runs
-    → (drives : (n : ℕ) → n < count → Drives (states n) (made n) (states (suc n)))
-    → ((n : ℕ) (below : n < count) → MayBe (states n) (made n) (drives n below).given (states (suc n)))
-    → (n : ℕ) → n ≤ count → AreRight (states n) (runs_at states made runs n)
-history_right states made runs count are drives may zero upto = are
-history_right states made runs count are drives may (suc n) upto =
-    let below : n < count = omega arith in
-    stays_right (states n) (states (suc n)) (runs_at states made runs n) (history_right states made runs count are drives may n (omega arith)) (made n) (drives n below) (may n below)

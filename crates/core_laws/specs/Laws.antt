@@ -1,46 +1,42 @@
 -- Laws of states: all their roots are right, and go on being right.
-use Rattle.std.specs.Prelude.{◌≡◌, ℕ, suc, ◌-◌, ◌^◌, ◌<◌, ◌≤◌, false, Some, None, List, [], IsTrue}
+use Rattle.std.specs.Prelude.{◌≡◌, ℕ, suc, ◌<◌, ◌≤◌, false, Some, List, [], length, IsTrue}
 use Rattle.blocks_subprocs.specs.Ends.{ends_of}
+use Rattle.flow_core.specs.Allowing.{IsBlank}
 use Rattle.flow_core.specs.Answers.{instance_of}
-use Rattle.flow_core.specs.Driving.{templates, Drives}
-use Rattle.flow_core.specs.Summaries.{roots_after}
-use Rattle.flow_core.specs.Verdicts.{next_root}
+use Rattle.flow_core.specs.Driving.{templates}
 use Rattle.flow_core.specs.declared.state.Core.{Core}
 use Rattle.flow_model.specs.Fates.{is_settled}
+use Rattle.flow_model.specs.ScopeContainers.{graph_of}
 use Rattle.flow_model.specs.Scopes.{tree_ends}
+use Rattle.flow_model.specs.declared.graphs.Graph.{Graph}
+use Rattle.flow_model.specs.declared.graphs.Template.{Template}
 use Rattle.flow_model.specs.declared.transactions.Transaction.{Transaction}
+use Rattle.navigator.specs.Serving.{Served}
 use Rattle.navigator.specs.declared.instance.Instance.{Instance}
 use Rattle.navigator.specs.declared.scopes.ScopeState.{out-ScopeState}
 use Rattle.recover_queue.specs.Queues.{is_quiet}
-use Rattle.core_laws.specs.RightStates.{AreRight, runs_after, runs_at, IsUnused, AreCounted, MayBe}
+use Rattle.template_check.specs.Built.{AreSound}
+use Rattle.core_laws.specs.RightStates.{AreRight, runs_after, runs_at, IsRightState, Makes}
 use Rattle.view_laws.specs.Runs.{Event, running, fated}
 
--- a state with no live root is right, before any event
+-- a blank state with a queue is right, before any event
 abbrev pub BeginsRight : Type 0
-BeginsRight = (c : Core) → ((root : ℕ) → instance_of c root ≡ None) → AreRight c (λ root. [])
+BeginsRight = (c : Core) → IsBlank c → c.kept ≤ c.number → 1 ≤ length c.queues → IsRightState c (λ root. [])
 
--- it stays right with a transaction that may be: the run of its root goes on, all other roots have had the runs that they had
+-- it stays right with each transaction that may be: the run of its root goes on, all other roots have had the runs that they had
 abbrev pub StaysRight : Type 0
-StaysRight =
-    (c c' : Core) (t : Transaction) (runs : ℕ → List Event) → AreRight c runs → (drives : Drives c t c') → MayBe c t drives.given c'
-    → AreRight c' (runs_after c t runs)
+StaysRight = (c c' : Core) (t : Transaction) (runs : ℕ → List Event) → IsRightState c runs → Makes c t c' → IsRightState c' (runs_after c t runs)
 
 -- so it does along a history, after each of its transactions
 abbrev pub HistoriesAreRight : Type 0
 HistoriesAreRight =
-    (states : ℕ → Core) (made : ℕ → Transaction) (runs : ℕ → List Event) (count : ℕ) → AreRight (states 0) runs
-    → (drives : (n : ℕ) → n < count → Drives (states n) (made n) (states (suc n)))
-    → ((n : ℕ) (below : n < count) → MayBe (states n) (made n) (drives n below).given (states (suc n)))
-    → (n : ℕ) → n ≤ count → AreRight (states n) (runs_at states made runs n)
+    (states : ℕ → Core) (made : ℕ → Transaction) (runs : ℕ → List Event) (count : ℕ) → IsRightState (states 0) runs
+    → ((n : ℕ) → n < count → Makes (states n) (made n) (states (suc n)))
+    → (n : ℕ) → n ≤ count → IsRightState (states n) (runs_at states made runs n)
 
--- numbers above that of the roots so far stay unused, where the count goes on with a transaction as it does in the summary of a state
-abbrev pub StaysCounted : Type 0
-StaysCounted =
-    (c c' : Core) (t : Transaction) → AreCounted c → (drives : Drives c t c') → MayBe c t drives.given c' → c'.roots ≡ roots_after t c.roots → AreCounted c'
-
--- so the number of the next root is unused, below the greatest number
-abbrev pub NextIsUnused : Type 0
-NextIsUnused = (c : Core) → AreCounted c → c.roots < 2 ^ 64 - 1 → IsUnused c (next_root c)
+-- each process of a sound library is served: its nesting ends, and each process activity has its process
+abbrev pub ServedTogether : Type 0
+ServedTogether = (ts : List Template) → AreSound ts → (t : ℕ) (g : Graph) → graph_of ts t ≡ Some g → (depth : ℕ) × Served ts depth g
 
 -- whatever the state of a live root says of how an activity of its scope has ended is so by the completions alone
 abbrev pub RightStatesAreSound : Type 0

@@ -1,32 +1,28 @@
 -- A state whose roots are right, and how the runs of its roots go on with a transaction.
-use Rattle.std.specs.Prelude.{◌≡◌, ℕ, zero, suc, ◌+◌, ◌-◌, ◌^◌, ◌%◌, ◌==◌, ◌<◌, ◌≤◌, min, max, true, false, if◌then◌else◌, Option, Some, None, option_and_then, List, [], ◌∷◌, length, slice_get}
+use Rattle.std.specs.Prelude.{◌≡◌, ℕ, zero, suc, ◌==◌, ◌≤◌, true, false, if◌then◌else◌, Option, Some, None, option_and_then, List, [], ◌∷◌, ◌++◌, length}
 use Rattle.std.specs.List.{filter}
-use Rattle.activity_states.specs.States.{fate_of}
 use Rattle.containers.specs.Settings.{filled}
+use Rattle.flow_core.specs.Allowing.{IsFree, CountsRoot, IsAllowed}
 use Rattle.flow_core.specs.Answers.{instance_of}
-use Rattle.flow_core.specs.Driving.{templates, graph_now, processes_along, around, item_of}
-use Rattle.flow_core.specs.Summaries.{root_about, is_root}
-use Rattle.flow_core.specs.Verdicts.{IsFront}
+use Rattle.flow_core.specs.Driving.{templates, graph_now, queue_by, around, item_of, Drives}
+use Rattle.flow_core.specs.Summaries.{root_about, is_root, live_after}
 use Rattle.flow_core.specs.declared.state.Core.{Core}
 use Rattle.flow_model.specs.Containers.{fresh}
-use Rattle.flow_model.specs.ScopeContainers.{graph_of}
-use Rattle.flow_model.specs.declared.graphs.Container.{Container}
 use Rattle.flow_model.specs.declared.graphs.Graph.{Graph}
 use Rattle.flow_model.specs.declared.graphs.Template.{Template}
 use Rattle.flow_model.specs.declared.instances.Message.{Message}
 use Rattle.flow_model.specs.declared.instances.Part.{Part}
 use Rattle.flow_model.specs.declared.instances.Path.{Path}
-use Rattle.flow_model.specs.declared.instances.Phase.TheVariants.{Ended}
+use Rattle.flow_model.specs.declared.transactions.Numbered.{Numbered}
 use Rattle.flow_model.specs.declared.transactions.Setting.{Setting}
 use Rattle.flow_model.specs.declared.transactions.Transaction.{Transaction}
 use Rattle.flow_model.specs.declared.transactions.Transaction.TheVariants.{Import, Start, Turn, Claim, Release, Transfer, Take, Done, Force, Restart, Suspend, Resume, Terminate, Delete, Clock}
-use Rattle.library_laws.specs.Larger.{Agrees}
-use Rattle.navigator.specs.Driven.{IsServedRoot}
-use Rattle.navigator.specs.Items.{Entry, phase_of}
+use Rattle.navigator.specs.Items.{Entry}
 use Rattle.navigator.specs.Showing.{note_in}
 use Rattle.navigator.specs.declared.instance.Instance.{Instance}
 use Rattle.recover_queue.specs.Queues.{queue, root_of}
-use Rattle.root_laws.specs.RightRoots.{Queued, root_in, IsRight}
+use Rattle.root_laws.specs.RightRoots.{Queued, IsRight}
+use Rattle.template_check.specs.Built.{AreSound}
 use Rattle.view_laws.specs.Messages.{Note, BeginNote, SignalNote, EndNote}
 use Rattle.view_laws.specs.Runs.{Event, Started, Turned, Completed, Held, Stopped}
 
@@ -43,10 +39,9 @@ receiver_of (BeginNote p) = p
 receiver_of (SignalNote p a b v) = p
 receiver_of (EndNote p) = around p
 
--- the queue of a message of a root, by the places of its activities: that of `queue_in` for the message itself
+-- the queue of a message of a root, by the places of its activities
 abbrev pub place_queue : List Template → ℕ → ℕ → Option Graph → Note → ℕ
-place_queue ts count root None note = 1
-place_queue ts count root (Some g) note = (root + min (processes_along ts (receiver_of note) g) (2 ^ 64 - 1)) % max count 1 + 1
+place_queue ts count root o note = queue_by ts count o root (receiver_of note)
 
 -- its queue in a state
 abbrev pub note_queue : Core → ℕ → Note → ℕ
@@ -111,48 +106,55 @@ pub record IsUnused (c : Core) (root : ℕ) : Type 0 where
   pub absent : instance_of c root ≡ None
   pub unqueued : (n : ℕ) → messages_in c.queues root n ≡ []
 
--- no number above that of the roots so far is used
+-- no number that is free is used
 abbrev pub AreCounted : Core → Type 0
-AreCounted c = (root : ℕ) → c.roots < root → IsUnused c root
+AreCounted c = (root : ℕ) → IsFree c root → IsUnused c root
 
--- ---- what is asked of a transaction, which the laws take as given
+-- ---- completions
 
--- an item that is there is open, and its root isn't terminated
-abbrev pub IsOpen : Core → Path → Type 0
-IsOpen c item =
-    (i : Instance) (e : Entry) → instance_of c item.root ≡ Some i → item_of c item ≡ Some e
-    → (i.terminated ≡ false) × (phase_of (fate_of e.state) e.attempt ≡ Ended → ⊥)
+-- the items that a run completes, in order
+abbrev pub completed_items : List Event → List Path
+completed_items [] = []
+completed_items (Started ∷ h) = completed_items h
+completed_items (Turned m ∷ h) = completed_items h
+completed_items (Completed f ∷ h) = completed_items h ++ f.item ∷ []
+completed_items (Held p held ∷ h) = completed_items h
+completed_items (Stopped ∷ h) = completed_items h
 
--- a root is new: its number is unused, and what is started runs a process that is served
-pub record IsNew (c : Core) (root : ℕ) (c' : Core) : Type 0 where
-  pub unused : IsUnused c root
-  pub served : (i : Instance) → instance_of c' root ≡ Some i → (g : Graph) → graph_of (templates c) i.template ≡ Some g
-      → (input : Container) → (depth : ℕ) × IsServedRoot (root_in (templates c) depth g input)
+-- the item of a root that a transaction completes
+abbrev pub completes_in : ℕ → Transaction → List Path
+completes_in root (Done item who settings) = if item.root == root then item ∷ [] else []
+completes_in root (Force item settings) = if item.root == root then item ∷ [] else []
+completes_in root t = []
 
--- these messages are all of one root
-abbrev pub AreOf : ℕ → List Message → Type 0
-AreOf root given = (k : ℕ) (m : Message) → slice_get given k ≡ Some m → root_of m ≡ root
+-- the items of a root that these transactions complete, in order
+abbrev pub completed_by : ℕ → List Numbered → List Path
+completed_by root [] = []
+completed_by root (n ∷ ns) = completes_in root n.transaction ++ completed_by root ns
 
--- a Turn takes the front of its queue, a completion is of an open item, and a Start is of a new root; what a Turn or a completion gives is of its root
-abbrev pub IsAsked : Core → Transaction → List Message → Core → Type 0
-IsAsked c (Import text) given c' = Unit {0}
-IsAsked c (Start root process version starter key settings) given c' = IsNew c root c'
-IsAsked c (Turn number message) given c' = IsFront c number message × AreOf (root_of message) given
-IsAsked c (Claim item who) given c' = Unit {0}
-IsAsked c (Release item who) given c' = Unit {0}
-IsAsked c (Transfer item who to) given c' = Unit {0}
-IsAsked c (Take item take) given c' = Unit {0}
-IsAsked c (Done item who settings) given c' = IsOpen c item × AreOf item.root given
-IsAsked c (Force item settings) given c' = IsOpen c item × AreOf item.root given
-IsAsked c (Restart item) given c' = Unit {0}
-IsAsked c (Suspend root) given c' = Unit {0}
-IsAsked c (Resume root) given c' = Unit {0}
-IsAsked c (Terminate root) given c' = Unit {0}
-IsAsked c (Delete root) given c' = Unit {0}
-IsAsked c (Clock minutes) given c' = Unit {0}
+-- each run completes the items that the live transactions about its root complete, and none of them is about a root that is free
+pub record AreTold (c : Core) (runs : ℕ → List Event) : Type 0 where
+  pub told : (root : ℕ) (i : Instance) → instance_of c root ≡ Some i → completed_items (runs root) ≡ completed_by root c.live.items
+  pub untold : (root : ℕ) → IsFree c root → completed_by root c.live.items ≡ []
 
--- a transaction may be: what is asked of it is so, there is a queue, and each template stays at its place in the library after it
-pub record MayBe (c : Core) (t : Transaction) (given : List Message) (c' : Core) : Type 0 where
-  pub asked : IsAsked c t given c'
+-- ---- states that transactions come to
+
+-- a state is right: its roots are after these runs, which complete what the live transactions do, free numbers are unused, there is a queue, and the library is sound
+pub record IsRightState (c : Core) (runs : ℕ → List Event) : Type 0 where
+  pub are : AreRight c runs
+  pub told : AreTold c runs
+  pub counted : AreCounted c
+  pub kept : c.kept ≤ c.number
   pub queued : 1 ≤ length c.queues
-  pub library : Agrees (templates c) (templates c')
+  pub sound : AreSound (templates c)
+
+-- so it is after some runs
+abbrev pub IsRightCore : Core → Type 0
+IsRightCore c = (runs : ℕ → List Event) × IsRightState c runs
+
+-- a transaction that may be makes the next state, and stands among the live ones under some number
+pub record Makes (c : Core) (t : Transaction) (c' : Core) : Type 0 where
+  pub allowed : IsAllowed c t
+  pub drives : Drives c t c'
+  pub counts : CountsRoot c t c'
+  pub lives : (number : ℕ) × (c'.live.items ≡ live_after number t c.live.items)

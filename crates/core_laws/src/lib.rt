@@ -10,6 +10,6 @@
 mod states;
 
 pub use states::{
-    begins_right, histories_are_right, next_is_unused, quiet_states_are_whole,
-    right_states_are_sound, stays_counted, stays_right,
+    begins_right, histories_are_right, quiet_states_are_whole, right_states_are_sound,
+    served_together, stays_right,
 };

@@ -2,13 +2,12 @@ ghost use Rattle.core_laws.specs.Laws.{
   BeginsRight,
   StaysRight,
   HistoriesAreRight,
-  StaysCounted,
-  NextIsUnused,
+  ServedTogether,
   RightStatesAreSound,
   QuietStatesAreWhole,
 };
 
-/// A state with no live root is right.
+/// A blank state is right.
 pub fn begins_right()
     ensures { BeginsRight }
 {}
@@ -23,14 +22,9 @@ pub fn histories_are_right()
     ensures { HistoriesAreRight }
 {}
 
-/// Numbers above that of the roots so far stay unused, by each transaction that may be.
-pub fn stays_counted()
-    ensures { StaysCounted }
-{}
-
-/// The number of the next root is unused.
-pub fn next_is_unused()
-    ensures { NextIsUnused }
+/// Each process of a sound library is served.
+pub fn served_together()
+    ensures { ServedTogether }
 {}
 
 /// What a right state says of its live roots is so by their completions alone.

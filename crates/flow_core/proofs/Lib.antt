@@ -2,3 +2,5 @@
 pub mod Listed
 pub mod Putting
 pub mod Moved
+pub mod OpenItems
+pub mod Versions

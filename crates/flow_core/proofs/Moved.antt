@@ -1,5 +1,6 @@
 -- What each transaction drives, from what its steps do.
-use Rattle.std.proofs.Common.{◌≡◌, ℕ, List, [], ◌∷◌, length, Option, Some, None, refl, sym, ap, subst, ◌∙◌, inr, option_map, Result, Ok, Err, IfOk, IfSome}
+use Rattle.std.proofs.Common.{◌≡◌, ℕ, List, [], ◌∷◌, length, Option, Some, None, refl, sym, ap, subst, ◌∙◌, inl, inr, option_map, Result, Ok, Err, IfOk}
+use Rattle.std.proofs.lemmas.Option.{none-some}
 use Rattle.std.specs.Ordering.{nat_cmp}
 use Rattle.std.specs.BTreeMap as tree
 use Rattle.flow_model.specs.Containers.{fresh}
@@ -12,12 +13,13 @@ use Rattle.flow_model.specs.declared.instances.Message.TheVariants.{Begin}
 use Rattle.flow_model.specs.declared.names.Name.{Name}
 use Rattle.flow_model.specs.declared.transactions.Setting.{Setting}
 use Rattle.flow_model.specs.declared.transactions.Transaction.{Transaction}
-use Rattle.flow_model.specs.declared.transactions.Transaction.TheVariants.{Start}
+use Rattle.flow_model.specs.declared.transactions.Transaction.TheVariants.{Import, Start, Turn, Claim, Release, Transfer, Take, Done, Force, Restart, Suspend, Resume, Terminate, Delete, Clock}
 use Rattle.containers.specs.Settings.{filled}
 use Rattle.navigator.specs.Instances.{IsStarted, Starts}
 use Rattle.navigator.specs.declared.instance.Instance.{Instance}
+use Rattle.flow_core.specs.Allowing.{IsAsked}
 use Rattle.flow_core.specs.Answers.{instance_of}
-use Rattle.flow_core.specs.Driving.{templates, StartsIn, BecomesStarted, ChangesRoot, ChangesRoots, Drives, IsFrontOf, put_in, queue_now}
+use Rattle.flow_core.specs.Driving.{templates, IsVersionAt, HasNoVersion, IsMade, StartsIn, BecomesStarted, ChangesRoot, ChangesRoots, Drives, IsFrontOf, put_in, queue_now}
 use Rattle.flow_core.specs.Summaries.{root_about}
 use Rattle.flow_core.specs.declared.state.Core.{Core}
 use Rattle.flow_core.proofs.Putting.{put_length, same_queue}
@@ -55,27 +57,45 @@ put_then c2 c3 given qs roots store queues before =
 -- ---- transactions
 
 pub starts : (c c1 c2 : Core) (root : ℕ) (process : Name) (version : ℕ) (starter : Name) (key : Option Name) (settings : List Setting) (i : Instance)
-    → StartsIn (templates c) root starter settings i → c1 ≡ record c { live_roots = c1.live_roots; keys = c1.keys } → ChangesRoot root (λ before after. after ≡ Some i) c c1
+    → StartsIn (templates c) root process version starter settings i → c1 ≡ record c { live_roots = c1.live_roots; keys = c1.keys } → ChangesRoot root (λ before after. after ≡ Some i) c c1
     → c2 ≡ record c1 { queues = c2.queues } → c2.queues ≡ put_in (queue_now c1) (Begin (record { root = root; parts = [] }) ∷ []) c1.queues
     → Drives c (Start root process version starter key settings) c2
 starts c c1 c2 root process version starter key settings i started rest changes put queues = record {
   given = Begin (record { root = root; parts = [] }) ∷ [];
   roots = changes_between root _ c c c1 c2 refl
-      (changes_as root _ (BecomesStarted (templates c) root starter settings (Begin (record { root = root; parts = [] }) ∷ [])) c c1
-      (λ before after e. subst (λ (o : Option Instance). BecomesStarted (templates c) root starter settings (Begin (record { root = root; parts = [] }) ∷ []) before o) (sym e) (inr (started, refl)))
+      (changes_as root _ (BecomesStarted (templates c) root process version starter settings (Begin (record { root = root; parts = [] }) ∷ [])) c c1
+      (λ before after e. subst (λ (o : Option Instance). BecomesStarted (templates c) root process version starter settings (Begin (record { root = root; parts = [] }) ∷ []) before o) (sym e) (inr (started, refl)))
       changes)
       (ap (λ (k : Core). k.live_roots) put);
   queues = put_then c1 c2 (Begin (record { root = root; parts = [] }) ∷ []) c.queues (ap (λ (k : Core). k.live_roots) put) (ap (λ (k : Core). k.store) put) queues
       (ap (λ (k : Core). k.queues) rest);
+  library = ap templates put ∙ ap templates rest;
 }
 
-pub starts_in : {E : Type 0} (r : Result (Option Instance) E) (ts ts' : List Template) (template : ℕ) (g : Graph) (input : Container) (root : ℕ) (starter starter' : Name) (settings : List Setting)
+-- no root is started where the version isn't there
+pub starts_none : (c : Core) (root : ℕ) (process : Name) (version : ℕ) (starter : Name) (key : Option Name) (settings : List Setting)
+    → HasNoVersion (templates c) process version → Drives c (Start root process version starter key settings) c
+starts_none c root process version starter key settings none = record {
+  given = [];
+  roots = record { here = stays (instance_of c root); others = λ other apart. refl };
+  queues = refl;
+  library = refl;
+}
+  where
+    stays : (o : Option Instance) → BecomesStarted (templates c) root process version starter settings [] o o
+    stays None = ((refl, refl), none)
+    stays (Some i) = inl ((refl, refl), none)
+
+pub starts_in : {E : Type 0} (r : Result (Option Instance) E) (ts ts' : List Template) (template : ℕ) (g : Graph) (input : Container) (root : ℕ) (process : Name) (version : ℕ)
+    (starter starter' : Name) (settings : List Setting) → IsVersionAt ts process version template
     → ts' ≡ ts → starter' ≡ starter → graph_of ts template ≡ Some g → input ≡ filled settings (fresh (out-Graph g).input) → IfOk r (λ i. Starts ts' template root starter' input i)
-    → IfOk r (λ made. IfSome made (StartsIn ts root starter settings))
-starts_in (Err e) ts ts' template g input root starter starter' settings same named there is made = tt
-starts_in (Ok None) ts ts' template g input root starter starter' settings same named there is made = tt
-starts_in (Ok (Some i)) ts ts' template g input root starter starter' settings same named there is made = record {
+    → IfOk r (λ made. IsMade ts root process version starter settings made)
+starts_in (Err e) ts ts' template g input root process version starter starter' settings at_ same named there is made = tt
+starts_in (Ok None) ts ts' template g input root process version starter starter' settings at_ same named there is made =
+    absurd (none-some g (sym (sym (ap (λ us. graph_of us template) same) ∙ made) ∙ there))
+starts_in (Ok (Some i)) ts ts' template g input root process version starter starter' settings at_ same named there is made = record {
   template = template;
+  version_at = at_;
   graph = g;
   input = input;
   there = there;
@@ -92,9 +112,27 @@ roots_earlier a n c t given (Some root) h = record { here = h.here; others = h.o
 
 -- numbers don't matter
 pub drives_earlier : (a n c : Core) (t : Transaction) → Drives (record a { number = n.number; roots = n.roots; kept_number = n.kept_number; kept_root = n.kept_root }) t c → Drives a t c
-drives_earlier a n c t h = record { given = h.given; roots = roots_earlier a n c t h.given (root_about t) h.roots; queues = h.queues }
+drives_earlier a n c t h = record { given = h.given; roots = roots_earlier a n c t h.given (root_about t) h.roots; queues = h.queues; library = h.library }
 
 -- the front of a queue doesn't go by numbers
 pub front_within : (a b : Core) (t : Transaction) → b ≡ record a { number = b.number; roots = b.roots; kept_number = b.kept_number; kept_root = b.kept_root } → IsFrontOf a t → IsFrontOf b t
 front_within a b t counted h =
     subst (λ (k : Core). IsFrontOf k t) (sym counted) h
+
+-- a Turn that may be takes the front of its queue
+pub front_of : (c : Core) (t : Transaction) → IsAsked c t → IsFrontOf c t
+front_of c (Turn number message) asked = asked
+front_of c (Import text) asked = tt
+front_of c (Start root process version starter key settings) asked = tt
+front_of c (Claim item who) asked = tt
+front_of c (Release item who) asked = tt
+front_of c (Transfer item who to) asked = tt
+front_of c (Take item take) asked = tt
+front_of c (Done item who settings) asked = tt
+front_of c (Force item settings) asked = tt
+front_of c (Restart item) asked = tt
+front_of c (Suspend root) asked = tt
+front_of c (Resume root) asked = tt
+front_of c (Terminate root) asked = tt
+front_of c (Delete root) asked = tt
+front_of c (Clock minutes) asked = tt

@@ -1,12 +1,12 @@
 -- Messages are put in turn, and the number of queues stays.
-use Rattle.std.proofs.Common.{◌≡◌, ℕ, ◌-◌, List, [], ◌∷◌, ◌++◌, length, refl, sym, ap, ◌∙◌}
+use Rattle.std.proofs.Common.{◌≡◌, ℕ, zero, suc, ◌-◌, true, List, [], ◌∷◌, ◌++◌, length, refl, sym, ap, ◌∙◌}
 use Rattle.std.proofs.lemmas.List.{length-set}
 use Rattle.std.specs.BTreeMap as tree
 use Rattle.std.specs.Ordering.{nat_cmp}
-use Rattle.std.specs.Prelude.{option_and_then, option_map}
+use Rattle.std.specs.Prelude.{replicate, option_and_then, option_map}
 use Rattle.flow_model.specs.ScopeContainers.{graph_of}
 use Rattle.flow_model.specs.declared.instances.Message.{Message}
-use Rattle.recover_queue.specs.Queues.{queue, with_queue, root_of}
+use Rattle.recover_queue.specs.Queues.{queue, with_queue, root_of, is_quiet}
 use Rattle.template_store.specs.declared.store.TemplateStore.{TemplateStore}
 use Rattle.flow_core.specs.Answers.{instance_of}
 use Rattle.flow_core.specs.Driving.{put_in, queue_in, queue_now, templates, graph_now}
@@ -37,3 +37,8 @@ put_next c b d done m rest queues rest' queues' =
       rest' ∙ ap (λ (k : Core). record k { queues = d.queues }) rest,
       queues' ∙ ap (λ (f : Message → ℕ). put_in f (m ∷ []) b.queues) same ∙ ap (put_in (queue_now c) (m ∷ [])) queues ∙ sym (put_behind (queue_now c) done (m ∷ []) c.queues),
     )
+
+-- no message is queued in queues that are new
+pub none_quiet : (n : ℕ) → is_quiet (replicate n []) ≡ true
+none_quiet zero = refl
+none_quiet (suc n) = none_quiet n

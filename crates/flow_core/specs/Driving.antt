@@ -1,5 +1,5 @@
 -- What a transaction does to the roots of a state, which messages it gives, and in which queues they stand.
-use Rattle.std.specs.Prelude.{◌≡◌, ◌⊎◌, ℕ, ◌+◌, ◌-◌, ◌^◌, ◌%◌, min, max, Bool, true, false, Option, Some, None, option_and_then, IfSome, List, [], ◌∷◌, ◌++◌, take, drop, length, slice_get}
+use Rattle.std.specs.Prelude.{◌≡◌, ◌⊎◌, ℕ, ◌+◌, ◌-◌, ◌^◌, ◌%◌, ◌≤◌, min, max, Bool, true, false, Option, Some, None, option_and_then, IfSome, List, [], ◌∷◌, ◌++◌, take, drop, length, slice_get}
 use Rattle.flow_model.specs.Containers.{fresh}
 use Rattle.flow_model.specs.ScopeContainers.{graph_in, graph_of}
 use Rattle.flow_model.specs.declared.graphs.Activity.{Activity}
@@ -23,6 +23,7 @@ use Rattle.navigator.specs.Reading.{place_of}
 use Rattle.navigator.specs.declared.instance.Instance.{Instance}
 use Rattle.recover_queue.specs.Queues.{root_of as root_of_message, queue, with_queue}
 use Rattle.root_laws.specs.Becoming.{TakesIn, CompletesIn, HoldsIn}
+use Rattle.template_check.specs.Built.{AreSound}
 use Rattle.flow_core.specs.Answers.{instance_of}
 use Rattle.flow_core.specs.Summaries.{root_about}
 use Rattle.flow_core.specs.Verdicts.{IsFront}
@@ -34,14 +35,36 @@ templates c = c.store.catalog.library.templates
 
 -- ---- what becomes of one root
 
--- it is started by a template of the library, with these settings in its input
-pub record StartsIn (ts : List Template) (root : ℕ) (starter : Name) (settings : List Setting) (i : Instance) : Type 0 where
+-- the template at a place is this version of a process
+pub record IsVersionAt (ts : List Template) (process : Name) (version place : ℕ) : Type 0 where
+  pub template : Template
+  pub there : slice_get ts place ≡ Some template
+  pub name : template.name ≡ process
+  pub number : template.version ≡ version
+
+-- there is no such version, in a library whose places have 32 bits
+abbrev pub HasNoVersion : List Template → Name → ℕ → Type 0
+HasNoVersion ts process version = length ts ≤ 2 ^ 32 → (place : ℕ) → IsVersionAt ts process version place → ⊥
+
+-- it is started by this version of a process, with these settings in its input
+pub record StartsIn (ts : List Template) (root : ℕ) (process : Name) (version : ℕ) (starter : Name) (settings : List Setting) (i : Instance) : Type 0 where
   pub template : ℕ
+  pub version_at : IsVersionAt ts process version template
   pub graph : Graph
   pub input : Container
   pub there : graph_of ts template ≡ Some graph
   pub filled : input ≡ filled settings (fresh (out-Graph graph).input)
   pub started : IsStarted ts template root starter input i
+
+-- what a START makes: the root that is started, or none where the version isn't there
+abbrev pub IsMade : List Template → ℕ → Name → ℕ → Name → List Setting → Option Instance → Type 0
+IsMade ts root process version starter settings None = HasNoVersion ts process version
+IsMade ts root process version starter settings (Some i) = StartsIn ts root process version starter settings i
+
+-- the place of a version, or none where it isn't there
+abbrev pub IsVersionPlace : List Template → Name → ℕ → Option ℕ → Type 0
+IsVersionPlace ts process version None = HasNoVersion ts process version
+IsVersionPlace ts process version (Some place) = IsVersionAt ts process version place
 
 -- ---- which item
 
@@ -83,11 +106,12 @@ Stays given before after = (after ≡ before) × (given ≡ [])
 abbrev pub BecomesQuietly : (Instance → Instance → Type 0) → List Message → Option Instance → Option Instance → Type 0
 BecomesQuietly becomes given before after = IfLive becomes given before after × (given ≡ [])
 
--- a START starts it, and gives the BEGIN of its scope; where the process isn't there it stays as it is
-abbrev pub BecomesStarted : List Template → ℕ → Name → List Setting → List Message → Option Instance → Option Instance → Type 0
-BecomesStarted ts root starter settings given before None = Stays given before None
-BecomesStarted ts root starter settings given before (Some i) =
-    Stays given before (Some i) ⊎ (StartsIn ts root starter settings i × (given ≡ Begin (record { root = root; parts = [] }) ∷ []))
+-- a START starts it, and gives the BEGIN of its scope; where the version isn't there it stays as it is
+abbrev pub BecomesStarted : List Template → ℕ → Name → ℕ → Name → List Setting → List Message → Option Instance → Option Instance → Type 0
+BecomesStarted ts root process version starter settings given before None = Stays given before None × HasNoVersion ts process version
+BecomesStarted ts root process version starter settings given before (Some i) =
+    (Stays given before (Some i) × HasNoVersion ts process version)
+    ⊎ (StartsIn ts root process version starter settings i × (given ≡ Begin (record { root = root; parts = [] }) ∷ []))
 
 -- an item is completed, with these settings in the output; where it isn't there nothing happens
 abbrev pub BecomesCompleted : List Template → Path → List Setting → Option Entry → List Message → Option Instance → Option Instance → Type 0
@@ -104,7 +128,7 @@ IsTerminated i i' = i' ≡ record i { terminated = true }
 -- what becomes of the root that a transaction is about, and what it gives, by the templates and the items that are there
 abbrev pub Becomes : List Template → (Path → Option Entry) → Transaction → List Message → Option Instance → Option Instance → Type 0
 Becomes ts found (Import text) given before after = Stays given before after
-Becomes ts found (Start root process version starter key settings) given before after = BecomesStarted ts root starter settings given before after
+Becomes ts found (Start root process version starter key settings) given before after = BecomesStarted ts root process version starter settings given before after
 Becomes ts found (Turn queue message) given before after = IfLive (TakesIn ts message given) given before after
 Becomes ts found (Claim item who) given before after = BecomesQuietly (HoldsIn ts) given before after
 Becomes ts found (Release item who) given before after = BecomesQuietly (HoldsIn ts) given before after
@@ -163,10 +187,14 @@ abbrev pub processes_along : List Template → List Part → Graph → ℕ
 processes_along ts [] g = 0
 processes_along ts (q ∷ p) g = processes_from (λ work. processes_below (processes_along ts p) (graph_in ts work)) (activity_named g q.name)
 
--- the queue of a message: 1 and the remainder of the root's number and those process activities, by the number of queues
+-- the queue of a scope: 1 and the remainder of the root's number and the process activities on the way, by the number of queues
+abbrev pub queue_by : List Template → ℕ → Option Graph → ℕ → List Part → ℕ
+queue_by ts count None root parts = 1
+queue_by ts count (Some g) root parts = (root + min (processes_along ts parts g) (2 ^ 64 - 1)) % max count 1 + 1
+
+-- that of a message is the one of the scope that receives it
 abbrev pub queue_in : List Template → ℕ → Option Graph → Message → ℕ
-queue_in ts count None message = 1
-queue_in ts count (Some g) message = (root_of_message message + min (processes_along ts (receiver message) g) (2 ^ 64 - 1)) % max count 1 + 1
+queue_in ts count o message = queue_by ts count o (root_of_message message) (receiver message)
 
 -- the graph of a live root
 abbrev pub graph_now : Core → ℕ → Option Graph
@@ -185,23 +213,34 @@ abbrev pub taken_by : Transaction → List (List Message) → List (List Message
 taken_by (Turn number message) qs = with_queue qs number (drop 1 (queue qs number))
 taken_by t qs = qs
 
+-- ---- the library
+
+-- an import puts templates behind those that are there, and keeps the library sound; all other transactions leave it
+abbrev pub LibraryAfter : Transaction → List Template → List Template → Type 0
+LibraryAfter (Import text) ts ts' = ((more : List Template) × (ts' ≡ ts ++ more)) × (AreSound ts → AreSound ts')
+LibraryAfter t ts ts' = ts' ≡ ts
+
 -- ---- a transaction
 
 -- the hold of an item changes, and nothing is put
-abbrev pub HoldsItem : Core → Path → Core → Type 0
-HoldsItem c item c' = ChangesRoot item.root (BecomesQuietly (HoldsIn (templates c)) []) c c' × (c'.queues ≡ c.queues)
+pub record HoldsItem (c : Core) (item : Path) (c' : Core) : Type 0 where
+  pub roots : ChangesRoot item.root (BecomesQuietly (HoldsIn (templates c)) []) c c'
+  pub queues : c'.queues ≡ c.queues
+  pub library : templates c' ≡ templates c
 
 -- an item is completed with these settings in its output, and what follows is put
 pub record CompletesItem (c : Core) (item : Path) (settings : List Setting) (c' : Core) : Type 0 where
   pub given : List Message
   pub roots : ChangesRoot item.root (BecomesCompleted (templates c) item settings (item_of c item) given) c c'
   pub queues : c'.queues ≡ put_in (queue_now c') given c.queues
+  pub library : templates c' ≡ templates c
 
--- it changes its root alone, and what it gives is put into the queues, behind what it has left there
+-- it changes its root alone, what it gives is put into the queues, behind what it has left there, and the library is the one after it
 pub record Drives (c : Core) (t : Transaction) (c' : Core) : Type 0 where
   pub given : List Message
   pub roots : ChangesRoots c t given (root_about t) c'
   pub queues : c'.queues ≡ put_in (queue_now c') given (taken_by t c.queues)
+  pub library : LibraryAfter t (templates c) (templates c')
 
 -- the message that a Turn takes, with its queue
 abbrev pub turn_of : Transaction → Option (ℕ × Message)

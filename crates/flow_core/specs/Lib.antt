@@ -3,3 +3,5 @@ pub mod Verdicts
 pub mod Replies
 pub mod Answers
 pub mod Driving
+pub mod Allowing
+pub mod Judgements

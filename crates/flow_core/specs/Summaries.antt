@@ -1,5 +1,5 @@
 -- What a history comes to, as far as a store keeps it: its counts, and its live transactions under their numbers.
-use Rattle.std.specs.Prelude.{◌≡◌, ◌⊎◌, ℕ, ◌+◌, ◌<◌, ◌≤◌, ◌==◌, max, nat_le, Bool, true, false, not, if◌then◌else◌, Option, Some, None, List, [], ◌∷◌, ◌++◌, length}
+use Rattle.std.specs.Prelude.{◌≡◌, ◌⊎◌, ℕ, ◌+◌, ◌<◌, ◌≤◌, ◌==◌, max, nat_le, Bool, true, false, not, if◌then◌else◌, Option, Some, None, List, [], ◌∷◌, ◌++◌, length, unwrap_or}
 use Rattle.std.specs.List.{filter}
 use Rattle.flow_model.specs.declared.transactions.Transaction.{Transaction}
 use Rattle.flow_model.specs.declared.transactions.Transaction.TheVariants.{Import, Start, Turn, Claim, Release, Transfer, Take, Done, Force, Restart, Suspend, Resume, Terminate, Delete, Clock}
@@ -19,9 +19,9 @@ pub record Summary : Type 0 where
 abbrev pub summary : Core → Summary
 summary c = record { queues = length c.queues; limit = c.limit; transactions = c.number; roots = c.roots; live = c.live.items }
 
--- the same, with the number up to which records are kept ones
-abbrev pub noted : Core → ℕ × Summary
-noted c = (c.kept, summary c)
+-- the same, with the number up to which records are kept ones, and the last root of those
+abbrev pub noted : Core → ℕ × ℕ × Summary
+noted c = (c.kept, c.kept_root, summary c)
 
 -- the root that a transaction is about
 abbrev pub root_about : Transaction → Option ℕ
@@ -108,6 +108,10 @@ next t s = with_transaction (s.transactions + 1) (s.transactions + 1) t s
 -- a summary that counts the number of a record, where it isn't one that was kept
 abbrev pub counted : ℕ → ℕ → Summary → Summary
 counted kept number s = record { queues = s.queues; limit = s.limit; transactions = if nat_le number kept then s.transactions else number; roots = s.roots; live = s.live }
+
+-- the last root of the kept records after one more record
+abbrev pub last_kept : ℕ → Numbered → ℕ → ℕ
+last_kept kept n root = if nat_le n.number kept then unwrap_or (started n.transaction) root else root
 
 -- the summary after a record is taken up: one that was kept from the transactions up to a number, or the next one
 abbrev pub taken_up : ℕ → Numbered → Summary → Summary

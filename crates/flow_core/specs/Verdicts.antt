@@ -1,5 +1,5 @@
 -- What becomes of a command.
-use Rattle.std.specs.Prelude.{◌≡◌, ℕ, ◌+◌, ◌-◌, ◌^◌, ◌<◌, ◌≤◌, min, Option, Some, List, slice_get}
+use Rattle.std.specs.Prelude.{◌≡◌, ℕ, ◌+◌, ◌≤◌, Option, Some, List, slice_get}
 use Rattle.flow_model.specs.declared.commands.Command.{Command}
 use Rattle.flow_model.specs.declared.commands.Command.TheVariants.{Import, Start, Turn, Drain, Claim, Release, Transfer, Take, Done, Force, Restart, Suspend, Resume, Terminate, Delete, Clock, Checkpoint, Ask}
 use Rattle.flow_model.specs.declared.instances.Fate.{Fate}
@@ -12,13 +12,11 @@ use Rattle.flow_model.specs.declared.transactions.Transaction.TheVariants as mad
 use Rattle.recover_queue.specs.Queues.{queue as messages_of}
 use Rattle.flow_core.specs.declared.applying.Note.{Note}
 use Rattle.flow_core.specs.declared.applying.Note.TheVariants as note
-use Rattle.flow_core.specs.declared.judging.Verdict.{Verdict}
-use Rattle.flow_core.specs.declared.judging.Verdict.TheVariants.{Do, Same, Refused}
 use Rattle.flow_core.specs.declared.state.Core.{Core}
 
 -- the number of the next root
 abbrev pub next_root : Core → ℕ
-next_root c = min (c.roots + 1) (2 ^ 64 - 1)
+next_root c = c.roots + 1
 
 -- the message stands at the front of this queue
 abbrev pub IsFront : Core → ℕ → Message → Type 0
@@ -44,12 +42,6 @@ IsFor c (Delete root) t = t ≡ made.Delete root
 IsFor c (Clock minutes) t = t ≡ made.Clock minutes.size
 IsFor c Checkpoint t = ⊥
 IsFor c (Ask query) t = ⊥
-
--- a command comes to its transaction, only below the limit; or a live root has its key; or it is refused
-abbrev pub IsVerdict : Core → Command → Verdict → Type 0
-IsVerdict c command (Do t) = (c.number < c.limit) × IsFor c command t
-IsVerdict c command (Same root) = Unit {0}
-IsVerdict c command (Refused refusal) = Unit {0}
 
 -- what a reply names is of the kind of its transaction; a Turn names the message that it takes
 abbrev pub IsNoteOf : Core → Transaction → Note → Type 0

@@ -1,7 +1,10 @@
 //! Records of a store: which are allowed, and the state after them.
-ghost use Rattle.std.specs.Prelude.{◌≡◌, ◌⊎◌, ◌<◌, ◌≤◌, ◌+◌, None, OnOk, IsTrue};
-ghost use Rattle.flow_core.specs.Driving.{Drives, IsFrontOf};
-ghost use Rattle.flow_core.specs.Summaries.{summary, taken_up, counted, Follows, deleted, roots_after};
+ghost use Rattle.std.specs.Prelude.{◌≡◌, ◌⊎◌, ◌<◌, ◌≤◌, ◌+◌, None, OnOk, IfOk, IfSome, IsTrue};
+ghost use Rattle.flow_core.specs.Allowing.{IsKnown, IsOpen, IsFree, CountsRoot, IsAsked, IsAskedAt, IsAllowed, IsPassed};
+ghost use Rattle.flow_model.specs.declared.instances.Path.{Path as PathOf};
+ghost use Rattle.flow_core.specs.Driving.{Drives};
+ghost use Rattle.flow_core.specs.Summaries.{summary, taken_up, counted, last_kept, Follows, deleted, started, roots_after};
+ghost use Rattle.flow_core.specs.Verdicts.{IsFront};
 ghost use Rattle.flow_core.specs.declared.adopting.AdoptFault.TheVariants.{NoMemory};
 
 use crate::applying::{deleted_root, started_root};
@@ -34,7 +37,9 @@ impl From<AllocError> for AdoptFault {
 }
 
 /// A test of a command, as a test of its record.
-fn passes(test: Result<(), Stop>) -> Result<bool, AllocError> {
+fn passes(test: Result<(), Stop>) -> Result<bool, AllocError>
+    ensures { IfOk result (λ passed. IsTrue passed → IsPassed test) }
+{
     match test {
         Ok(()) => Ok(true),
         Err(Stop::Refused(_)) => Ok(false),
@@ -76,7 +81,9 @@ impl Core {
             && settings_fit(&template.graph.input, settings)
     }
 
-    fn allows_turn(&self, queue: u8, message: &Message) -> bool {
+    fn allows_turn(&self, queue: u8, message: &Message) -> bool
+        ensures { IsTrue result → IsFront self.now queue message.now }
+    {
         if queue < 1 || queue > self.queues.count() {
             return false;
         }
@@ -113,20 +120,32 @@ impl Core {
         known: &Known<'_>,
         who: &Who,
         settings: &[Setting],
-    ) -> Result<bool, AllocError> {
+    ) -> Result<bool, AllocError>
+        ensures { (item : PathOf) → IsKnown self.now item known.now → IfOk result (λ allowed. IsTrue allowed → IsOpen self.now item) }
+    {
         let is_known = match who {
             Who::Person(name) => self.store.person(name).is_some(),
             Who::Agent(_) => true,
         };
-        Ok(
-            is_known
-                && passes(self.may_complete(known, who))?
-                && settings_fit(&known.item.activity.output, settings),
-        )
+        if !passes(self.may_complete(known, who))? {
+            return Ok(false);
+        }
+        Ok(is_known && settings_fit(&known.item.activity.output, settings))
+    }
+
+    fn allows_force(&self, known: &Known<'_>, settings: &[Setting]) -> Result<bool, AllocError>
+        ensures { (item : PathOf) → IsKnown self.now item known.now → IfOk result (λ allowed. IsTrue allowed → IsOpen self.now item) }
+    {
+        if !passes(self.may_force(known))? {
+            return Ok(false);
+        }
+        Ok(settings_fit(&known.item.activity.output, settings))
     }
 
     /// Whether a record on an item is allowed, where its item is there.
-    fn allows_on(&self, known: &Known<'_>, t: &Transaction) -> Result<bool, AllocError> {
+    fn allows_on(&self, known: &Known<'_>, t: &Transaction) -> Result<bool, AllocError>
+        ensures { (item : PathOf) → IsKnown self.now item known.now → IfOk result (λ allowed. IsTrue allowed → IsAskedAt self.now item t.now) }
+    {
         match t {
             Transaction::Claim(_, who) => self.allows_claim(known, who),
             Transaction::Release(_, who) => Ok(
@@ -139,24 +158,29 @@ impl Core {
             Transaction::Done(_, who, settings) => {
                 self.allows_done(known, who, settings.as_slice())
             }
-            Transaction::Force(_, settings) => Ok(
-                passes(self.may_force(known))?
-                    && settings_fit(&known.item.activity.output, settings.as_slice()),
-            ),
+            Transaction::Force(_, settings) => self.allows_force(known, settings.as_slice()),
             Transaction::Restart(_) => passes(self.may_restart(known)),
             _ => Ok(false),
         }
     }
 
-    fn allows_item(&self, item: &Path, t: &Transaction) -> Result<bool, AllocError> {
+    fn allows_item(&self, item: &Path, t: &Transaction) -> Result<bool, AllocError>
+        ensures { IfOk result (λ allowed. IsTrue allowed → IsAskedAt self.now item.now t.now) }
+    {
         match self.known(item) {
             None => Ok(false),
             Some(known) => self.allows_on(&known, t),
         }
     }
 
+    fn allows_clock(&self, minutes: u64) -> Result<bool, AllocError> {
+        Ok(minutes <= 2_147_483_647 && passes(self.may_set_clock(minutes))?)
+    }
+
     /// Whether the tests of a record's command give it now, number and root aside.
-    fn allows(&self, t: &Transaction) -> Result<bool, AllocError> {
+    fn allows(&self, t: &Transaction) -> Result<bool, AllocError>
+        ensures { IfOk result (λ allowed. IsTrue allowed → IsAsked self.now t.now) }
+    {
         match t {
             Transaction::Import(text) => self.allows_import(text.as_slice()),
             Transaction::Start(_, process, version, starter, key, settings) => Ok(
@@ -176,20 +200,11 @@ impl Core {
             Transaction::Done(item, _, _) => self.allows_item(item, t),
             Transaction::Force(item, _) => self.allows_item(item, t),
             Transaction::Restart(item) => self.allows_item(item, t),
-            _ => self.allows_root(t),
-        }
-    }
-
-    fn allows_root(&self, t: &Transaction) -> Result<bool, AllocError> {
-        match t {
             Transaction::Suspend(root) => passes(self.may_suspend(*root)),
             Transaction::Resume(root) => passes(self.may_resume(*root)),
             Transaction::Terminate(root) => passes(self.may_terminate(*root)),
             Transaction::Delete(root) => passes(self.may_delete(*root)),
-            Transaction::Clock(minutes) => {
-                Ok(*minutes <= 2_147_483_647 && passes(self.may_set_clock(*minutes))?)
-            }
-            _ => Ok(false),
+            Transaction::Clock(minutes) => self.allows_clock(*minutes),
         }
     }
 
@@ -206,7 +221,8 @@ impl Core {
 
     /// Whether the root of a kept Start is the next of the kept ones, and there is no kept Delete.
     fn allows_kept(&self, t: &Transaction) -> bool
-        ensures { IsTrue result → (deleted t.now ≡ None) × (roots_after t.now self.now.roots ≡ self.now.roots) }
+        ensures kept { IsTrue result → (deleted t.now ≡ None) × (roots_after t.now self.now.roots ≡ self.now.roots) }
+        ensures later { IsTrue result → IfSome (started t.now) (λ root. self.now.kept_root < root) }
     {
         if deleted_root(t).is_some() {
             return false;
@@ -218,16 +234,19 @@ impl Core {
     }
 
     /// Whether the root of a Start is the next one.
-    fn allows_new(&self, t: &Transaction) -> bool {
+    fn allows_new(&self, t: &Transaction) -> bool
+        ensures { IsTrue result → IfSome (started t.now) (λ root. self.now.roots < root) }
+    {
         match started_root(t) {
             None => true,
-            Some(root) => root == self.roots.saturating_add(1),
+            Some(root) => self.roots.checked_add(1) == Some(root),
         }
     }
 
     /// Whether a record may stand under its number.
     fn allows_place(&self, number: u64, t: &Transaction) -> bool
-        ensures { IsTrue result → Follows self.now.kept (summary self.now) (record { number = number; transaction = t.now }) }
+        ensures follows { IsTrue result → Follows self.now.kept (summary self.now) (record { number = number; transaction = t.now }) }
+        ensures free { IsTrue result → IfSome (started t.now) (IsFree self.now) }
     {
         if !self.allows_number(number) {
             return false;
@@ -243,6 +262,7 @@ impl Core {
     fn count(&mut self, number: u64, t: &Transaction)
         ensures counted { summary self.new ≡ counted self.old.kept number (summary self.old) }
         ensures kept { self.new.kept ≡ self.old.kept }
+        ensures kept_root { self.new.kept_root ≡ last_kept self.old.kept (record { number = number; transaction = t.now }) self.old.kept_root }
         ensures rest { self.new ≡ record self.old { number = self.new.number; roots = self.new.roots; kept_number = self.new.kept_number; kept_root = self.new.kept_root } }
     {
         if number > self.kept {
@@ -260,7 +280,9 @@ impl Core {
         ensures follows { OnOk result (Follows self.old.kept (summary self.old) (record { number = number; transaction = t })) }
         ensures taken { OnOk result (summary self.new ≡ taken_up self.old.kept (record { number = number; transaction = t }) (summary self.old)) }
         ensures kept { OnOk result (self.new.kept ≡ self.old.kept) }
-        ensures drives { IsFrontOf self.old t → OnOk result (Drives self.old t self.new) }
+        ensures allowed { OnOk result (IsAllowed self.old t) }
+        ensures drives { OnOk result (Drives self.old t self.new) }
+        ensures counts { OnOk result (CountsRoot self.old t self.new) }
     {
         if !self.allows_place(number, &t) || !self.allows(&t)? {
             return Err(AdoptFault::NotAllowed);

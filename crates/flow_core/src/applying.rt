@@ -1,5 +1,5 @@
 //! The state after a transaction that is allowed.
-ghost use Rattle.std.specs.Prelude.{◌≡◌, ℕ, ◌<◌, ◌+◌, [], ◌∷◌, Some, None, option_copied, option_map, OnOk, IfOk, IfSome};
+ghost use Rattle.std.specs.Prelude.{◌≡◌, ℕ, ◌<◌, ◌+◌, [], ◌∷◌, Some, None, option_copied, option_map, OnOk, IfOk, IsTrue};
 ghost use Rattle.flow_model.specs.declared.instances.Fate.{Fate as FateOf};
 ghost use Rattle.flow_model.specs.declared.instances.Message.{Message as MessageOf};
 ghost use Rattle.flow_model.specs.declared.instances.Mode.TheVariants as modes;
@@ -8,7 +8,8 @@ ghost use Rattle.flow_core.specs.declared.applying.Note.TheVariants as notes;
 ghost use Rattle.containers.specs.Settings.{filled};
 ghost use Rattle.flow_model.specs.Containers.{fresh as fresh_of};
 ghost use Rattle.flow_model.specs.declared.transactions.Transaction.TheVariants as made;
-ghost use Rattle.flow_core.specs.Driving.{templates, StartsIn, IsSuspended, IsTerminated, IfLive, ChangesRoot, Drives, IsFrontOf, HoldsItem, CompletesItem, item_of, put_in, queue_now};
+ghost use Rattle.flow_core.specs.Allowing.{CountsRoot};
+ghost use Rattle.flow_core.specs.Driving.{templates, IsVersionAt, IsVersionPlace, IsMade, IsSuspended, IsTerminated, IfLive, ChangesRoot, LibraryAfter, Drives, IsFrontOf, HoldsItem, CompletesItem, item_of, put_in, queue_now};
 ghost use Rattle.recover_queue.specs.Queues.{root_of as root_of_message};
 ghost use Rattle.root_laws.specs.Becoming.{TakesIn, CompletesIn, HoldsIn};
 ghost use Rattle.flow_core.specs.Summaries.{summary, noted, next, with_transaction, with_root_of, without, kept_by, root_about, is_root, deleted, started};
@@ -249,6 +250,7 @@ impl Core {
     fn import(&mut self, text: &Bytes) -> Result<Note, AllocError>
         ensures kept { noted self.new ≡ noted self.old }
         ensures rest { self.new ≡ record self.old { store = self.new.store } }
+        ensures library { OnOk result (LibraryAfter (made.Import text.now) (templates self.old) (templates self.new)) }
         ensures note { IfOk result (λ n. (count : ℕ) × (n ≡ notes.Imported count)) }
     {
         match self.store.import(self.alloc, text.as_slice()) {
@@ -258,7 +260,29 @@ impl Core {
         }
     }
 
-    /// The instance that a START makes.
+    /// Whether the template at a place is this version of a process.
+    fn is_version(&self, place: u32, process: &Name, version: u32) -> bool
+        ensures { IsTrue result → IsVersionAt (templates self.now) process.now version place }
+    {
+        match self.store.template(place) {
+            None => false,
+            Some(template) => {
+                template.version == version && template.name.as_slice() == process.as_slice()
+            }
+        }
+    }
+
+    /// The place of this version of a process; it is mostly the newest.
+    fn version_place(&self, process: &Name, version: u32) -> Option<u32>
+        ensures { IsVersionPlace (templates self.now) process.now version result }
+    {
+        match self.store.newest(process) {
+            Some(place) if self.is_version(place, process, version) => Some(place),
+            _ => self.store.version(process, version),
+        }
+    }
+
+    /// The instance that a START makes; None where the version isn't there.
     fn new_instance(
         &self,
         root: u64,
@@ -267,16 +291,9 @@ impl Core {
         starter: &Name,
         settings: &[Setting],
     ) -> Result<Option<Instance>, AllocError>
-        ensures { IfOk result (λ made. IfSome made (StartsIn (templates self.now) root starter.now settings.now)) }
+        ensures { IfOk result (λ made. IsMade (templates self.now) root process.now version starter.now settings.now made) }
     {
-        let place = match self.store.newest(process) {
-            None => return Ok(None),
-            Some(place) => match self.store.template(place) {
-                Some(template) if template.version == version => Some(place),
-                _ => self.store.version(process, version),
-            },
-        };
-        let Some(place) = place else {
+        let Some(place) = self.version_place(process, version) else {
             return Ok(None);
         };
         let Some(template) = self.store.template(place) else {
@@ -628,7 +645,7 @@ impl Core {
 
     /// Counts the root of a Start.
     fn count_root(&mut self, t: &Transaction)
-        ensures counted { noted self.new ≡ (self.old.kept, with_root_of t.now (summary self.old)) }
+        ensures counted { noted self.new ≡ (self.old.kept, self.old.kept_root, with_root_of t.now (summary self.old)) }
         ensures rest { self.new ≡ record self.old { roots = self.new.roots } }
     {
         if let Some(root) = started_root(t) {
@@ -638,7 +655,7 @@ impl Core {
 
     /// Takes the transactions about a root away.
     fn forget(&mut self, root: u64)
-        ensures forgets { noted self.new ≡ (self.old.kept, without root (summary self.old)) }
+        ensures forgets { noted self.new ≡ (self.old.kept, self.old.kept_root, without root (summary self.old)) }
         ensures rest { self.new ≡ record self.old { live = self.new.live } }
     {
         self.live.retain(|numbered| !is_about(root, numbered));
@@ -646,7 +663,7 @@ impl Core {
 
     /// Keeps a transaction where it is live; a Delete takes those of its root away.
     fn keep(&mut self, number: u64, t: Transaction) -> Result<(), AllocError>
-        ensures keeps { OnOk result (noted self.new ≡ (self.old.kept, kept_by number t (summary self.old))) }
+        ensures keeps { OnOk result (noted self.new ≡ (self.old.kept, self.old.kept_root, kept_by number t (summary self.old))) }
         ensures rest { self.new ≡ record self.old { live = self.new.live } }
     {
         match deleted_root(&t) {
@@ -663,7 +680,7 @@ impl Core {
     pub(crate) fn apply_as(&mut self, number: u64, t: Transaction) -> Result<Applied, AllocError>
         ensures numbered { IfOk result (λ applied. applied.number ≡ number) }
         ensures note { IfOk result (λ applied. IsNoteOf self.old t applied.note) }
-        ensures applied { OnOk result (noted self.new ≡ (self.old.kept, with_transaction self.old.number number t (summary self.old))) }
+        ensures applied { OnOk result (noted self.new ≡ (self.old.kept, self.old.kept_root, with_transaction self.old.number number t (summary self.old))) }
         ensures drives { IsFrontOf self.old t → OnOk result (Drives self.old t self.new) }
     {
         self.count_root(&t);
@@ -679,6 +696,7 @@ impl Core {
         ensures number { IfOk result (λ applied. applied.number ≡ self.old.number + 1) }
         ensures note { IfOk result (λ applied. IsNoteOf self.old t applied.note) }
         ensures drives { IsFrontOf self.old t → OnOk result (Drives self.old t self.new) }
+        ensures counts { OnOk result (CountsRoot self.old t self.new) }
     {
         self.number += 1;
         self.apply_as(self.number, t)

@@ -1,7 +1,8 @@
 //! The tests of commands on items, on paths that are read.
-ghost use Rattle.std.specs.Prelude.{◌≡◌, option_copied, option_map};
-ghost use Rattle.navigator.specs.Items.{entry_of};
+ghost use Rattle.std.specs.Prelude.{◌≡◌, option_copied, option_map, IfSome, OnOk};
+ghost use Rattle.flow_core.specs.Allowing.{known_entry, IsKnown, IsOpen, IsRunning};
 ghost use Rattle.flow_core.specs.Driving.{item_of, program_in};
+ghost use Rattle.flow_model.specs.declared.instances.Path.{Path as PathOf};
 
 use crate::refusals::{Refusal, Stop, copy_hold};
 use crate::state::Core;
@@ -46,14 +47,18 @@ impl<'a> Known<'a> {
         eligible(person, self.program, self.starter, self.performer())
     }
 
-    fn needs_active(&self) -> Result<(), Stop> {
+    fn needs_active(&self) -> Result<(), Stop>
+        ensures { OnOk result (IsRunning self.now.mode) }
+    {
         match self.mode {
             Mode::Active => Ok(()),
             mode => Err(Stop::Refused(Refusal::Mode(mode))),
         }
     }
 
-    fn needs_active_or_suspended(&self) -> Result<(), Stop> {
+    fn needs_active_or_suspended(&self) -> Result<(), Stop>
+        ensures { OnOk result (IsRunning self.now.mode) }
+    {
         match self.mode {
             Mode::Active => Ok(()),
             Mode::Suspended => Ok(()),
@@ -76,7 +81,8 @@ fn program_of(work: &Work) -> Option<&Program>
 impl Core {
     /// The item of a path; None exactly where there is none.
     pub(crate) fn known(&self, path: &Path) -> Option<Known<'_>>
-        ensures { option_map (λ k. entry_of k.item.place.graph.now k.item.place.scope.now k.item.number k.item.activity.now k.item.state.now k.item.attempt) result ≡ item_of self.now path.now }
+        ensures entry { option_map known_entry result ≡ item_of self.now path.now }
+        ensures known { IfSome result (IsKnown self.now path.now) }
     {
         let instance = self.instance(path.root)?;
         let item = instance.item(self.library(), path)?;
@@ -140,7 +146,9 @@ impl Core {
         }
     }
 
-    pub(crate) fn may_complete(&self, known: &Known<'_>, who: &Who) -> Result<(), Stop> {
+    pub(crate) fn may_complete(&self, known: &Known<'_>, who: &Who) -> Result<(), Stop>
+        ensures { (item : PathOf) → IsKnown self.now item known.now → OnOk result (IsOpen self.now item) }
+    {
         known.needs_active()?;
         match done_test(known.item.phase(), known.item.hold(), who) {
             Ok(()) => Ok(()),
@@ -148,11 +156,14 @@ impl Core {
         }
     }
 
-    pub(crate) fn may_force(&self, known: &Known<'_>) -> Result<(), Stop> {
+    pub(crate) fn may_force(&self, known: &Known<'_>) -> Result<(), Stop>
+        ensures { (item : PathOf) → IsKnown self.now item known.now → OnOk result (IsOpen self.now item) }
+    {
         known.needs_active_or_suspended()?;
         match known.item.phase() {
+            Phase::Ready => Ok(()),
+            Phase::Running => Ok(()),
             Phase::Ended => Err(Stop::Refused(Refusal::State(Phase::Ended))),
-            _ => Ok(()),
         }
     }
 

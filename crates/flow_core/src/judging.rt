@@ -3,7 +3,9 @@ ghost use Rattle.std.specs.Prelude.{◌≡◌, ℕ, ◌<◌, List as ListOf, opt
 ghost use Rattle.flow_model.specs.declared.commands.Command.TheVariants as asked;
 ghost use Rattle.flow_model.specs.declared.transactions.Setting.{Setting as SettingOf};
 ghost use Rattle.flow_model.specs.declared.transactions.Transaction.TheVariants as made;
-ghost use Rattle.flow_core.specs.Verdicts.{IsFor, IsVerdict, next_root};
+ghost use Rattle.flow_core.specs.Allowing.{IsKnown, IsAllowed};
+ghost use Rattle.flow_core.specs.Judgements.{IsVerdict};
+ghost use Rattle.flow_core.specs.Verdicts.{IsFor, next_root};
 
 use crate::items::Known;
 use crate::paths::{copy_message, unquoted};
@@ -41,6 +43,16 @@ impl Core {
         }
     }
 
+    /// The number of the next root. Each root takes a transaction, so that the limit comes first.
+    fn needs_number(&self) -> Result<u64, Stop>
+        ensures { IfOk result (λ root. root ≡ next_root self.now) }
+    {
+        match self.roots.checked_add(1) {
+            Some(root) => Ok(root),
+            None => Err(Stop::Refused(Refusal::Full(self.limit))),
+        }
+    }
+
     fn needs_person(&self, name: &Name) -> Result<&PersonDef, Stop> {
         match self.store.person(name) {
             Some(person) => Ok(person),
@@ -64,7 +76,9 @@ impl Core {
         }
     }
 
-    fn needs_item<'a>(&'a self, token: &Bytes, path: &Path) -> Result<Known<'a>, Stop> {
+    fn needs_item<'a>(&'a self, token: &Bytes, path: &Path) -> Result<Known<'a>, Stop>
+        ensures { IfOk result (IsKnown self.now path.now) }
+    {
         match self.known(path) {
             Some(known) => Ok(known),
             None => Err(self.no_item(token)),
@@ -92,6 +106,7 @@ impl Core {
     fn judge_import(&self, text: &Bytes) -> Result<Transaction, Stop>
         ensures room { OnOk result (self.now.number < self.now.limit) }
         ensures made { IfOk result (IsFor self.now (asked.Import text.now)) }
+        ensures allowed { IfOk result (IsAllowed self.now) }
     {
         match self.store.check(self.alloc, text.as_slice()) {
             Ok(_) => {}
@@ -122,6 +137,7 @@ impl Core {
     ) -> Result<Transaction, Stop>
         ensures room { OnOk result (self.now.number < self.now.limit) }
         ensures made { IfOk result (λ t. (version : ℕ) × (settings : ListOf SettingOf) × (t ≡ made.Start (next_root self.now) process.now version starter.now (option_copied key.entry) settings)) }
+        ensures allowed { IfOk result (IsAllowed self.now) }
     {
         self.needs_person(starter)?;
         let Some(place) = self.store.newest(process) else {
@@ -133,7 +149,7 @@ impl Core {
         let settings = self.needs_settings(&template.graph.input, None, written)?;
         self.needs_room()?;
         Ok(Transaction::Start(
-            self.roots.saturating_add(1),
+            self.needs_number()?,
             process.copy(self.alloc)?,
             template.version,
             starter.copy(self.alloc)?,
@@ -145,6 +161,7 @@ impl Core {
     fn judge_turn(&self, number: u64) -> Result<Transaction, Stop>
         ensures room { OnOk result (self.now.number < self.now.limit) }
         ensures made { IfOk result (IsFor self.now (asked.Turn number)) }
+        ensures allowed { IfOk result (IsAllowed self.now) }
     {
         let count = self.queues.count();
         let queue = u8::try_from(number).unwrap_or(0);
@@ -161,6 +178,7 @@ impl Core {
     fn judge_claim(&self, token: &Bytes, name: &Name) -> Result<Transaction, Stop>
         ensures room { OnOk result (self.now.number < self.now.limit) }
         ensures made { IfOk result (IsFor self.now (asked.Claim token.now name.now)) }
+        ensures allowed { IfOk result (IsAllowed self.now) }
     {
         let person = self.needs_person(name)?;
         let path = self.needs_path(token)?;
@@ -173,6 +191,7 @@ impl Core {
     fn judge_release(&self, token: &Bytes, name: &Name) -> Result<Transaction, Stop>
         ensures room { OnOk result (self.now.number < self.now.limit) }
         ensures made { IfOk result (IsFor self.now (asked.Release token.now name.now)) }
+        ensures allowed { IfOk result (IsAllowed self.now) }
     {
         self.needs_person(name)?;
         let path = self.needs_path(token)?;
@@ -185,6 +204,7 @@ impl Core {
     fn judge_transfer(&self, token: &Bytes, from: &Name, to: &Name) -> Result<Transaction, Stop>
         ensures room { OnOk result (self.now.number < self.now.limit) }
         ensures made { IfOk result (IsFor self.now (asked.Transfer token.now from.now to.now)) }
+        ensures allowed { IfOk result (IsAllowed self.now) }
     {
         self.needs_person(from)?;
         let person = self.needs_person(to)?;
@@ -199,6 +219,7 @@ impl Core {
     fn judge_take(&self, token: &Bytes) -> Result<Transaction, Stop>
         ensures room { OnOk result (self.now.number < self.now.limit) }
         ensures made { IfOk result (IsFor self.now (asked.Take token.now)) }
+        ensures allowed { IfOk result (IsAllowed self.now) }
     {
         let path = self.needs_path(token)?;
         let known = self.needs_item(token, &path)?;
@@ -211,6 +232,7 @@ impl Core {
     fn judge_done(&self, token: &Bytes, who: &Who, outcome: &Outcome) -> Result<Transaction, Stop>
         ensures room { OnOk result (self.now.number < self.now.limit) }
         ensures made { IfOk result (IsFor self.now (asked.Done token.now who.now outcome.now)) }
+        ensures allowed { IfOk result (IsAllowed self.now) }
     {
         if let Who::Person(name) = who {
             self.needs_person(name)?;
@@ -230,6 +252,7 @@ impl Core {
     fn judge_force(&self, token: &Bytes, outcome: &Outcome) -> Result<Transaction, Stop>
         ensures room { OnOk result (self.now.number < self.now.limit) }
         ensures made { IfOk result (IsFor self.now (asked.Force token.now outcome.now)) }
+        ensures allowed { IfOk result (IsAllowed self.now) }
     {
         let path = self.needs_path(token)?;
         let known = self.needs_item(token, &path)?;
@@ -242,6 +265,7 @@ impl Core {
     fn judge_restart(&self, token: &Bytes) -> Result<Transaction, Stop>
         ensures room { OnOk result (self.now.number < self.now.limit) }
         ensures made { IfOk result (IsFor self.now (asked.Restart token.now)) }
+        ensures allowed { IfOk result (IsAllowed self.now) }
     {
         let path = self.needs_path(token)?;
         let known = self.needs_item(token, &path)?;
@@ -302,6 +326,7 @@ impl Core {
     fn clock_to(&self, number: &NumberAt) -> Result<Transaction, Stop>
         ensures room { OnOk result (self.now.number < self.now.limit) }
         ensures made { IfOk result (IsFor self.now (asked.Clock number.now)) }
+        ensures allowed { IfOk result (IsAllowed self.now) }
     {
         if number.size > MOST_MINUTES {
             let place = number.place.saturating_add(1);
@@ -315,6 +340,7 @@ impl Core {
     fn on_root(&self, command: &Command) -> Result<Transaction, Stop>
         ensures room { OnOk result (self.now.number < self.now.limit) }
         ensures made { IfOk result (IsFor self.now command.now) }
+        ensures allowed { IfOk result (IsAllowed self.now) }
     {
         let transaction = match command {
             Command::Suspend(root) => {
@@ -343,6 +369,7 @@ impl Core {
     fn transaction(&self, command: &Command) -> Result<Transaction, Stop>
         ensures room { OnOk result (self.now.number < self.now.limit) }
         ensures made { IfOk result (IsFor self.now command.now) }
+        ensures allowed { IfOk result (IsAllowed self.now) }
     {
         match command {
             Command::Import(text) => self.judge_import(text),

@@ -1,5 +1,5 @@
 //! Paths: the queue of a message, the rank of an item, and equal messages.
-ghost use Rattle.std.specs.Prelude.{◌≡◌, ◌-◌, ◌^◌, min, Some, option_copied, IfOk};
+ghost use Rattle.std.specs.Prelude.{◌≡◌, ◌-◌, ◌^◌, min, Some, option_copied, IfOk, IsTrue};
 ghost use Rattle.flow_core.specs.Driving.{activity_named as named_activity, is_process as processes_of, processes_along, receiver as receiver_of, queue_in};
 ghost use Rattle.recover_queue.specs.Queues.{root_of as root_in};
 
@@ -101,20 +101,36 @@ pub fn rank_of(
     Ok(rank)
 }
 
-fn same_part(first: &Part, second: &Part) -> bool {
+fn same_part(first: &Part, second: &Part) -> bool
+    ensures { IsTrue result → first.now ≡ second.now }
+{
     first.attempt == second.attempt && first.name.as_slice() == second.name.as_slice()
 }
 
+/// Whether two lists of parts are one.
+fn same_parts(first: &[Part], second: &[Part]) -> bool
+    ensures { IsTrue result → first.now ≡ second.now }
+{
+    match (first, second) {
+        ([], []) => true,
+        ([part, rest @ ..], [other, others @ ..]) => {
+            same_part(part, other) && same_parts(rest, others)
+        }
+        _ => false,
+    }
+}
+
 /// Whether two paths are one.
-pub fn same_path(first: &Path, second: &Path) -> bool {
-    let (a, b) = (first.parts.as_slice(), second.parts.as_slice());
-    first.root == second.root
-        && a.len() == b.len()
-        && a.iter().zip(b.iter()).all(|(x, y)| same_part(x, y))
+pub fn same_path(first: &Path, second: &Path) -> bool
+    ensures { IsTrue result → first.now ≡ second.now }
+{
+    first.root == second.root && same_parts(first.parts.as_slice(), second.parts.as_slice())
 }
 
 /// Whether two messages are one.
-pub fn same_message(first: &Message, second: &Message) -> bool {
+pub fn same_message(first: &Message, second: &Message) -> bool
+    ensures { IsTrue result → first.now ≡ second.now }
+{
     match (first, second) {
         (Message::Begin(a), Message::Begin(b)) => same_path(a, b),
         (Message::End(a), Message::End(b)) => same_path(a, b),

@@ -1,5 +1,6 @@
 //! The state: what the transactions so far come to.
 ghost use Rattle.std.specs.Prelude.{◌≡◌, ◌+◌, ◌<◌, ◌↔◌, ◌≤◌, length, [], IfOk, IsTrue, option_copied};
+ghost use Rattle.flow_core.specs.Allowing.{IsBlank};
 ghost use Rattle.flow_core.specs.Summaries.{summary};
 ghost use Rattle.flow_core.specs.Answers.{instance_of};
 ghost use Rattle.flow_core.specs.Driving.{graph_now};
@@ -55,6 +56,7 @@ impl Core {
     ) -> Result<Core, AllocError>
         ensures begins { IfOk result (λ core. summary core ≡ record { queues = queues; limit = limit; transactions = transactions; roots = roots; live = [] }) }
         ensures kept { IfOk result (λ core. core.kept ≡ transactions) }
+        ensures blank { IfOk result IsBlank }
     {
         Ok(Core {
             alloc,
@@ -76,7 +78,9 @@ impl Core {
 
     /// The state before any transaction.
     pub fn new(alloc: Global, queues: u8, limit: u64) -> Result<Core, AllocError>
-        ensures { IfOk result (λ core. summary core ≡ record { queues = queues; limit = limit; transactions = 0; roots = 0; live = [] }) }
+        ensures begins { IfOk result (λ core. summary core ≡ record { queues = queues; limit = limit; transactions = 0; roots = 0; live = [] }) }
+        ensures kept { IfOk result (λ core. core.kept ≡ 0) }
+        ensures blank { IfOk result IsBlank }
     {
         Core::resume(alloc, queues, limit, 0, 0)
     }

@@ -1,0 +1,14 @@
+use Rattle.std.proofs.Common.{◌≡◌, ap, rules, ◌∙◌}
+use Rattle.flow_model.specs.declared.graphs.Library.{Library}
+use Rattle.flow_model.specs.declared.instances.Message.{Message}
+use Rattle.recover_queue.specs.Queues.{is_quiet}
+use Rattle.flow_core.proofs.Putting.{none_quiet}
+use Rattle.flow_core.proofs.state.Core.resume.Goals as goal
+
+pub returns-clause-blank : goal.returns-clause-blank
+returns-clause-blank c = record {
+  roots = λ root. search rules;
+  queues = ap is_quiet c.in_ok-new.ensures ∙ none_quiet c.args.queues;
+  library = ap (λ (l : Library). l.templates) c.new-2.ensures.empty;
+  live = c.new-6.ensures.items;
+}
