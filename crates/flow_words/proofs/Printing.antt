@@ -18,7 +18,7 @@ module _ {E : Type 0} (input : Input) where
   prints_answer Answers (Err e) old new ended answers printed = inl (subst IsUnanswered (sym printed.0) tt, printed.1)
 
   -- the clauses of `read` and of `checked` together
-  pub is_check : (left : Option (List ℕ)) (r : Result Answer E) → IsGathered false left input → ((line : ℕ) → input.too_long ≡ Some line → IfOk r (λ answer. Refuses answer (codes "LINE") (line ∷ []))) → (input.too_long ≡ None → IfOk r AnswersTree)
+  pub is_check : (left : Option (List ℕ)) (r : Result Answer E) → IsGathered false left input → ((line : ℕ) → input.too_long ≡ Some line → IfOk r (λ answer. Refuses answer (codes "LINE") (line ∷ []))) → (input.too_long ≡ None → IfOk r (AnswersTree input.text.items))
       → IfOk r (IsCheckOf left input)
   is_check left (Ok answer) gathered long judged = record { gathered = gathered; long = long; judged = judged }
   is_check left (Err e) gathered long judged = tt
@@ -26,7 +26,7 @@ module _ {E : Type 0} (input : Input) where
   -- the clauses of `read` and of `fated` together
   pub is_fate : (left : Option (List ℕ)) (r : Result Answer E) → IsGathered true left input → ((line : ℕ) → input.too_long ≡ Some line → IfOk r (λ answer. Refuses answer (codes "LINE") (line ∷ [])))
       → (input.too_long ≡ None → input.is_ended ≡ false → IfOk r (λ answer. Refuses answer (codes "UNENDED") []))
-      → (input.too_long ≡ None → input.is_ended ≡ true → IfOk r (λ answer. AnswersText answer input.behind.items))
+      → (input.too_long ≡ None → input.is_ended ≡ true → IfOk r (λ answer. AnswersText input.text.items answer input.behind.items))
       → IfOk r (IsFateOf left input)
   is_fate left (Ok answer) gathered long unended judged = record { gathered = gathered; long = long; unended = unended; judged = judged }
   is_fate left (Err e) gathered long unended judged = tt

@@ -42,14 +42,14 @@ PrintsAnswer Answers old new ended =
 pub record IsCheckOf (left : Option (List ℕ)) (input : Input) (answer : Answer) : Type 0 where
   pub gathered : IsGathered false left input
   pub long : (line : ℕ) → input.too_long ≡ Some line → Refuses answer (codes "LINE") (line ∷ [])
-  pub judged : input.too_long ≡ None → AnswersTree answer
+  pub judged : input.too_long ≡ None → AnswersTree input.text.items answer
 
 -- what `fate` answers, where a line of what the source had left ends its text: its first line that is too long, else that its text has no end, else the answer to its text
 pub record IsFateOf (left : Option (List ℕ)) (input : Input) (answer : Answer) : Type 0 where
   pub gathered : IsGathered true left input
   pub long : (line : ℕ) → input.too_long ≡ Some line → Refuses answer (codes "LINE") (line ∷ [])
   pub unended : input.too_long ≡ None → input.is_ended ≡ false → Refuses answer (codes "UNENDED") []
-  pub judged : input.too_long ≡ None → input.is_ended ≡ true → AnswersText answer input.behind.items
+  pub judged : input.too_long ≡ None → input.is_ended ≡ true → AnswersText input.text.items answer input.behind.items
 
 -- These words are none that need no store: they begin with another word, or more stand behind `check` or `fate`.
 abbrev pub IsUnknown : List (List ℕ) → Type 0

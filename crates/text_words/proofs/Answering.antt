@@ -1,5 +1,5 @@
 -- How the answers of the parts of `fate` are answers of the whole.
-use Rattle.std.proofs.Common.{◌≡◌, ℕ, ◌-◌, Option, Some, List, [], ◌∷◌, Result, IfOk, codes, length, slice_get, unwrap_or, inl, inr, subst}
+use Rattle.std.proofs.Common.{◌≡◌, ℕ, ◌-◌, Option, Some, List, [], ◌∷◌, ◌++◌, Result, IfOk, codes, length, slice_get, unwrap_or, inl, inr, ap, sym, subst, ◌∙◌}
 use Rattle.std.specs.List.{All}
 use Rattle.std.proofs.lemmas.Option.{get_or_from_slice_get, slice_get_within}
 use Rattle.std.proofs.lemmas.Result.{IfOk-weaker}
@@ -14,10 +14,13 @@ use Rattle.flow_model.specs.Rows.{deepest, AreReady}
 use Rattle.flow_model.specs.declared.graphs.Container.{Container}
 use Rattle.flow_model.specs.declared.graphs.Graph.{Graph, out-Graph}
 use Rattle.flow_model.specs.declared.graphs.Leaves.{Leaves}
+use Rattle.flow_model.specs.declared.graphs.Library.{Library}
 use Rattle.flow_model.specs.declared.graphs.Template.{Template}
 use Rattle.flow_model.specs.declared.instances.Fact.{Fact}
 use Rattle.flow_model.specs.declared.instances.FateRow.{FateRow}
 use Rattle.template_check.specs.Built.{AreSound}
+use Rattle.template_check.specs.Compiling.{IsNamedBy}
+use Rattle.template_store.specs.Store.{AddsProcessesOf}
 use Rattle.template_check.proofs.Together.{laid_together, well_together}
 use Rattle.text_words.specs.Answers.{Refuses}
 use Rattle.text_words.specs.FateAnswers.{fates_text, fates_by, TellsFates, IsOfLast}
@@ -96,3 +99,7 @@ module _ {E : Type 0} (r : Result Answer E) (ts : List Template) (t : Template) 
         there = there;
         answers = inl (record { ready = two.ready; tells = subst (λ (l : List ℕ). TellsFates answer l read.fault) text says });
       }) h
+
+-- what an import adds to a library that is empty is all of it
+pub named_alone : (text : List ℕ) (old new : Library) → old ≡ record { templates = []; people = [] } → AddsProcessesOf text old new → IsNamedBy text new.templates
+named_alone text old new empty adds = subst (IsNamedBy text) (sym (adds.behind ∙ ap (λ (l : Library). l.templates ++ adds.added) empty)) adds.named

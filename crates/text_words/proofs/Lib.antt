@@ -1,3 +1,5 @@
+pub mod Steps
+pub mod Reading
 pub mod Answering
 pub mod Gathering
 pub mod Writing

@@ -4,6 +4,7 @@ use Rattle.std.specs.List.{flat_map}
 use Rattle.std.specs.Fmt.{decimal}
 use Rattle.fdl_print.specs.Canonical.{canonical_text}
 use Rattle.flow_model.specs.declared.trees.Tree.{Tree}
+use Rattle.template_check.specs.Compiling.{HasTree}
 use Rattle.template_check.specs.declared.faults.RuleFault.{RuleFault}
 use Rattle.text_words.specs.declared.check.Answer.{Answer}
 
@@ -29,6 +30,6 @@ pub record Tells (answer : Answer) (said : List ℕ) : Type 0 where
 abbrev pub RefusesRule : Answer → RuleFault → Type 0
 RefusesRule answer fault = Refuses answer (codes "RULE") (fault.rule ∷ fault.line ∷ [])
 
--- the word `check` answers to a text with its refusal, or with the canonical text of a tree
-abbrev pub AnswersTree : Answer → Type 0
-AnswersTree answer = ((fault : RuleFault) × RefusesRule answer fault) ⊎ (tree : Tree) × Tells answer (canonical_text tree)
+-- the word `check` answers to a text with its refusal, or with the canonical text of its tree
+abbrev pub AnswersTree : List ℕ → Answer → Type 0
+AnswersTree text answer = ((fault : RuleFault) × RefusesRule answer fault) ⊎ (tree : Tree) × HasTree text tree × Tells answer (canonical_text tree)

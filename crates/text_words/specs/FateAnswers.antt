@@ -15,12 +15,13 @@ use Rattle.reply_text.specs.Replies.{row_text}
 use Rattle.text_words.specs.Answers.{Tells, Refuses, RefusesRule}
 use Rattle.template_check.specs.declared.faults.RuleFault.{RuleFault}
 use Rattle.template_check.specs.Built.{AreSound}
+use Rattle.template_check.specs.Compiling.{IsNamedBy}
 use Rattle.text_words.specs.declared.check.Answer.{Answer}
 use Rattle.text_words.specs.declared.completions.LineFault.{LineFault}
 use Rattle.text_words.specs.declared.completions.LineFault.TheVariants.{Word, Target, Value}
 use Rattle.text_words.specs.declared.completions.Read.{Read}
 use Rattle.text_words.specs.declared.input.Numbered.{Numbered}
-use Rattle.text_words.specs.Completions.{IsFrom}
+use Rattle.text_words.specs.Completions.{IsRead}
 
 -- DONE where the root has an output, else OPEN
 abbrev pub state_word : Option Container → List ℕ
@@ -82,15 +83,16 @@ pub record IsOfLast (answer : Answer) (ts : List Template) (last : Template) (re
   pub there : slice_get ts (length ts - 1) ≡ Some last
   pub answers : AnswersRead answer ts last.graph read
 
--- the answer over the processes of a text: there is none, or the last one is asked by completions of the lines behind it
+-- the answer over the processes of a text: there is none, or the last one is asked by exactly the completions that the lines behind it say
 abbrev pub AnswersLibrary : Answer → List Template → List Numbered → Type 0
-AnswersLibrary answer ts behind = ((ts ≡ []) × Refuses answer (codes "PROCESS") []) ⊎ (last : Template) × (read : Read) × IsOfLast answer ts last read × IsFrom behind read
+AnswersLibrary answer ts behind = ((ts ≡ []) × Refuses answer (codes "PROCESS") []) ⊎ (last : Template) × (read : Read) × IsOfLast answer ts last read × IsRead ts last.graph behind read
 
--- the processes of a text, each of them sound
-pub record IsAnsweredBy (answer : Answer) (ts : List Template) (behind : List Numbered) : Type 0 where
+-- the processes of a text, in order and by their names, each of them sound
+pub record IsAnsweredBy (text : List ℕ) (answer : Answer) (ts : List Template) (behind : List Numbered) : Type 0 where
+  pub named : IsNamedBy text ts
   pub sound : AreSound ts
   pub answers : AnswersLibrary answer ts behind
 
 -- the answer to a text that has an end: the refusal of a rule, or the answer over its processes
-abbrev pub AnswersText : Answer → List Numbered → Type 0
-AnswersText answer behind = ((fault : RuleFault) × RefusesRule answer fault) ⊎ (ts : List Template) × IsAnsweredBy answer ts behind
+abbrev pub AnswersText : List ℕ → Answer → List Numbered → Type 0
+AnswersText text answer behind = ((fault : RuleFault) × RefusesRule answer fault) ⊎ (ts : List Template) × IsAnsweredBy text answer ts behind

@@ -42,7 +42,7 @@ pub fn rule_refusal(alloc: Global, fault: &RuleFault) -> Result<Answer, AllocErr
 
 /// The canonical text of a text that breaks no rule, or its refusal.
 fn judged(alloc: Global, text: &[u8]) -> Result<Answer, AllocError>
-    ensures { IfOk result AnswersTree }
+    ensures { IfOk result (AnswersTree text.now) }
 {
     match compile(alloc, text, &Catalog::new(alloc)) {
         Ok(_) => {}
@@ -61,7 +61,7 @@ fn judged(alloc: Global, text: &[u8]) -> Result<Answer, AllocError>
 /// What `check` answers to an input.
 pub fn checked(alloc: Global, input: &Input) -> Result<Answer, AllocError>
     ensures long { (line : ℕ) → input.now.too_long ≡ Some line → IfOk result (λ answer. Refuses answer (codes "LINE") (line ∷ [])) }
-    ensures judged { input.now.too_long ≡ None → IfOk result AnswersTree }
+    ensures judged { input.now.too_long ≡ None → IfOk result (AnswersTree input.now.text.items) }
 {
     match input.too_long {
         Some(line) => refusal(alloc, b"LINE", &[line]),

@@ -1,14 +1,15 @@
 //! The completion lines of `fate`, as far as the first one that can't be accepted.
-ghost use Rattle.std.specs.Prelude.{◌≡◌, [], ◌∷◌, ◌++◌, length, IfOk, IfSome, OnOk};
-ghost use Rattle.text_words.specs.Completions.{IsOfOne, IsFrom, KeepsRead, KeepsFrom};
+ghost use Rattle.std.specs.Prelude.{◌≡◌, Some, IfOk, OnOk};
+ghost use Rattle.std.specs.Option.{option_copied};
+ghost use Rattle.text_words.specs.Completions.{said, unsaid, with_fact, with_fault, is_step_to, completed, next_of, NamesItem, activity_of as named_in, activity_at as reached, program_at as program_reached, SaysOf, SaysItem, SaysIt, SaysLine, SaysBehind, IsRead};
 
 use crate::input::Numbered;
+use crate::paths::written_item;
 use blocks_subprocs::graph_of;
 use command_lang::{CommandFault, read_completion};
 use containers::{fresh, settings_of, with_settings};
 use flow_model::{
-    Activity, Completion, Fact, Graph, Library, List, Name, Outcome, Part, Path, PathFault, Target,
-    Work, path_of,
+    Activity, Completion, Fact, Graph, Library, List, Name, Outcome, Part, Path, Target, Work,
 };
 use std::alloc::{AllocError, Global};
 
@@ -34,7 +35,9 @@ pub struct Read {
 }
 
 /// The activity of this name.
-fn activity_of<'a>(graph: &'a Graph, name: &Name) -> Option<&'a Activity> {
+fn activity_of<'a>(graph: &'a Graph, name: &Name) -> Option<&'a Activity>
+    ensures { option_copied result ≡ named_in name.now graph.now }
+{
     graph
         .activities
         .as_slice()
@@ -42,19 +45,26 @@ fn activity_of<'a>(graph: &'a Graph, name: &Name) -> Option<&'a Activity> {
         .find(|activity| activity.name.as_slice() == name.as_slice())
 }
 
-/// The program activity to which the parts of a path lead.
-fn program_at<'a>(library: &'a Library, graph: &'a Graph, parts: &[Part]) -> Option<&'a Activity> {
-    let mut graph = graph;
-    let mut found = None;
-    for part in parts {
-        let activity = activity_of(graph, &part.name)?;
-        found = Some(activity);
-        match graph_of(library, &activity.work) {
-            Some(inner) => graph = inner,
-            None => {}
+/// The activity to which the parts of a path lead down from a graph, through blocks and subprocesses.
+fn activity_at<'a>(library: &'a Library, graph: &'a Graph, parts: &[Part]) -> Option<&'a Activity>
+    ensures { option_copied result ≡ reached library.now.templates parts.now graph.now }
+{
+    match parts {
+        [] => None,
+        [part] => activity_of(graph, &part.name),
+        [part, below @ ..] => {
+            let activity = activity_of(graph, &part.name)?;
+            let inner = graph_of(library, &activity.work)?;
+            activity_at(library, inner, below)
         }
     }
-    let activity = found?;
+}
+
+/// The program activity to which the parts of a path lead.
+fn program_at<'a>(library: &'a Library, graph: &'a Graph, parts: &[Part]) -> Option<&'a Activity>
+    ensures { option_copied result ≡ program_reached library.now.templates parts.now graph.now }
+{
+    let activity = activity_at(library, graph, parts)?;
     match &activity.work {
         Work::Program(_) => Some(activity),
         _ => None,
@@ -62,18 +72,27 @@ fn program_at<'a>(library: &'a Library, graph: &'a Graph, parts: &[Part]) -> Opt
 }
 
 /// Whether a path is an attempt of this activity of the root scope.
-fn is_of(fact: &Fact, name: &Name) -> bool {
+fn is_of(fact: &Fact, name: &Name) -> bool
+    ensures { result ≡ is_step_to name.now fact.now.item.parts }
+{
     match fact.item.parts.as_slice() {
         [part] => part.name.as_slice() == name.as_slice(),
         _ => false,
     }
 }
 
+/// How many attempts of an activity of the root scope were completed.
+fn completed_of(facts: &[Fact], name: &Name) -> usize
+    ensures { result ≡ completed name.now facts.now }
+{
+    facts.iter().filter(|fact| is_of(fact, name)).count()
+}
+
 /// The ready attempt of an activity of the root scope, if it has one: the one after those that were completed.
 fn named_item(alloc: Global, facts: &[Fact], name: &Name) -> Result<Path, AllocError>
-    ensures { IfOk result (λ path. path.root ≡ 1) }
+    ensures { IfOk result (λ path. path ≡ next_of name.now facts.now) }
 {
-    let done = facts.iter().filter(|fact| is_of(fact, name)).count() as u64;
+    let done = completed_of(facts, name) as u64;
     let mut parts = List::new(alloc);
     parts.push(Part {
         name: name.copy(alloc)?,
@@ -82,41 +101,35 @@ fn named_item(alloc: Global, facts: &[Fact], name: &Name) -> Result<Path, AllocE
     Ok(Path { root: 1, parts })
 }
 
-/// The bytes of an item token between its quotes.
-pub fn unquoted(token: &[u8]) -> &[u8] {
-    match token {
-        [_, inner @ .., _] => inner,
-        _ => token,
-    }
-}
-
 /// The item that a line completes; None where it is none of root 1.
 fn item_of(alloc: Global, facts: &[Fact], target: &Target) -> Result<Option<Path>, AllocError>
-    ensures { IfOk result (λ item. IfSome item (λ path. path.root ≡ 1)) }
+    ensures { IfOk result (NamesItem facts.now target.now) }
 {
     match target {
         Target::Activity(name) => Ok(Some(named_item(alloc, facts, name)?)),
-        Target::Item(token) => match path_of(alloc, unquoted(token.as_slice())) {
-            Ok(path) if path.root == 1 => Ok(Some(path)),
-            Ok(_) => Ok(None),
-            Err(PathFault::BadPath) => Ok(None),
-            Err(PathFault::NoMemory) => Err(AllocError),
-        },
+        Target::Item(token) => written_item(alloc, token.as_slice()),
     }
 }
 
 impl Read {
+    fn new(alloc: Global) -> Read
+        ensures { said result ≡ unsaid }
+    {
+        Read {
+            facts: Vec::new(alloc),
+            lines: Vec::new(alloc),
+            fault: None,
+        }
+    }
+
     fn stop(&mut self, line: u64, fault: LineFault)
-        ensures same { (self.new.facts ≡ self.old.facts) × (self.new.lines ≡ self.old.lines) }
-        ensures from { KeepsFrom line self.old self.new }
+        ensures { said self.new ≡ with_fault line fault (said self.old) }
     {
         self.fault = Some((line, fault));
     }
 
     fn accept(&mut self, line: u64, fact: Fact) -> Result<(), AllocError>
-        requires { fact.item.root ≡ 1 }
-        ensures of_one { OnOk result (KeepsRead self.old self.new) }
-        ensures from { OnOk result (KeepsFrom line self.old self.new) }
+        ensures { OnOk result (said self.new ≡ with_fact line fact (said self.old)) }
     {
         self.facts.push(fact)?;
         self.lines.push(line)?;
@@ -133,9 +146,7 @@ impl Read {
         activity: &Activity,
         outcome: &Outcome,
     ) -> Result<(), AllocError>
-        requires { item.root ≡ 1 }
-        ensures of_one { OnOk result (KeepsRead self.old self.new) }
-        ensures from { OnOk result (KeepsFrom line self.old self.new) }
+        ensures { OnOk result (SaysOf line outcome.now item (Some activity.now) (said self.old) (said self.new)) }
     {
         let output = fresh(alloc, &activity.output)?;
         let settings = outcome.settings.as_slice();
@@ -151,6 +162,31 @@ impl Read {
         }
     }
 
+    /// Adds the completion of the item that a target names.
+    fn add_item(
+        &mut self,
+        alloc: Global,
+        library: &Library,
+        graph: &Graph,
+        line: u64,
+        item: Option<Path>,
+        outcome: &Outcome,
+    ) -> Result<(), AllocError>
+        ensures { OnOk result (SaysItem library.now.templates graph.now line outcome.now item (said self.old) (said self.new)) }
+    {
+        let Some(item) = item else {
+            self.stop(line, LineFault::Target);
+            return Ok(());
+        };
+        match program_at(library, graph, item.parts.as_slice()) {
+            None => {
+                self.stop(line, LineFault::Target);
+                Ok(())
+            }
+            Some(activity) => self.complete(alloc, line, item, activity, outcome),
+        }
+    }
+
     /// Adds the completion of a line.
     fn add(
         &mut self,
@@ -160,19 +196,51 @@ impl Read {
         line: u64,
         completion: &Completion,
     ) -> Result<(), AllocError>
-        ensures of_one { OnOk result (KeepsRead self.old self.new) }
-        ensures from { OnOk result (KeepsFrom line self.old self.new) }
+        ensures { OnOk result (SaysIt library.now.templates graph.now line completion.now (said self.old) (said self.new)) }
     {
-        let Some(item) = item_of(alloc, &self.facts, &completion.target)? else {
-            self.stop(line, LineFault::Target);
+        let item = item_of(alloc, &self.facts, &completion.target)?;
+        self.add_item(alloc, library, graph, line, item, &completion.outcome)
+    }
+
+    /// Adds what a line says.
+    fn add_line(
+        &mut self,
+        alloc: Global,
+        library: &Library,
+        graph: &Graph,
+        numbered: &Numbered,
+    ) -> Result<(), AllocError>
+        ensures { OnOk result (SaysLine library.now.templates graph.now numbered.now (said self.old) (said self.new)) }
+    {
+        let line = numbered.line.as_slice();
+        if line.len() > 65_536 {
+            self.stop(numbered.number, LineFault::Word(65_537));
             return Ok(());
-        };
-        match program_at(library, graph, item.parts.as_slice()) {
-            None => {
-                self.stop(line, LineFault::Target);
+        }
+        match read_completion(alloc, line) {
+            Ok(None) => Ok(()),
+            Ok(Some(completion)) => self.add(alloc, library, graph, numbered.number, &completion),
+            Err(CommandFault::Word(place)) => {
+                self.stop(numbered.number, LineFault::Word(place));
                 Ok(())
             }
-            Some(activity) => self.complete(alloc, line, item, activity, &completion.outcome),
+            Err(CommandFault::NoMemory) => Err(AllocError),
+        }
+    }
+
+    /// Adds what a line says, if no line before it was refused.
+    fn add_next(
+        &mut self,
+        alloc: Global,
+        library: &Library,
+        graph: &Graph,
+        numbered: &Numbered,
+    ) -> Result<(), AllocError>
+        ensures { OnOk result (SaysBehind library.now.templates graph.now numbered.now self.old.fault (said self.old) (said self.new)) }
+    {
+        match self.fault {
+            Some(_) => Ok(()),
+            None => self.add_line(alloc, library, graph, numbered),
         }
     }
 }
@@ -184,30 +252,11 @@ pub fn read_completions(
     graph: &Graph,
     lines: &[Numbered],
 ) -> Result<Read, AllocError>
-    ensures of_one { IfOk result IsOfOne }
-    ensures from { IfOk result (IsFrom lines.now) }
+    ensures { IfOk result (IsRead library.now.templates graph.now lines.now) }
 {
-    let mut read = Read {
-        facts: Vec::new(alloc),
-        lines: Vec::new(alloc),
-        fault: None,
-    };
+    let mut read = Read::new(alloc);
     for numbered in lines {
-        if read.fault.is_some() {
-            break;
-        }
-        let line = numbered.line.as_slice();
-        if line.len() > 65_536 {
-            break;
-        }
-        match read_completion(alloc, line) {
-            Ok(None) => {}
-            Ok(Some(completion)) => {
-                read.add(alloc, library, graph, numbered.number, &completion)?;
-            }
-            Err(CommandFault::Word(place)) => read.stop(numbered.number, LineFault::Word(place)),
-            Err(CommandFault::NoMemory) => return Err(AllocError),
-        }
+        read.add_next(alloc, library, graph, numbered)?;
     }
     Ok(read)
 }

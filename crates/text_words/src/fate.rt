@@ -5,7 +5,7 @@ ghost use Rattle.reply_text.specs.Replies.{row_text};
 ghost use Rattle.template_check.specs.Built.{AreSound};
 ghost use Rattle.text_words.specs.Answers.{Refuses, RefusesRule, Tells};
 ghost use Rattle.text_words.specs.FateAnswers.{state_word, counted, complete_text, output_text, fates_text, RefusesLine, TellsFates, IsOfLast, AnswersLibrary, AnswersText};
-ghost use Rattle.text_words.specs.Completions.{IsOfOne};
+ghost use Rattle.text_words.specs.Completions.{AreOfOne};
 
 use crate::check::{Answer, refusal, rule_refusal};
 use crate::completions::{LineFault, Read, read_completions};
@@ -132,7 +132,7 @@ fn by_completions(
     requires there { slice_get library.now.templates place ≡ Some template.now }
     requires last { place ≡ length library.now.templates - 1 }
     requires sound { AreSound library.now.templates }
-    requires of_one { IsOfOne read.now }
+    requires of_one { AreOfOne read.now.facts.items }
     ensures { IfOk result (λ answer. IsOfLast answer library.now.templates template.now read.now) }
 {
     let graph = &template.graph;
@@ -168,7 +168,7 @@ fn over_library(alloc: Global, library: &Library, input: &Input) -> Result<Answe
 pub fn fated(alloc: Global, input: &Input) -> Result<Answer, AllocError>
     ensures long { (line : ℕ) → input.now.too_long ≡ Some line → IfOk result (λ answer. Refuses answer (codes "LINE") (line ∷ [])) }
     ensures unended { input.now.too_long ≡ None → input.now.is_ended ≡ false → IfOk result (λ answer. Refuses answer (codes "UNENDED") []) }
-    ensures judged { input.now.too_long ≡ None → input.now.is_ended ≡ true → IfOk result (λ answer. AnswersText answer input.now.behind.items) }
+    ensures judged { input.now.too_long ≡ None → input.now.is_ended ≡ true → IfOk result (λ answer. AnswersText input.now.text.items answer input.now.behind.items) }
 {
     if let Some(line) = input.too_long {
         return refusal(alloc, b"LINE", &[line]);
