@@ -1,14 +1,12 @@
--- What is known of a certificate that was made, and of one that was accepted, whatever the process is.
-use Rattle.std.specs.Prelude.{◌≡◌, ◌<◌, ◌≤◌, ◌+◌, ◌==◌, if◌then◌else◌, ℕ, Bool, true, false, List, [], ◌∷◌, ◌++◌, take, length, codes, decimal}
-use Rattle.std.specs.List.{All, flat_map}
+-- What is known of a certificate that was made, and of what is printed, whatever the process is.
+use Rattle.std.specs.Prelude.{◌≡◌, ◌≤◌, ◌+◌, ◌==◌, if◌then◌else◌, ℕ, Bool, true, false, List, [], ◌∷◌, ◌++◌, length, codes, decimal}
+use Rattle.std.specs.List.{flat_map}
 use Rattle.flow_model.specs.declared.instances.Fate.{Fate}
 use Rattle.flow_model.specs.declared.instances.Fate.TheVariants.{Waiting, Ready, Running, Finished as FinishedFate, Dead as DeadFate}
 use Rattle.flow_model.specs.declared.instances.Path.{Path}
-use Rattle.explain.specs.Lines.{line_text}
-use Rattle.explain.specs.declared.accepting.AcceptFault.{AcceptFault}
-use Rattle.explain.specs.declared.accepting.AcceptFault.TheVariants.{Line, NoMemory as NoMemoryToAccept}
-use Rattle.explain.specs.declared.lines.CertLine.{CertLine}
-use Rattle.explain.specs.declared.lines.CertLine.TheVariants.{Scope, Dead, Finished, Ended}
+use Rattle.certificates.specs.Lines.{line_text}
+use Rattle.certificates.specs.declared.lines.CertLine.{CertLine}
+use Rattle.certificates.specs.declared.lines.CertLine.TheVariants.{Scope, Dead, Finished, Ended}
 use Rattle.explain.specs.declared.making.ExplainFault.{ExplainFault}
 use Rattle.explain.specs.declared.making.ExplainFault.TheVariants.{Root, Activity, Unsettled, NoMemory}
 
@@ -33,30 +31,6 @@ HasNone p (Root root) = root ≡ p.root
 HasNone p Activity = Unit {0}
 HasNone p (Unsettled fate) = IsUnsettled fate
 HasNone p NoMemory = Unit {0}
-
--- the scope of which a line tells
-abbrev pub line_scope : CertLine → Path
-line_scope (Scope p) = p
-line_scope (Dead p name) = p
-line_scope (Finished p name attempt) = p
-line_scope (Ended p) = p
-
--- attempts are counted from 1, and no root's scope ends
-abbrev pub IsCounted : CertLine → Type 0
-IsCounted (Scope p) = Unit {0}
-IsCounted (Dead p name) = Unit {0}
-IsCounted (Finished p name attempt) = 1 ≤ attempt
-IsCounted (Ended p) = 1 ≤ length p.parts
-
--- what every justified line keeps: it tells of this root, and counts as it has to
-pub record Keeps (root : ℕ) (line : CertLine) : Type 0 where
-  pub rooted : (line_scope line).root ≡ root
-  pub counted : IsCounted line
-
--- the first line that isn't justified is one of the lines, and those before it are
-abbrev pub StopsAt : ℕ → List CertLine → AcceptFault → Type 0
-StopsAt root lines (Line place) = (place < length lines) × All (Keeps root) (take place lines)
-StopsAt root lines NoMemoryToAccept = Unit {0}
 
 -- a line with its line feed
 abbrev pub line_printed : CertLine → List ℕ

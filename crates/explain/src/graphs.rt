@@ -1,24 +1,8 @@
 //! The graph of a scope, and the activities on which one rests.
 use blocks_subprocs::graph_of;
-use flow_model::{Activity, Graph, Library, List, MapEnd, Name, Part, Path};
-use navigator::place_of;
+use certificates::activity_at;
+use flow_model::{Graph, Library, List, MapEnd, Part, Path};
 use std::alloc::{AllocError, Global};
-
-/// An activity with its place in its graph.
-#[derive(Clone, Copy)]
-pub struct Placed<'a> {
-    pub place: u32,
-    pub activity: &'a Activity,
-}
-
-/// The activity of this name.
-pub fn activity_at<'a>(graph: &'a Graph, name: &Name) -> Option<Placed<'a>> {
-    let place = place_of(graph, name)?;
-    Some(Placed {
-        place: u32::try_from(place).ok()?,
-        activity: graph.activities.as_slice().get(place)?,
-    })
-}
 
 /// The graph of the scope to which these parts lead from a graph.
 pub fn graph_at<'a>(library: &'a Library, graph: &'a Graph, parts: &[Part]) -> Option<&'a Graph> {
@@ -78,21 +62,6 @@ pub fn all_sources(alloc: Global, graph: &Graph, place: u32) -> Result<Vec<u32>,
     sources.sort()?;
     sources.dedup();
     Ok(sources)
-}
-
-/// The path of an attempt of an activity of a scope.
-pub fn path_below(
-    alloc: Global,
-    scope: &Path,
-    name: &Name,
-    attempt: u64,
-) -> Result<Path, AllocError> {
-    let mut path = scope.copy(alloc)?;
-    path.parts.push(Part {
-        name: name.copy(alloc)?,
-        attempt,
-    })?;
-    Ok(path)
 }
 
 /// The scope in which a scope lies, and its own part; None of a root.

@@ -3,8 +3,8 @@ ghost use Rattle.std.specs.Prelude.{◌≡◌, ◌-◌, length, slice_get, Some,
 ghost use Rattle.explain.specs.Certificates.{Settles, IsUnsettled, HasNone};
 ghost use Rattle.explain.specs.declared.making.ExplainFault.TheVariants.{NoMemory};
 
-use crate::graphs::{activity_at, all_sources, control_sources, graph_at, path_below, split_path};
-use crate::lines::{CertLine, line_bytes};
+use crate::graphs::{all_sources, control_sources, graph_at, split_path};
+use certificates::{CertLine, activity_at, line_bytes, path_below};
 use flow_core::Core;
 use flow_model::{Fate, FateRow, Graph, Library, List, Name, Path, Work, path_text};
 use indexmap::IndexMap;

@@ -2,10 +2,8 @@
 ghost use Rattle.std.specs.Prelude.{◌≡◌, ◌≤◌, ◌∷◌, [], ◌++◌, length, IfOk, vec_len, decimal as digits_of};
 ghost use Rattle.explain.specs.Certificates.{certificate_printed, IsVerdict, IsSomeVerdict};
 
-use crate::accepting::{AcceptFault, accept};
-use crate::lines::{CertLine, write_line};
 use crate::making::{ExplainFault, explain};
-use crate::reading::{activity_in, read_line};
+use certificates::{AcceptFault, CertLine, Grounds, accept, activity_in, read_line, write_line};
 use flow_core::{Core, RootFacts};
 use flow_text::decimal;
 use reply_text::write_fate;
@@ -90,7 +88,14 @@ fn justified(
 ) -> Result<u64, AllocError>
     ensures { IfOk result (λ count. count ≤ length lines.now) }
 {
-    match accept(alloc, core.library(), facts, lines) {
+    let grounds = Grounds {
+        library: core.library(),
+        root: facts.root,
+        template: facts.template,
+        input: &facts.input,
+        facts: facts.facts.as_slice(),
+    };
+    match accept(alloc, &grounds, lines) {
         Ok(()) => Ok(lines.len() as u64),
         Err(AcceptFault::Line(number)) => Ok(number),
         Err(AcceptFault::NoMemory) => Err(AllocError),

@@ -2,8 +2,8 @@
 use Rattle.std.specs.Prelude.{ℕ, List, [], ◌∷◌, ◌++◌, codes, decimal}
 use Rattle.flow_model.specs.Paths.{spelling}
 use Rattle.flow_model.specs.declared.instances.Path.{Path}
-use Rattle.explain.specs.declared.lines.CertLine.{CertLine}
-use Rattle.explain.specs.declared.lines.CertLine.TheVariants.{Scope, Dead, Finished, Ended}
+use Rattle.certificates.specs.declared.lines.CertLine.{CertLine}
+use Rattle.certificates.specs.declared.lines.CertLine.TheVariants.{Scope, Dead, Finished, Ended}
 
 -- a scope in single quotes
 abbrev pub scope_in_quotes : Path → List ℕ

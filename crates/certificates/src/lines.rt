@@ -1,7 +1,7 @@
 //! The lines of a certificate, and how they are written.
 ghost use Rattle.std.specs.Prelude.{◌≡◌, ◌∷◌, [], ◌++◌, OnOk, IfOk};
-ghost use Rattle.explain.specs.Certificates.{line_scope};
-ghost use Rattle.explain.specs.Lines.{line_text, scope_in_quotes, activity_in_quotes};
+ghost use Rattle.certificates.specs.Told.{line_scope};
+ghost use Rattle.certificates.specs.Lines.{line_text, scope_in_quotes, activity_in_quotes};
 
 use flow_model::{Name, Path, write_path};
 use flow_text::decimal;

@@ -1,6 +1,6 @@
 //! Reading lines and the names of activities.
 ghost use Rattle.std.specs.Prelude.{◌≡◌, IfOk, IfSome};
-ghost use Rattle.explain.specs.Lines.{line_text};
+ghost use Rattle.certificates.specs.Lines.{line_text};
 
 use crate::lines::{CertLine, line_bytes};
 use flow_model::{Name, NameFault, Path, PathFault, path_of};

@@ -1,0 +1,20 @@
+//! Does a certificate hold: does each line follow from those before it, the templates and the accepted
+//! completions?
+//!
+//! Knows nothing of messages, queues, views or people. Begin with `lines` (what a line says) and
+//! `specs/Told.antt` (when a line is justified), and go on to [`accept`].
+#![tactic(auto)]
+
+mod accepting;
+mod graphs;
+mod grounds;
+mod lines;
+mod reading;
+mod scopes;
+mod starting;
+
+pub use accepting::{AcceptFault, accept};
+pub use graphs::{Placed, activity_at, path_below};
+pub use grounds::Grounds;
+pub use lines::{CertLine, line_bytes, write_line};
+pub use reading::{activity_in, read_line};
