@@ -5,3 +5,4 @@ pub mod Keeping
 pub mod Calls
 pub mod Runs
 pub mod Turns
+pub mod Rights

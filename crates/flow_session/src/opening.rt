@@ -1,8 +1,10 @@
 //! How a store is opened: the state that its records give.
-ghost use Rattle.std.specs.Prelude.{◌≡◌, IfOk, OnOk};
+ghost use Rattle.std.specs.Prelude.{◌≡◌, ◌≤◌, IfOk, OnOk};
 ghost use Rattle.flow_disk.specs.Moments.{LeavesOnly};
 ghost use Rattle.flow_model.specs.declared.transactions.Numbered.{Numbered as NumberedOf};
 ghost use Rattle.flow_txn.specs.Records.{record_bytes};
+ghost use Rattle.txn_log.specs.Opening.{IsOpened};
+ghost use Rattle.core_laws.specs.RightStates.{IsRightCore};
 ghost use Rattle.flow_core.specs.Summaries.{summary, taken_up, Follows};
 ghost use Rattle.flow_session.specs.Keeping.{IsOpen, ComesTo};
 
@@ -25,6 +27,7 @@ fn adopt(
     ensures taken { OnOk result ((n : NumberedOf) × (record_bytes n.number n.transaction ≡ payload.now)
         × Follows core.old.kept (summary core.old) n × (summary core.new ≡ taken_up core.old.kept n (summary core.old))) }
     ensures kept { OnOk result (core.new.kept ≡ core.old.kept) }
+    ensures right { IsRightCore core.old → OnOk result (IsRightCore core.new) }
 {
     let Numbered {
         number,
@@ -43,7 +46,8 @@ fn adopt(
 
 /// The state that the records of an opened store give.
 fn state_of(alloc: Global, opened: &Opened) -> Result<Core, LogStop>
-    ensures { IfOk result (λ core. ComesTo opened.now (summary core)) }
+    ensures comes { IfOk result (λ core. ComesTo opened.now (summary core)) }
+    ensures right { IfOk result (λ core. 1 ≤ (summary core).queues → IsRightCore core) }
 {
     let header = &opened.header;
     let mut core = Core::resume(
@@ -66,6 +70,9 @@ fn state_of(alloc: Global, opened: &Opened) -> Result<Core, LogStop>
 /// the grammar of records or isn't allowed there. The disk isn't written.
 pub fn open<D: Disk>(alloc: Global, disk: &mut D) -> Result<(Core, Opened), LogStop>
     ensures open { IfOk result (λ r. D.tells → IsOpen D.seen D.images r.1.log disk.new (summary r.0)) }
+    ensures right { IfOk result (λ r. 1 ≤ (summary r.0).queues → IsRightCore r.0) }
+    ensures opened { IfOk result (λ r. D.tells → IsOpened (D.seen disk.new) r.1) }
+    ensures comes { IfOk result (λ r. ComesTo r.1 (summary r.0)) }
     ensures seen { OnOk result (D.seen disk.new ≡ D.seen disk.old) }
     ensures any_moment { LeavesOnly D.moment D.left_since disk.old disk.new (D.images disk.old) }
 {
@@ -77,6 +84,7 @@ pub fn open<D: Disk>(alloc: Global, disk: &mut D) -> Result<(Core, Opened), LogS
 /// Opens a store as [`open`] does: a session over its state, and its log.
 pub fn reopen<D: Disk>(alloc: Global, disk: &mut D) -> Result<(Session, Log), LogStop>
     ensures open { IfOk result (λ r. D.tells → IsOpen D.seen D.images r.1 disk.new (summary r.0.core)) }
+    ensures right { IfOk result (λ r. 1 ≤ (summary r.0.core).queues → IsRightCore r.0.core) }
     ensures seen { OnOk result (D.seen disk.new ≡ D.seen disk.old) }
     ensures any_moment { LeavesOnly D.moment D.left_since disk.old disk.new (D.images disk.old) }
 {

@@ -1,8 +1,10 @@
 //! A session: the state, and the text of an IMPORT that isn't ended yet.
-ghost use Rattle.std.specs.Prelude.{◌≡◌, ◌⊎◌, ◌<◌, ◌+◌, ◌++◌, ◌∷◌, [], IfOk, OnOk};
+ghost use Rattle.std.specs.Prelude.{◌≡◌, ◌⊎◌, ◌<◌, ◌≤◌, ◌+◌, ◌++◌, ◌∷◌, [], IfOk, OnOk};
 ghost use Rattle.std.specs.Fmt.{decimal as digits_of};
 ghost use Rattle.flow_disk.specs.Moments.{LeavesOnly};
 ghost use Rattle.flow_core.specs.declared.applying.Note.{Note as NoteOf};
+ghost use Rattle.core_laws.specs.RightStates.{IsRightCore};
+ghost use Rattle.flow_core.specs.Allowing.{IsAllowed};
 ghost use Rattle.flow_core.specs.Replies.{applied_text, refusal_text};
 ghost use Rattle.flow_core.specs.Summaries.{summary, next};
 ghost use Rattle.flow_core.specs.Verdicts.{IsNoteOf};
@@ -118,7 +120,8 @@ impl Gathered {
 impl Session {
     /// A session over the empty history.
     pub fn fresh(alloc: Global, queues: u8, limit: u64) -> Result<Session, AllocError>
-        ensures { IfOk result (λ session. summary session.core ≡ record { queues = queues; limit = limit; transactions = 0; roots = 0; live = [] }) }
+        ensures begins { IfOk result (λ session. summary session.core ≡ record { queues = queues; limit = limit; transactions = 0; roots = 0; live = [] }) }
+        ensures right { 1 ≤ queues → IfOk result (λ session. IsRightCore session.core) }
     {
         Ok(Session {
             alloc,
@@ -155,7 +158,9 @@ impl Session {
     ) -> Result<(), Stop>
         requires room { self.old.core.number < self.old.core.limit }
         requires open { J.tells → J.holds journal.old (summary self.old.core) }
+        requires allowed { IsAllowed self.old.core t }
         ensures made { OnOk result (summary self.new.core ≡ next t (summary self.old.core)) }
+        ensures right { IsRightCore self.old.core → OnOk result (IsRightCore self.new.core) }
         ensures told { OnOk result ((note : NoteOf) × IsNoteOf self.old.core t note
             × (out.new.items ≡ out.old.items ++ applied_text (record { number = self.old.core.number + 1; note = note }))) }
         ensures kept { J.tells → OnOk result (J.holds journal.new (summary self.new.core)) }
@@ -172,6 +177,7 @@ impl Session {
         requires { J.tells → J.holds journal.old (summary self.old.core) }
         ensures kept { J.tells → OnOk result (J.holds journal.new (summary self.new.core)) }
         ensures makes { Makes J.tells J.moment J.left_since journal.old journal.new (summary self.old.core) (λ s. OnOk result (summary self.new.core ≡ s)) }
+        ensures right { IsRightCore self.old.core → OnOk result (IsRightCore self.new.core) }
         ensures replied { IfOk result (λ reply. IsObeyed self.old.core self.new.core command.now reply.items) }
     {
         match self.core.judge(command) {
@@ -191,6 +197,7 @@ impl Session {
         requires { J.tells → J.holds journal.old (summary self.old.core) }
         ensures kept { J.tells → OnOk result (J.holds journal.new (summary self.new.core)) }
         ensures makes { Makes J.tells J.moment J.left_since journal.old journal.new (summary self.old.core) (λ s. OnOk result (summary self.new.core ≡ s)) }
+        ensures right { IsRightCore self.old.core → OnOk result (IsRightCore self.new.core) }
         ensures turned { IfOk result (λ is_taken. IsTakenOrKept is_taken self.old.core self.new.core) }
     {
         if !self.core.has_message(queue) {
@@ -227,6 +234,7 @@ impl Session {
         requires { J.tells → J.holds journal.old (summary self.old.core) }
         ensures kept { J.tells → OnOk result (J.holds journal.new (summary self.new.core)) }
         ensures makes { Makes J.tells J.moment J.left_since journal.old journal.new (summary self.old.core) (λ s. OnOk result (summary self.new.core ≡ s)) }
+        ensures right { IsRightCore self.old.core → OnOk result (IsRightCore self.new.core) }
         ensures replied { IfOk result (λ reply. IsDrained self.old.core self.new.core reply.items) }
     {
         let mut turns = 0u64;
@@ -251,6 +259,7 @@ impl Session {
         requires { J.tells → J.holds journal.old (summary self.old.core) }
         ensures kept { J.tells → OnOk result (J.holds journal.new (summary self.new.core)) }
         ensures makes { Makes J.tells J.moment J.left_since journal.old journal.new (summary self.old.core) (λ s. OnOk result (summary self.new.core ≡ s)) }
+        ensures right { IsRightCore self.old.core → OnOk result (IsRightCore self.new.core) }
         ensures same { self.new.core ≡ self.old.core }
     {
         journal.checkpoint(&self.core)?;
@@ -267,6 +276,7 @@ impl Session {
         requires { J.tells → J.holds journal.old (summary self.old.core) }
         ensures kept { J.tells → OnOk result (J.holds journal.new (summary self.new.core)) }
         ensures makes { Makes J.tells J.moment J.left_since journal.old journal.new (summary self.old.core) (λ s. OnOk result (summary self.new.core ≡ s)) }
+        ensures right { IsRightCore self.old.core → OnOk result (IsRightCore self.new.core) }
         ensures replied { IfOk result (λ reply. IsReplied self.old.core self.new.core reply.items) }
     {
         match command {
@@ -289,6 +299,7 @@ impl Session {
         requires { J.tells → J.holds journal.old (summary self.old.core) }
         ensures kept { J.tells → OnOk result (J.holds journal.new (summary self.new.core)) }
         ensures makes { Makes J.tells J.moment J.left_since journal.old journal.new (summary self.old.core) (λ s. OnOk result (summary self.new.core ≡ s)) }
+        ensures right { IsRightCore self.old.core → OnOk result (IsRightCore self.new.core) }
         ensures replied { IfOk result (λ reply. IsReplied self.old.core self.new.core reply.items) }
     {
         if line.len() > MOST_LINE {
@@ -309,6 +320,7 @@ impl Session {
         requires { J.tells → J.holds journal.old (summary self.old.core) }
         ensures kept { J.tells → OnOk result (J.holds journal.new (summary self.new.core)) }
         ensures makes { Makes J.tells J.moment J.left_since journal.old journal.new (summary self.old.core) (λ s. OnOk result (summary self.new.core ≡ s)) }
+        ensures right { IsRightCore self.old.core → OnOk result (IsRightCore self.new.core) }
         ensures replied { IfOk result (λ reply. IsReplied self.old.core self.new.core reply.items) }
     {
         let Gathered { text, has_long } = gathered;
@@ -329,6 +341,7 @@ impl Session {
         requires { J.tells → J.holds journal.old (summary self.old.core) }
         ensures kept { J.tells → OnOk result (J.holds journal.new (summary self.new.core)) }
         ensures makes { Makes J.tells J.moment J.left_since journal.old journal.new (summary self.old.core) (λ s. OnOk result (summary self.new.core ≡ s)) }
+        ensures right { IsRightCore self.old.core → OnOk result (IsRightCore self.new.core) }
         ensures replied { IfOk result (λ reply. IsReplied self.old.core self.new.core reply.items) }
     {
         let mut gathered = gathered;
@@ -357,6 +370,7 @@ impl Session {
         requires { J.tells → J.holds journal.old (summary self.old.core) }
         ensures kept { J.tells → OnOk result (J.holds journal.new (summary self.new.core)) }
         ensures makes { Makes J.tells J.moment J.left_since journal.old journal.new (summary self.old.core) (λ s. OnOk result (summary self.new.core ≡ s)) }
+        ensures right { IsRightCore self.old.core → OnOk result (IsRightCore self.new.core) }
         ensures replied { IfOk result (λ reply. IsReplied self.old.core self.new.core reply.items) }
     {
         if let Some(gathered) = self.gathered.take() {

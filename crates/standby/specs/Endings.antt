@@ -14,6 +14,14 @@ ShipEnd from before now (ship.Ahead number) = (number < from) × (now ≡ before
 ShipEnd from before now ship.WriteFault = Rose before now
 ShipEnd from before now ship.NoMemory = now ≡ before
 
+-- how putting a text stops: only by a sink that failed, or for want of memory
+abbrev pub PutEnd : ℕ → ℕ → ShipStop → Type 0
+PutEnd before now (ship.Store stop) = ⊥
+PutEnd before now (ship.Gone kept) = ⊥
+PutEnd before now (ship.Ahead number) = ⊥
+PutEnd before now ship.WriteFault = Rose before now
+PutEnd before now ship.NoMemory = now ≡ before
+
 -- how following stops
 abbrev pub FollowEnd : ℕ → ℕ → FollowStop → Type 0
 FollowEnd before now (follow.Store stop) = now ≡ before

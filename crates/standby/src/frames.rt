@@ -1,5 +1,6 @@
 //! The front and the frames of a stream as bytes.
-ghost use Rattle.std.specs.Prelude.{◌≡◌, length};
+ghost use Rattle.std.specs.Prelude.{◌≡◌, ◌++◌, length, OnOk};
+ghost use Rattle.standby.specs.Streams.{front_bytes, frame_bytes, end_bytes};
 
 use std::alloc::AllocError;
 
@@ -62,7 +63,9 @@ pub fn front_of(bytes: &[u8]) -> Option<Front> {
 }
 
 /// Appends the front of a stream.
-pub fn write_front(out: &mut Vec<u8>, front: Front) -> Result<(), AllocError> {
+pub fn write_front(out: &mut Vec<u8>, front: Front) -> Result<(), AllocError>
+    ensures { OnOk result (out.new.items ≡ out.old.items ++ front_bytes front) }
+{
     out.extend_from_slice(MAGIC)?;
     out.push(front.queues)?;
     out.extend_from_slice(&front.limit.to_be_bytes())?;
@@ -70,7 +73,9 @@ pub fn write_front(out: &mut Vec<u8>, front: Front) -> Result<(), AllocError> {
 }
 
 /// Appends the frame of a payload.
-pub fn write_frame(out: &mut Vec<u8>, payload: &[u8]) -> Result<(), AllocError> {
+pub fn write_frame(out: &mut Vec<u8>, payload: &[u8]) -> Result<(), AllocError>
+    ensures { OnOk result (out.new.items ≡ out.old.items ++ frame_bytes payload.now) }
+{
     let len = u32::try_from(payload.len()).unwrap_or(u32::MAX);
     out.push(FRAME)?;
     out.extend_from_slice(&len.to_be_bytes())?;
@@ -78,7 +83,9 @@ pub fn write_frame(out: &mut Vec<u8>, payload: &[u8]) -> Result<(), AllocError> 
 }
 
 /// Appends the byte that ends a stream.
-pub fn write_end(out: &mut Vec<u8>) -> Result<(), AllocError> {
+pub fn write_end(out: &mut Vec<u8>) -> Result<(), AllocError>
+    ensures { OnOk result (out.new.items ≡ out.old.items ++ end_bytes) }
+{
     out.push(END)?;
     Ok(())
 }

@@ -1,8 +1,12 @@
 //! The transactions of a store as a stream.
-ghost use Rattle.std.specs.Prelude.{◌≡◌, ℕ, MatchResult};
+ghost use Rattle.std.specs.Prelude.{◌≡◌, ◌++◌, ◌⊎◌, ℕ, List, IfErr, MatchResult, OnOk};
+ghost use Rattle.std.specs.Io.KnownBytes.{Appends, Keeps};
 ghost use Rattle.flow_disk.specs.Moments.{Only};
+ghost use Rattle.txn_log.specs.Records.{payloads_of};
 ghost use Rattle.flow_session.specs.Runs.{KeepsStore};
-ghost use Rattle.standby.specs.Endings.{ShipEnd};
+ghost use Rattle.standby.specs.Endings.{PutEnd, ShipEnd};
+ghost use Rattle.standby.specs.Streams.{frame_bytes, end_bytes, stream_bytes, PutsPart, IsUnderWay};
+ghost use Rattle.standby.specs.Shipped.{last, Ships, ShipsOpened, IsUnopened};
 
 use crate::frames::{Front, write_end, write_frame, write_front};
 use crate::stops::ShipStop;
@@ -10,19 +14,46 @@ use flow_disk::Disk;
 use flow_io::{Sink, put_all};
 use flow_session::open;
 use std::alloc::Global;
-use txn_log::Record;
+use txn_log::{Opened, Record};
 
 /// So many bytes are put at once, and at most one frame more.
 const BLOCK: usize = 65536;
 
 /// Puts a piece.
 fn put<K: Sink>(out: &mut K, piece: &[u8]) -> Result<(), ShipStop>
-    ensures { (from : ℕ) → MatchResult result (λ _. K.faults out.new ≡ K.faults out.old) (ShipEnd from (K.faults out.old) (K.faults out.new)) }
+    ensures cause { MatchResult result (λ _. K.faults out.new ≡ K.faults out.old) (PutEnd (K.faults out.old) (K.faults out.new)) }
+    ensures whole { OnOk result (Appends (K.held out.old) (K.held out.new) piece.now) }
+    ensures part { IfErr result (λ _. PutsPart (K.held out.old) (K.held out.new) piece.now) }
 {
     match put_all(out, piece) {
         Ok(()) => Ok(()),
         Err(_) => Err(ShipStop::WriteFault),
     }
+}
+
+/// Appends a frame to the piece, and puts that where it has a block.
+fn put_frame<K: Sink>(out: &mut K, piece: &mut Vec<u8>, payload: &[u8]) -> Result<(), ShipStop>
+    ensures cause { MatchResult result (λ _. K.faults out.new ≡ K.faults out.old) (PutEnd (K.faults out.old) (K.faults out.new)) }
+    ensures under_way { OnOk result ((left : List ℕ) → IsUnderWay (K.held out.old) (K.held out.new) piece.new.items left (piece.old.items ++ frame_bytes payload.now ++ left)) }
+    ensures part { IfErr result (λ _. PutsPart (K.held out.old) (K.held out.new) (piece.old.items ++ frame_bytes payload.now)) }
+{
+    write_frame(piece, payload)?;
+    if piece.len() < BLOCK {
+        return Ok(());
+    }
+    put(out, piece)?;
+    piece.clear();
+    Ok(())
+}
+
+/// Puts the last piece, with the end of the stream behind it.
+fn put_end<K: Sink>(out: &mut K, piece: &mut Vec<u8>) -> Result<(), ShipStop>
+    ensures cause { MatchResult result (λ _. K.faults out.new ≡ K.faults out.old) (PutEnd (K.faults out.old) (K.faults out.new)) }
+    ensures whole { OnOk result (Appends (K.held out.old) (K.held out.new) (piece.old.items ++ end_bytes)) }
+    ensures part { IfErr result (λ _. PutsPart (K.held out.old) (K.held out.new) (piece.old.items ++ end_bytes)) }
+{
+    write_end(piece)?;
+    put(out, piece)
 }
 
 /// Puts a stream of these records.
@@ -31,24 +62,57 @@ fn put_stream<K: Sink>(
     out: &mut K,
     front: Front,
     records: &[Record],
-) -> Result<(), ShipStop> {
+) -> Result<(), ShipStop>
+    ensures cause { MatchResult result (λ _. K.faults out.new ≡ K.faults out.old) (PutEnd (K.faults out.old) (K.faults out.new)) }
+    ensures whole { OnOk result (Appends (K.held out.old) (K.held out.new) (stream_bytes front (payloads_of records.now))) }
+    ensures part { IfErr result (λ _. PutsPart (K.held out.old) (K.held out.new) (stream_bytes front (payloads_of records.now))) }
+{
     let mut piece = Vec::new(alloc);
     write_front(&mut piece, front)?;
     'records: for record in records {
-        write_frame(&mut piece, record.payload.as_slice())?;
-        if piece.len() >= BLOCK {
-            put(out, &piece)?;
-            piece.clear();
+        match put_frame(out, &mut piece, record.payload.as_slice()) {
+            Ok(()) => {}
+            Err(stop) => return Err(stop),
         }
     }
-    write_end(&mut piece)?;
-    put(out, &piece)
+    put_end(out, &mut piece)
 }
 
 /// The last records, so many of them; all where there are fewer.
-fn last_of(records: &[Record], count: u64) -> &[Record] {
+fn last_of(records: &[Record], count: u64) -> &[Record]
+    ensures { result.now ≡ last count records.now }
+{
     let count = usize::try_from(count).unwrap_or(usize::MAX);
     &records[records.len().saturating_sub(count)..]
+}
+
+/// Puts the transactions of an opened store, which has so many, above a number, and answers how many they are.
+fn ship_opened<K: Sink>(
+    alloc: Global,
+    opened: &Opened,
+    number: u64,
+    from: u64,
+    out: &mut K,
+) -> Result<u64, ShipStop>
+    ensures cause { MatchResult result (λ _. K.faults out.new ≡ K.faults out.old) (ShipEnd from (K.faults out.old) (K.faults out.new)) }
+    ensures ships { Ships opened.now number from (K.held out.old) (K.held out.new) result }
+{
+    if from < opened.header.transactions {
+        return Err(ShipStop::Gone(opened.header.transactions));
+    }
+    let Some(count) = number.checked_sub(from) else {
+        return Err(ShipStop::Ahead(number));
+    };
+    let front = Front {
+        queues: opened.header.queues,
+        limit: opened.header.limit,
+        from,
+    };
+    // Behind the transactions of the header each record is the next transaction.
+    match put_stream(alloc, out, front, last_of(opened.records.as_slice(), count)) {
+        Ok(()) => Ok(count),
+        Err(stop) => Err(stop),
+    }
 }
 
 /// Puts the transactions of a store above a number as a stream, and answers how many they are.
@@ -62,21 +126,13 @@ pub fn ship<K: Sink, D: Disk>(
     from: u64,
     out: &mut K,
 ) -> Result<u64, ShipStop>
-    ensures { D.tells → Only (D.seen disk.old) (D.images disk.old) → KeepsStore D.moment D.left_since D.seen disk.old disk.new }
+    ensures kept { D.tells → Only (D.seen disk.old) (D.images disk.old) → KeepsStore D.moment D.left_since D.seen disk.old disk.new }
+    ensures cause { MatchResult result (λ _. K.faults out.new ≡ K.faults out.old) (ShipEnd from (K.faults out.old) (K.faults out.new)) }
+    ensures ships { MatchResult result (λ _. ⊥) IsUnopened × Keeps (K.held out.old) (K.held out.new)
+        ⊎ ShipsOpened D.tells (D.seen disk.old) from (K.held out.old) (K.held out.new) result }
 {
-    let (core, opened) = open(alloc, disk)?;
-    if from < opened.header.transactions {
-        return Err(ShipStop::Gone(opened.header.transactions));
+    match open(alloc, disk) {
+        Err(stop) => Err(ShipStop::from(stop)),
+        Ok((core, opened)) => ship_opened(alloc, &opened, core.number(), from, out),
     }
-    let Some(count) = core.number().checked_sub(from) else {
-        return Err(ShipStop::Ahead(core.number()));
-    };
-    let front = Front {
-        queues: opened.header.queues,
-        limit: opened.header.limit,
-        from,
-    };
-    // Behind the transactions of the header each record is the next transaction.
-    put_stream(alloc, out, front, last_of(opened.records.as_slice(), count))?;
-    Ok(count)
 }

@@ -1,6 +1,7 @@
 //! Why nothing, or no more, is shipped or followed.
 ghost use Rattle.std.specs.Prelude.{◌≡◌, ℕ};
 ghost use Rattle.standby.specs.Endings.{ShipEnd, FollowEnd};
+ghost use Rattle.standby.specs.Shipped.{IsUnopened};
 
 use std::alloc::AllocError;
 use thiserror::Error;
@@ -79,7 +80,7 @@ impl From<AllocError> for FollowStop {
 }
 
 impl From<LogStop> for ShipStop {
-    ghost from_gives = { λ _ e. (from count : ℕ) → ShipEnd from count count e };
+    ghost from_gives = { λ _ e. IsUnopened e × ((from count : ℕ) → ShipEnd from count count e) };
 
     fn from(stop: LogStop) -> ShipStop {
         match stop {

@@ -6,5 +6,5 @@ returns-clause-open g c told = record {
   alive = c.in_ok-opened.ensures.records.alive;
   stands = c.in_ok-opened.ensures.stands told;
   only = c.in_ok-opened.ensures.durable;
-  holds = stands_for _ _ _ _ _ _ (c.in_ok-opened.ensures.opened told) c.in_ok-core.ensures;
+  holds = stands_for _ _ _ _ _ _ (c.in_ok-opened.ensures.opened told) c.in_ok-core.ensures.comes;
 }

@@ -1,10 +1,11 @@
-use Rattle.std.proofs.Common.{◌≡◌, ◌∙◌, ◌+◌, ◌++◌, ◌∷◌, [], ap, subst, sym, take}
+use Rattle.std.proofs.Common.{◌≡◌, ◌∙◌, ◌+◌, ◌++◌, ◌∷◌, [], ap, subst, sym, take, rules}
 use Rattle.std.proofs.lemmas.List.{take_more, map-append}
 use Rattle.txn_log.specs.declared.judged.Record.{Record}
 use Rattle.txn_log.specs.Records.{payloads_of}
-use Rattle.flow_core.specs.Summaries.{summary}
+use Rattle.flow_core.specs.Summaries.{Summary, summary}
 use Rattle.flow_session.specs.Keeping.{Brings}
 use Rattle.flow_session.proofs.Keeping.{brings_more}
+use Rattle.flow_session.proofs.Rights.{begun_right}
 use Rattle.flow_session.proofs.opening.state_of.Goals as goal
 
 pub loop-record-preserved : goal.loop-record-preserved
@@ -21,4 +22,16 @@ loop-record-preserved c =
           (brings_more c.args.opened.now.header (payloads_of (take c.loop-record.record-index c.args.opened.now.records)) c.record-item.result.payload (summary c.loop-record.core) (summary c.adopt.new.core) taken.0
           i.brings (taken.1 ∙ c.as_slice-payload.ensures) (rw i.kept at taken.2) (rw i.kept at taken.3));
       kept = c.in_ok-adopt.ensures.kept ∙ i.kept;
+      queues = ap (λ (s : Summary). s.queues) taken.3 ∙ i.queues;
+      right = λ some_. c.in_ok-adopt.ensures.right (i.right some_);
+    }
+
+pub loop-record-init : goal.loop-record-init
+loop-record-init c =
+    let begins = c.in_ok-core.ensures.begins in
+    record {
+      brings = search rules;
+      kept = c.in_ok-core.ensures.kept;
+      queues = ap (λ (s : Summary). s.queues) begins;
+      right = λ some_. begun_right c.in_ok-core.core _ c.in_ok-core.ensures.blank c.in_ok-core.ensures.kept begins some_;
     }

@@ -1,5 +1,6 @@
-use Rattle.std.proofs.Common.{◌≡◌, take}
+use Rattle.std.proofs.Common.{◌≡◌, ◌≤◌, take}
 use Rattle.txn_log.specs.Records.{payloads_of}
+use Rattle.core_laws.specs.RightStates.{IsRightCore}
 use Rattle.flow_core.specs.Summaries.{summary}
 use Rattle.flow_session.specs.Keeping.{Brings}
 use Rattle.flow_session.proofs.opening.state_of.Given as goal
@@ -8,4 +9,6 @@ abbrev pub invariant-loop-record : goal.invariant-loop-record
 invariant-loop-record l = record {
   brings : Brings l.opened.header (payloads_of (take l.record-index l.opened.records)) (summary l.core);
   kept : l.core.kept ≡ l.opened.header.transactions;
+  queues : (summary l.core).queues ≡ l.opened.header.queues;
+  right : 1 ≤ l.opened.header.queues → IsRightCore l.core;
 }

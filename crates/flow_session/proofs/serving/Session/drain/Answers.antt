@@ -10,6 +10,7 @@ loop-init g c = record {
   open' = c.requires;
   makes = makes_nothing g.J.Journal.tells g.J.Journal.moment g.J.Journal.left_since g.J.Journal.holds g.met.J.Journal.at_rest c.args.journal.now (summary c.args.self.now.core) _ c.requires refl;
   taken = taken_none (summary c.args.self.now.core);
+  right = λ right. right;
 }
 
 pub returns-in_err-turn-clause-makes : goal.returns-in_err-turn-clause-makes
@@ -21,6 +22,7 @@ loop-preserved g c = record {
   makes = makes_more g.J.Journal.tells g.J.Journal.moment g.J.Journal.left_since c.args.journal.now c.loop.journal c.turn.new.journal (summary c.args.self.now.core) (summary c.loop.self.core) _ c.loop.invariant.makes c.in_ok-turn.ensures.makes;
   taken = taken_by (summary c.args.self.now.core) c.loop.self.core c.turn.new.self.core c.loop.turns c.if-branch.turns c.loop.invariant.taken c.in_ok-turn.field-0 c.in_ok-turn.ensures.turned
       (elim c.if-branch.branch [ then-branch w ↦ inl (search rules, search rules) | else-branch w ↦ inr (search rules, search rules) ]);
+  right = λ right. c.in_ok-turn.ensures.right (c.loop.invariant.right right);
 }
 
 pub returns-clause-replied : goal.returns-clause-replied

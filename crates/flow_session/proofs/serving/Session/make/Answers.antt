@@ -1,6 +1,9 @@
-use Rattle.std.proofs.Common.{◌∙◌, ap}
+use Rattle.std.proofs.Common.{◌∙◌, ◌+◌, ap}
 use Rattle.flow_txn.specs.Records.{record_bytes}
-use Rattle.flow_core.specs.Summaries.{summary}
+use Rattle.core_laws.proofs.Making.{core_right}
+use Rattle.flow_core.proofs.Moved.{front_of}
+use Rattle.flow_core.specs.Summaries.{Summary, summary}
+use Rattle.flow_session.proofs.Rights.{whatever}
 use Rattle.flow_session.proofs.serving.Session.make.Goals as goal
 
 pub returns-clause-kept : goal.returns-clause-kept
@@ -12,3 +15,11 @@ pub returns-clause-any_moment : goal.returns-clause-any_moment
 returns-clause-any_moment g c told =
     let spelled = c.deref.ensures.value ∙ c.in_ok-payload.ensures told ∙ ap (λ n. record_bytes n c.args.t) c.next_number.ensures in
     c.keep.ensures.any_moment (summary c.args.self.now.core) c.args.t told (c.requires.open told) spelled
+
+pub returns-clause-right : goal.returns-clause-right
+returns-clause-right g c = λ was. whatever c.keep.result (core_right c.args.self.now.core c.apply.new.self c.args.t (record {
+  allowed = c.requires.allowed;
+  drives = c.in_ok-applied.ensures.drives (front_of c.args.self.now.core c.args.t c.requires.allowed.asked);
+  counts = c.in_ok-applied.ensures.counts;
+  lives = (c.args.self.now.core.number + 1, ap (λ (s : Summary). s.live) c.in_ok-applied.ensures.next);
+}) was)

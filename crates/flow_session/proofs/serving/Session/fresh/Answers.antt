@@ -1,0 +1,5 @@
+use Rattle.flow_session.proofs.Rights.{begun_right}
+use Rattle.flow_session.proofs.serving.Session.fresh.Goals as goal
+
+pub returns-clause-right : goal.returns-clause-right
+returns-clause-right c = λ some_. begun_right c.in_ok-new.field-0 _ c.in_ok-new.ensures.blank c.in_ok-new.ensures.kept c.in_ok-new.ensures.begins some_

@@ -1,0 +1,22 @@
+use Rattle.std.proofs.Common.{inl, inr, sym, subst}
+use Rattle.std.proofs.KnownBytes.{Keeps-refl}
+use Rattle.flow_core.specs.Summaries.{summary}
+use Rattle.flow_disk.specs.Images.{Image}
+use Rattle.txn_log.specs.Opening.{IsOpened}
+use Rattle.standby.proofs.shipping.ship.Goals as goal
+
+pub returns-in-Err-clause-ships : goal.returns-in-Err-clause-ships
+returns-in-Err-clause-ships g c = inl (c.from.ensures.0, Keeps-refl (g.K.Sink.held c.args.out.now))
+
+pub returns-in-Ok-clause-ships : goal.returns-in-Ok-clause-ships
+returns-in-Ok-clause-ships g c = inr (record {
+  opened = c.in-Ok.opened;
+  number = c.number.result;
+  store = λ told. record {
+    held = subst (λ (image : Image). IsOpened image c.in-Ok.opened) c.in-Ok.ensures.seen (c.in-Ok.ensures.opened told);
+    state = summary c.in-Ok.core;
+    comes_to = c.in-Ok.ensures.comes;
+    count = sym c.number.ensures;
+  };
+  ships = c.ship_opened.ensures.ships;
+})
