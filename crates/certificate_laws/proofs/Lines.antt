@@ -20,7 +20,7 @@ use Rattle.flow_model.specs.declared.instances.SourceEnd.TheVariants as end
 use Rattle.flow_model.specs.declared.names.Name.{Name}
 use Rattle.flow_model.specs.Conditions.{holds}
 use Rattle.flow_model.specs.Fates.{is_settled}
-use Rattle.flow_model.specs.Paths.{IsPart}
+use Rattle.flow_model.specs.Paths.{IsStep}
 use Rattle.flow_model.specs.Rows.{below, by_facts, output_of}
 use Rattle.flow_model.specs.ScopeContainers.{graph_in, looped, up_to}
 use Rattle.flow_model.specs.Scopes.{Known, at, part, gives, tries, output}
@@ -84,8 +84,7 @@ same a b h = elim (eqb_tells a b) [ inl is ↦ is.1 | inr other ↦ absurd (fals
 module _ (most : ℕ) where
   pub outer_read : (p : Path) → IsRead most p → IsRead most (outer p)
   outer_read p read = record {
-    path = record { counted = read.path.counted; parts = All-take IsPart (length p.parts - 1) p.parts read.path.parts };
-    small = read.small;
+    path = record { counted = read.path.counted; small = read.path.small; steps = All-take IsStep (length p.parts - 1) p.parts read.path.steps };
     few = All-take (λ (q : Part). q.attempt ≤ most) (length p.parts - 1) p.parts read.few;
   }
 
@@ -93,21 +92,24 @@ module _ (most : ℕ) where
   one_of P x is zero d less = is
   one_of P x is (suc k) d less = absurd (omega arith)
 
-  pub below_read : (p : Path) (name : Name) (j : ℕ) → IsRead most p → is_name name ≡ true → 1 ≤ j → j ≤ most → IsRead most (below p (part name j))
-  below_read p name j read named pos le = record {
-    path = record { counted = read.path.counted; parts = All-append IsPart p.parts (part name j ∷ []) read.path.parts (one_of IsPart (part name j) (record { named = named; counted = pos })) };
-    small = read.small;
+  pub below_read : (p : Path) (name : Name) (j : ℕ) → most < 2 ^ 64 → IsRead most p → is_name name ≡ true → 1 ≤ j → j ≤ most → IsRead most (below p (part name j))
+  below_read p name j bounded read named pos le = record {
+    path = record {
+      counted = read.path.counted;
+      small = read.path.small;
+      steps = All-append IsStep p.parts (part name j ∷ []) read.path.steps (one_of IsStep (part name j) (record { named = named; counted = pos; small = omega (arith, le, bounded) }));
+    };
     few = All-append (λ (q : Part). q.attempt ≤ most) p.parts (part name j ∷ []) read.few (one_of (λ (q : Part). q.attempt ≤ most) (part name j) le);
   }
 
   part_in : (p : Path) (q : Part) → last_part p ≡ Some q → q ≡ get_or p.parts (length p.parts - 1) q
   part_in p q is = sym (get_or_from_slice_get p.parts (length p.parts - 1) q q is)
 
-  pub last_read : (p : Path) (q : Part) → IsRead most p → last_part p ≡ Some q → IsPart q × (q.attempt ≤ most)
+  pub last_read : (p : Path) (q : Part) → IsRead most p → last_part p ≡ Some q → IsStep q × (q.attempt ≤ most)
   last_read p q read is =
       let less = slice_get_within p.parts (length p.parts - 1) q is in
       let e = sym (part_in p q is) in
-      (subst IsPart e (read.path.parts (length p.parts - 1) q less), subst (λ (r : Part). r.attempt ≤ most) e (read.few (length p.parts - 1) q less))
+      (subst IsStep e (read.path.steps (length p.parts - 1) q less), subst (λ (r : Part). r.attempt ≤ most) e (read.few (length p.parts - 1) q less))
 
 -- a path is its last step below the path before it
 pub path_parts : (p : Path) (q : Part) → last_part p ≡ Some q → (outer p).parts ++ q ∷ [] ≡ p.parts
@@ -202,7 +204,7 @@ module _ (b : Basis) (g : Graph) (total most : ℕ) (bounded : most < 2 ^ 64) (r
           → option_and_then (λ (s : Opened). s.output) (t (below p (part x.activity.name i))) ≡ Some o → gives_in ts st x i k ≡ Some o
       scope_given i k o pos le input given =
           let parts = and_then_parts (λ (s : Opened). s.output) (t (below p (part x.activity.name i))) o given in
-          let inner = told (below p (part x.activity.name i)) parts.0 (below_read most p x.activity.name i read (ap is_name name_same ∙ is_named) pos (omega arith)) parts.1 in
+          let inner = told (below p (part x.activity.name i)) parts.0 (below_read most p x.activity.name i bounded read (ap is_name name_same ∙ is_named) pos (omega arith)) parts.1 in
           let h = scope_gave b.templates (root_in b g total most) b.facts most total p j.scope j.right.base x.activity.name i x (ap (activity_at j.scope.graph) name_same ∙ j.named)
           parts.0 inner.depth inner.base inner.right o parts.2 j.right.depth j.right.right in
           let same_input : k ≡ parts.0.input = same_Some k parts.0.input (sym input ∙ h.input) in
@@ -213,7 +215,7 @@ module _ (b : Basis) (g : Graph) (total most : ℕ) (bounded : most < 2 ^ 64) (r
       attempt_gave (Program y) is i k o pos le input given =
           ap (λ (w : Work). gives ts st.known (output ts st.depth) x.activity.name w i k) is
           ∙ j.right.right.given (part x.activity.name i ∷ [])
-          ∙ sym (accepted_is most bounded b.root (below p (part x.activity.name i)) (below_read most p x.activity.name i read (ap is_name name_same ∙ is_named) pos (omega arith)) own_root b.facts own)
+          ∙ sym (accepted_is most bounded b.root (below p (part x.activity.name i)) (below_read most p x.activity.name i bounded read (ap is_name name_same ∙ is_named) pos (omega arith)) own_root b.facts own)
           ∙ given
       attempt_gave (Block' y h) is i k o pos le input given = scope_given i k o pos le input given
       attempt_gave (Process y) is i k o pos le input given = scope_given i k o pos le input given
@@ -340,7 +342,7 @@ module _ (b : Basis) (g : Graph) (total most : ℕ) (bounded : most < 2 ^ 64) (r
           let n1 = differ q.attempt 1 no_one in
           let pos : 1 ≤ q.attempt - 1 = at_least q.attempt n0 n1 in
           let le : q.attempt - 1 ≤ most = omega (arith, known.1) in
-          let inner = told (below (outer p) (part q.name (q.attempt - 1))) a.0 (below_read most (outer p) q.name (q.attempt - 1) (outer_read most p read) known.0.named pos le) a.1 in
+          let inner = told (below (outer p) (part q.name (q.attempt - 1))) a.0 (below_read most (outer p) q.name (q.attempt - 1) bounded (outer_read most p read) known.0.named pos le) a.1 in
           let h = scope_gave b.templates (root_in b g total most) b.facts most total (outer p) so base q.name (q.attempt - 1) x named a.0 inner.depth inner.base inner.right c.0 c.1 (suc d) right in
           let bound = right.bound in
           let known_le = known.1 in

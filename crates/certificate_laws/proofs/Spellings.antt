@@ -11,7 +11,7 @@ use Rattle.flow_model.specs.declared.graphs.Container.{Container}
 use Rattle.flow_model.specs.declared.instances.Fact.{Fact}
 use Rattle.flow_model.specs.declared.instances.Part.{Part}
 use Rattle.flow_model.specs.declared.instances.Path.{Path}
-use Rattle.flow_model.specs.Paths.{parts_spelling, spelling, IsPart}
+use Rattle.flow_model.specs.Paths.{parts_spelling, spelling, IsStep}
 use Rattle.flow_model.specs.Rows.{same_parts, output_of}
 use Rattle.flow_model.specs.Scopes.{part}
 use Rattle.flow_model.specs.Words.{is_name, is_name_byte}
@@ -101,7 +101,7 @@ behind_same (p ∷ ps) (q ∷ qs) w v e =
     ap (λ n. part n p.attempt ∷ ps) first.0 ∙ ap (λ j. part q.name j ∷ ps) attempts ∙ ap (λ rs. q ∷ rs) rest
 
 module _ (most : ℕ) (bounded : most < 2 ^ 64) where
-  written : (qs : List Part) → All IsPart qs → All (λ (q : Part). q.attempt ≤ most) qs → AreWritten qs
+  written : (qs : List Part) → All IsStep qs → All (λ (q : Part). q.attempt ≤ most) qs → AreWritten qs
   written [] parts few = tt
   written (q ∷ qs) parts few =
       let one = parts 0 q (omega arith) in
@@ -122,9 +122,9 @@ module _ (most : ℕ) (bounded : most < 2 ^ 64) where
   apart p q read read_ same =
       let spelt : spelling p ≡ spelling q = (bytes_eq-Decides (spelling p) (spelling q)).0 same in
       let e = sym (spelled_closed p) ∙ ap (λ (l : List ℕ). l ++ 47 ∷ []) spelt ∙ spelled_closed q in
-      let split = split_same 47 (decimal p.root) (decimal q.root) (behind p.parts) (behind q.parts) (decimal_lacks p.root read.small) (decimal_lacks q.root read_.small) e in
-      path_same p q (decimal_injective p.root q.root read.small read_.small split.0)
-      (behind_same p.parts q.parts (written p.parts read.path.parts read.few) (written q.parts read_.path.parts read_.few) split.1)
+      let split = split_same 47 (decimal p.root) (decimal q.root) (behind p.parts) (behind q.parts) (decimal_lacks p.root read.path.small) (decimal_lacks q.root read_.path.small) e in
+      path_same p q (decimal_injective p.root q.root read.path.small read_.path.small split.0)
+      (behind_same p.parts q.parts (written p.parts read.path.steps read.few) (written q.parts read_.path.steps read_.few) split.1)
 
   module _ (root : ℕ) (p : Path) (read : IsRead most p) (own : p.root ≡ root) where
     same_tests : (f : Fact) → IsRead most f.item × (f.item.root ≡ root) → same_path f.item p ≡ same_parts f.item.parts p.parts

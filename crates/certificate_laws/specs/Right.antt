@@ -45,7 +45,6 @@ IsRight b g depth most (Ended p) = HasEnded b.templates (root_in b g depth most)
 -- a path with names and numbers as they are read, and no later attempt than this
 pub record IsRead (most : ℕ) (p : Path) : Type 0 where
   pub path : IsPath p
-  pub small : p.root < 2 ^ 64
   pub few : All (λ (q : Part). q.attempt ≤ most) p.parts
 
 -- so is a line, which lies no deeper than this

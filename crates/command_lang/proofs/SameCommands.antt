@@ -222,7 +222,7 @@ command_same {x} {y} {a} {a'} (WordAndRest {w = w} {b = b} h1 h2) (WordAndRest {
 
 -- ---- of a line
 
-one_row : (line : List ℕ) (ts us : List Token) → AreTokens line ts → AreTokens line us → ts ≡ us
+pub one_row : (line : List ℕ) (ts us : List Token) → AreTokens line ts → AreTokens line us → ts ≡ us
 one_row line ts us t u = (one_scan line 0 ts us t.end u.end (length line) (length line) t.scanned u.scanned (tokens_done line ts t) (tokens_done line us u)).0
 
 rows_same : (line : List ℕ) (ts us : List Token) → AreTokens line ts → AreTokens line us → At (spell line ts) (spell line us)

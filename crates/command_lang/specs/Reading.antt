@@ -5,10 +5,10 @@ use Rattle.std.specs.Option.{option_map_or}
 use Rattle.flow_model.specs.declared.commands.Command.{Command}
 use Rattle.flow_model.specs.declared.commands.Completion.{Completion}
 use Rattle.fdl_parser.specs.Faults.{NamesOne}
-use Rattle.fdl_parser.specs.Tokens.{spell, reading}
+use Rattle.fdl_parser.specs.Tokens.{Tokens, spell, reading, place_in}
 use Rattle.fdl_parser.specs.declared.cursor.SyntaxFault.TheVariants.{At}
 use Rattle.command_lang.specs.Grammar.{IsCommand, IsCompletion}
-use Rattle.flow_table.specs.declared.keyword.TheConstants as keyword
+use Rattle.command_lang.specs.Refusing.{IsFirstFault}
 use Rattle.fdl_lexer.specs.declared.kinds.Token.{Token}
 use Rattle.fdl_lexer.specs.Tokens.{AreTokens, IsStuckAt}
 use Rattle.command_lang.specs.declared.reading.CommandFault.{CommandFault}
@@ -84,8 +84,24 @@ NamesToken line NoMemory = Unit {0}
 abbrev pub IsRefusal : List ℕ → CommandFault → Type 0
 IsRefusal line e = HasNoTokens line e ⊎ NamesToken line e
 
--- a command begins with this word
-abbrev pub is_first_word : ℕ → Bool
-is_first_word word =
-    nat_le keyword.TURN word && nat_le word keyword.DONE || nat_le keyword.FORCE word && nat_le word keyword.TEMPLATES
-    || word == keyword.IMPORT || word == keyword.START
+-- for its tokens: the place, counted from 1, is that of the first of them with which they begin nothing that is said so,
+-- or the place behind the last, where they begin something and don't say it
+abbrev pub RefusesToken : (Tokens → Type 0) → List ℕ → CommandFault → Type 0
+RefusesToken says line (Word place) =
+    (tokens : List Token) × AreLineTokens line tokens × (0 < length tokens)
+    × ((rest : Tokens) × IsFirstFault says (spell line tokens) rest × (place ≡ min (place_in rest (reading (spoken_in line tokens) tokens).end + 1) (2 ^ 32 - 1)))
+RefusesToken says line NoMemory = Unit {0}
+
+-- a line is refused for its bytes, or for the first of its tokens that can't stand there
+abbrev pub RefusesFirst : (Tokens → Type 0) → List ℕ → CommandFault → Type 0
+RefusesFirst says line e = HasNoTokens line e ⊎ RefusesToken says line e
+
+-- only want of memory refuses a line that says a command
+abbrev pub RefusesNoCommand : List ℕ → CommandFault → Type 0
+RefusesNoCommand line (Word place) = IsOnlyCommand line None
+RefusesNoCommand line NoMemory = Unit {0}
+
+-- or a completion
+abbrev pub RefusesNoCompletion : List ℕ → CommandFault → Type 0
+RefusesNoCompletion line (Word place) = IsOnlyCompletion line None
+RefusesNoCompletion line NoMemory = Unit {0}

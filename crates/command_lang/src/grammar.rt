@@ -1,10 +1,11 @@
 //! The grammar of commands over the tokens of a line.
-ghost use Rattle.std.specs.Prelude.{◌≡◌, ◌<◌, [], length, IfOk, IfErr};
+ghost use Rattle.std.specs.Prelude.{◌≡◌, ◌<◌, ℕ, true, [], length, IfOk, IfErr, IfSome, Some};
 ghost use Rattle.fdl_parser.specs.Faults.{Names};
 ghost use Rattle.flow_table.specs.declared.keyword.TheConstants as first;
-ghost use Rattle.fdl_parser.specs.Tokens.{StaysWithin};
+ghost use Rattle.fdl_parser.specs.Stops.{Reads, Anything, AtEnd, IsTaken, Stops};
+ghost use Rattle.fdl_parser.specs.Tokens.{StaysWithin, first_kind};
 ghost use Rattle.command_lang.specs.Grammar.{IsNamed, IsValue, IsSetting, IsWith, IsReturnCode, IsOutcome, IsKey, IsWho, IsBehind, IsCommand, IsTarget, IsCompletion};
-ghost use Rattle.command_lang.specs.Reading.{is_first_word};
+ghost use Rattle.command_lang.specs.Refusing.{is_query_word, is_number_word, is_item_word, is_first_word, NoWord, SomeCommand, SomeCompletion, Refuses};
 
 use fdl_lexer::What;
 use fdl_parser::{Cursor, SyntaxFault, mark};
@@ -19,6 +20,7 @@ fn named(cursor: &mut Cursor<'_>, word: u8) -> Result<Name, SyntaxFault>
     ensures within { StaysWithin cursor.old cursor.new }
     ensures read { IfOk result (λ x. IsNamed word x cursor.old.left cursor.new.left) }
     ensures names { IfErr result (Names cursor.new) }
+    ensures stops { IfErr result (Stops Anything (Reads (IsNamed word)) cursor.old.left cursor.new.left) }
 {
     cursor.word(word)?;
     let named = cursor.name()?;
@@ -30,6 +32,7 @@ fn value(cursor: &mut Cursor<'_>) -> Result<RawValue, SyntaxFault>
     ensures within { StaysWithin cursor.old cursor.new }
     ensures read { IfOk result (λ x. IsValue x cursor.old.left cursor.new.left) }
     ensures names { IfErr result (Names cursor.new) }
+    ensures stops { IfErr result (Stops Anything (Reads IsValue) cursor.old.left cursor.new.left) }
 {
     if cursor.is_next(What::Text) {
         let (text, place) = cursor.text()?;
@@ -44,6 +47,7 @@ fn setting(cursor: &mut Cursor<'_>) -> Result<RawSetting, SyntaxFault>
     ensures within { StaysWithin cursor.old cursor.new }
     ensures read { IfOk result (λ x. IsSetting x cursor.old.left cursor.new.left) }
     ensures names { IfErr result (Names cursor.new) }
+    ensures stops { IfErr result (Stops Anything (Reads IsSetting) cursor.old.left cursor.new.left) }
 {
     let leaf = cursor.leaf()?;
     cursor.mark(mark::EQUAL)?;
@@ -56,6 +60,8 @@ fn settings(cursor: &mut Cursor<'_>) -> Result<List<RawSetting>, SyntaxFault>
     ensures within { StaysWithin cursor.old cursor.new }
     ensures read { IfOk result (λ x. IsWith x cursor.old.left cursor.new.left) }
     ensures names { IfErr result (Names cursor.new) }
+    ensures taken { IfOk result (λ _. IsTaken AtEnd (Reads IsWith) cursor.old.left cursor.new.left) }
+    ensures stops { IfErr result (Stops AtEnd (Reads IsWith) cursor.old.left cursor.new.left) }
 {
     let mut settings = List::new(cursor.alloc());
     if !cursor.is_word(keyword::WITH) {
@@ -77,6 +83,8 @@ fn return_code(cursor: &mut Cursor<'_>) -> Result<Option<NumberAt>, SyntaxFault>
     ensures within { StaysWithin cursor.old cursor.new }
     ensures read { IfOk result (λ x. IsReturnCode x cursor.old.left cursor.new.left) }
     ensures names { IfErr result (Names cursor.new) }
+    ensures taken { IfOk result (λ _. IsTaken (NoWord first.RC) (Reads IsReturnCode) cursor.old.left cursor.new.left) }
+    ensures stops { IfErr result (Stops (NoWord first.RC) (Reads IsReturnCode) cursor.old.left cursor.new.left) }
 {
     if !cursor.is_word(keyword::RC) {
         return Ok(None);
@@ -90,6 +98,8 @@ fn outcome(cursor: &mut Cursor<'_>) -> Result<Outcome, SyntaxFault>
     ensures within { StaysWithin cursor.old cursor.new }
     ensures read { IfOk result (λ x. IsOutcome x cursor.old.left cursor.new.left) }
     ensures names { IfErr result (Names cursor.new) }
+    ensures taken { IfOk result (λ _. IsTaken AtEnd (Reads IsOutcome) cursor.old.left cursor.new.left) }
+    ensures stops { IfErr result (Stops AtEnd (Reads IsOutcome) cursor.old.left cursor.new.left) }
 {
     let rc = return_code(cursor)?;
     let settings = settings(cursor)?;
@@ -101,6 +111,8 @@ fn key(cursor: &mut Cursor<'_>) -> Result<Option<Name>, SyntaxFault>
     ensures within { StaysWithin cursor.old cursor.new }
     ensures read { IfOk result (λ x. IsKey x cursor.old.left cursor.new.left) }
     ensures names { IfErr result (Names cursor.new) }
+    ensures taken { IfOk result (λ _. IsTaken (NoWord first.KEY) (Reads IsKey) cursor.old.left cursor.new.left) }
+    ensures stops { IfErr result (Stops (NoWord first.KEY) (Reads IsKey) cursor.old.left cursor.new.left) }
 {
     if !cursor.is_word(keyword::KEY) {
         return Ok(None);
@@ -114,6 +126,7 @@ fn who(cursor: &mut Cursor<'_>) -> Result<Who, SyntaxFault>
     ensures within { StaysWithin cursor.old cursor.new }
     ensures read { IfOk result (λ x. IsWho x cursor.old.left cursor.new.left) }
     ensures names { IfErr result (Names cursor.new) }
+    ensures stops { IfErr result (Stops Anything (Reads IsWho) cursor.old.left cursor.new.left) }
 {
     if cursor.is_word(keyword::BY) {
         let person = named(cursor, keyword::BY)?;
@@ -129,6 +142,8 @@ fn start(cursor: &mut Cursor<'_>) -> Result<Command, SyntaxFault>
     ensures within { StaysWithin cursor.old cursor.new }
     ensures read { IfOk result (λ x. IsBehind first.START x cursor.old.left cursor.new.left) }
     ensures names { IfErr result (Names cursor.new) }
+    ensures taken { IfOk result (λ _. IsTaken AtEnd (Reads (IsBehind first.START)) cursor.old.left cursor.new.left) }
+    ensures stops { IfErr result (Stops AtEnd (Reads (IsBehind first.START)) cursor.old.left cursor.new.left) }
 {
     let process = cursor.name()?;
     let starter = named(cursor, keyword::BY)?;
@@ -142,6 +157,8 @@ fn claim(cursor: &mut Cursor<'_>) -> Result<Command, SyntaxFault>
     ensures within { StaysWithin cursor.old cursor.new }
     ensures read { IfOk result (λ x. IsBehind first.CLAIM x cursor.old.left cursor.new.left) }
     ensures names { IfErr result (Names cursor.new) }
+    ensures taken { IfOk result (λ _. IsTaken AtEnd (Reads (IsBehind first.CLAIM)) cursor.old.left cursor.new.left) }
+    ensures stops { IfErr result (Stops AtEnd (Reads (IsBehind first.CLAIM)) cursor.old.left cursor.new.left) }
 {
     let item = cursor.item()?;
     let person = named(cursor, keyword::BY)?;
@@ -153,6 +170,8 @@ fn release(cursor: &mut Cursor<'_>) -> Result<Command, SyntaxFault>
     ensures within { StaysWithin cursor.old cursor.new }
     ensures read { IfOk result (λ x. IsBehind first.RELEASE x cursor.old.left cursor.new.left) }
     ensures names { IfErr result (Names cursor.new) }
+    ensures taken { IfOk result (λ _. IsTaken AtEnd (Reads (IsBehind first.RELEASE)) cursor.old.left cursor.new.left) }
+    ensures stops { IfErr result (Stops AtEnd (Reads (IsBehind first.RELEASE)) cursor.old.left cursor.new.left) }
 {
     let item = cursor.item()?;
     let person = named(cursor, keyword::BY)?;
@@ -164,6 +183,8 @@ fn transfer(cursor: &mut Cursor<'_>) -> Result<Command, SyntaxFault>
     ensures within { StaysWithin cursor.old cursor.new }
     ensures read { IfOk result (λ x. IsBehind first.TRANSFER x cursor.old.left cursor.new.left) }
     ensures names { IfErr result (Names cursor.new) }
+    ensures taken { IfOk result (λ _. IsTaken AtEnd (Reads (IsBehind first.TRANSFER)) cursor.old.left cursor.new.left) }
+    ensures stops { IfErr result (Stops AtEnd (Reads (IsBehind first.TRANSFER)) cursor.old.left cursor.new.left) }
 {
     let item = cursor.item()?;
     let from = named(cursor, keyword::BY)?;
@@ -176,6 +197,8 @@ fn done(cursor: &mut Cursor<'_>) -> Result<Command, SyntaxFault>
     ensures within { StaysWithin cursor.old cursor.new }
     ensures read { IfOk result (λ x. IsBehind first.DONE x cursor.old.left cursor.new.left) }
     ensures names { IfErr result (Names cursor.new) }
+    ensures taken { IfOk result (λ _. IsTaken AtEnd (Reads (IsBehind first.DONE)) cursor.old.left cursor.new.left) }
+    ensures stops { IfErr result (Stops AtEnd (Reads (IsBehind first.DONE)) cursor.old.left cursor.new.left) }
 {
     let item = cursor.item()?;
     let who = who(cursor)?;
@@ -188,6 +211,8 @@ fn force(cursor: &mut Cursor<'_>) -> Result<Command, SyntaxFault>
     ensures within { StaysWithin cursor.old cursor.new }
     ensures read { IfOk result (λ x. IsBehind first.FORCE x cursor.old.left cursor.new.left) }
     ensures names { IfErr result (Names cursor.new) }
+    ensures taken { IfOk result (λ _. IsTaken AtEnd (Reads (IsBehind first.FORCE)) cursor.old.left cursor.new.left) }
+    ensures stops { IfErr result (Stops AtEnd (Reads (IsBehind first.FORCE)) cursor.old.left cursor.new.left) }
 {
     let item = cursor.item()?;
     let outcome = outcome(cursor)?;
@@ -196,9 +221,12 @@ fn force(cursor: &mut Cursor<'_>) -> Result<Command, SyntaxFault>
 
 /// Takes what stands behind the first word of a command that only asks.
 fn query_behind(cursor: &mut Cursor<'_>, word: u8) -> Result<Command, SyntaxFault>
+    requires { is_query_word word ≡ true }
     ensures within { StaysWithin cursor.old cursor.new }
     ensures read { IfOk result (λ x. IsBehind word x cursor.old.left cursor.new.left) }
     ensures names { IfErr result (Names cursor.new) }
+    ensures taken { IfOk result (λ _. IsTaken AtEnd (Reads (IsBehind word)) cursor.old.left cursor.new.left) }
+    ensures stops { IfErr result (Stops AtEnd (Reads (IsBehind word)) cursor.old.left cursor.new.left) }
 {
     match word {
         keyword::SHOW => {
@@ -232,9 +260,12 @@ fn query_behind(cursor: &mut Cursor<'_>, word: u8) -> Result<Command, SyntaxFaul
 
 /// Takes what stands behind the first word of a command on a root, a queue or the clock, or of one that only asks.
 fn number_behind(cursor: &mut Cursor<'_>, word: u8) -> Result<Command, SyntaxFault>
+    requires { is_number_word word ≡ true }
     ensures within { StaysWithin cursor.old cursor.new }
     ensures read { IfOk result (λ x. IsBehind word x cursor.old.left cursor.new.left) }
     ensures names { IfErr result (Names cursor.new) }
+    ensures taken { IfOk result (λ _. IsTaken AtEnd (Reads (IsBehind word)) cursor.old.left cursor.new.left) }
+    ensures stops { IfErr result (Stops AtEnd (Reads (IsBehind word)) cursor.old.left cursor.new.left) }
 {
     match word {
         keyword::TURN => {
@@ -267,9 +298,12 @@ fn number_behind(cursor: &mut Cursor<'_>, word: u8) -> Result<Command, SyntaxFau
 
 /// Takes what stands behind the first word of a command on items, or of one of those that follow.
 fn item_behind(cursor: &mut Cursor<'_>, word: u8) -> Result<Command, SyntaxFault>
+    requires { is_item_word word ≡ true }
     ensures within { StaysWithin cursor.old cursor.new }
     ensures read { IfOk result (λ x. IsBehind word x cursor.old.left cursor.new.left) }
     ensures names { IfErr result (Names cursor.new) }
+    ensures taken { IfOk result (λ _. IsTaken AtEnd (Reads (IsBehind word)) cursor.old.left cursor.new.left) }
+    ensures stops { IfErr result (Stops AtEnd (Reads (IsBehind word)) cursor.old.left cursor.new.left) }
 {
     match word {
         keyword::CLAIM => claim(cursor),
@@ -291,9 +325,12 @@ fn item_behind(cursor: &mut Cursor<'_>, word: u8) -> Result<Command, SyntaxFault
 
 /// Takes what stands behind the first word of a command.
 fn behind(cursor: &mut Cursor<'_>, word: u8) -> Result<Command, SyntaxFault>
+    requires { is_first_word word ≡ true }
     ensures within { StaysWithin cursor.old cursor.new }
     ensures read { IfOk result (λ x. IsBehind word x cursor.old.left cursor.new.left) }
     ensures names { IfErr result (Names cursor.new) }
+    ensures taken { IfOk result (λ _. IsTaken AtEnd (Reads (IsBehind word)) cursor.old.left cursor.new.left) }
+    ensures stops { IfErr result (Stops AtEnd (Reads (IsBehind word)) cursor.old.left cursor.new.left) }
 {
     match word {
         keyword::IMPORT => Ok(Command::Import(Bytes::from_vec(Vec::new(cursor.alloc())))),
@@ -314,10 +351,35 @@ fn begins(word: u8) -> bool
         || word == keyword::START
 }
 
+/// The word with which a command begins, if this is one.
+fn first_of(what: What) -> Option<u8>
+    ensures word { IfSome result (λ word. what ≡ What.Word word) }
+    ensures begins { IfSome result (λ word. is_first_word word ≡ true) }
+    ensures other { (word : ℕ) → what ≡ What.Word word → is_first_word word ≡ true → result ≡ Some word }
+{
+    match what {
+        What::Word(word) => { if begins(word) { Some(word) } else { None } }
+        _ => None,
+    }
+}
+
+/// The next token, if it is a word with which a command begins.
+fn first_word(cursor: &Cursor<'_>) -> Option<u8>
+    ensures word { IfSome result (λ word. first_kind cursor.now.left ≡ Some (What.Word word)) }
+    ensures begins { IfSome result (λ word. is_first_word word ≡ true) }
+    ensures other { (word : ℕ) → first_kind cursor.now.left ≡ Some (What.Word word) → is_first_word word ≡ true → result ≡ Some word }
+{
+    match cursor.peek() {
+        Some(what) => first_of(what),
+        None => None,
+    }
+}
+
 /// Takes the end of the line.
 fn end(cursor: &Cursor<'_>) -> Result<(), SyntaxFault>
     ensures read { IfOk result (λ _. cursor.now.left ≡ []) }
     ensures names { IfErr result (Names cursor.now) }
+    ensures left { IfErr result (λ _. 0 < length cursor.now.left) }
 {
     if cursor.is_at_end() {
         Ok(())
@@ -331,10 +393,10 @@ pub fn command(cursor: &mut Cursor<'_>) -> Result<Command, SyntaxFault>
     ensures within { StaysWithin cursor.old cursor.new }
     ensures read { IfOk result (λ x. IsCommand x cursor.old.left) }
     ensures names { IfErr result (Names cursor.new) }
+    ensures refused { IfErr result (Refuses SomeCommand cursor.old.left cursor.new.left) }
 {
-    let word = match cursor.peek() {
-        Some(What::Word(word)) if begins(word) => word,
-        _ => return Err(cursor.fault()),
+    let Some(word) = first_word(cursor) else {
+        return Err(cursor.fault());
     };
     cursor.word(word)?;
     let command = behind(cursor, word)?;
@@ -347,6 +409,7 @@ fn target(cursor: &mut Cursor<'_>) -> Result<Target, SyntaxFault>
     ensures within { StaysWithin cursor.old cursor.new }
     ensures read { IfOk result (λ x. IsTarget x cursor.old.left cursor.new.left) }
     ensures names { IfErr result (Names cursor.new) }
+    ensures stops { IfErr result (Stops Anything (Reads IsTarget) cursor.old.left cursor.new.left) }
 {
     if cursor.is_next(What::Item) {
         let item = cursor.item()?;
@@ -361,6 +424,7 @@ pub fn completion(cursor: &mut Cursor<'_>) -> Result<Completion, SyntaxFault>
     ensures within { StaysWithin cursor.old cursor.new }
     ensures read { IfOk result (λ x. IsCompletion x cursor.old.left) }
     ensures names { IfErr result (Names cursor.new) }
+    ensures refused { IfErr result (Refuses SomeCompletion cursor.old.left cursor.new.left) }
 {
     cursor.word(keyword::DONE)?;
     let target = target(cursor)?;

@@ -1,7 +1,8 @@
 //! From the bytes of a line to what it says. Places are counted from 1.
 ghost use Rattle.std.specs.Prelude.{◌≡◌, ◌≤◌, ◌<◌, ◌+◌, ◌-◌, ◌^◌, ℕ, [], Some, None, Err, length, min, IfOk, IfErr, IfSome};
 ghost use Rattle.command_lang.specs.declared.reading.CommandFault.TheVariants.{Word};
-ghost use Rattle.command_lang.specs.Reading.{may_stand as may_stand_test, wrong_byte as wrong_byte_of, spoken_in, AreLineTokens, HasNoTokens, IsReading, SaysCommand, SaysCompletion, IsOnlyCommand, IsOnlyCompletion, IsRefusal};
+ghost use Rattle.command_lang.specs.Reading.{may_stand as may_stand_test, wrong_byte as wrong_byte_of, spoken_in, AreLineTokens, HasNoTokens, IsReading, SaysCommand, SaysCompletion, IsOnlyCommand, IsOnlyCompletion, IsRefusal, RefusesFirst, RefusesNoCommand, RefusesNoCompletion};
+ghost use Rattle.command_lang.specs.Refusing.{SomeCommand, SomeCompletion};
 ghost use Rattle.command_lang.specs.declared.reading.CommandFault.TheVariants.{NoMemory};
 
 use crate::grammar::{command, completion};
@@ -112,6 +113,8 @@ pub fn read_command(alloc: Global, line: &[u8]) -> Result<Option<Command>, Comma
     ensures says { IfOk result (SaysCommand line.now) }
     ensures one { IfOk result (IsOnlyCommand line.now) }
     ensures refused { IfErr result (IsRefusal line.now) }
+    ensures first { IfErr result (RefusesFirst SomeCommand line.now) }
+    ensures none { IfErr result (RefusesNoCommand line.now) }
 {
     let tokens = tokens_of(alloc, line)?;
     let Some(spoken) = spoken(line, &tokens) else {
@@ -132,6 +135,8 @@ pub fn read_completion(alloc: Global, line: &[u8]) -> Result<Option<Completion>,
     ensures says { IfOk result (SaysCompletion line.now) }
     ensures one { IfOk result (IsOnlyCompletion line.now) }
     ensures refused { IfErr result (IsRefusal line.now) }
+    ensures first { IfErr result (RefusesFirst SomeCompletion line.now) }
+    ensures none { IfErr result (RefusesNoCompletion line.now) }
 {
     let tokens = tokens_of(alloc, line)?;
     let Some(spoken) = spoken(line, &tokens) else {

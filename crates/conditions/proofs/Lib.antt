@@ -1,1 +1,4 @@
 pub mod Members
+pub mod Folded
+pub mod TextSides
+pub mod Clear

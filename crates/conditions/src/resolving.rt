@@ -1,11 +1,13 @@
 //! From a written condition to one whose leaves are places.
-ghost use Rattle.std.specs.Prelude.{◌≡◌};
+ghost use Rattle.std.specs.Prelude.{◌≡◌, ◌<◌, ◌^◌, Some, None, IfOk, MatchResult, length};
+ghost use Rattle.conditions.specs.Resolving.{resolved_term, resolved_text, text_operand, AreKnown, IsSumMade, IsNumbers, IsSideMade, IsClear, AreClear, IsMade, AreMade, IsResolution};
 ghost use Rattle.conditions.specs.declared.resolving.TypeFault.TheVariants.{NoMemory};
+ghost use Rattle.flow_model.specs.declared.trees.Cond.TheVariants.{Compare};
 
-use crate::faults::{first_mismatch, first_number_fault, first_unknown};
+use crate::faults::{first_mismatch, first_number_fault, first_unknown, is_text_term};
 use containers::{find_leaf, number_value};
 use flow_model::{
-    Cond, Expr, Kind, Leaves, List, Operand, OperandTree, Operator, Side, Term, TermTree, TextSide,
+    Cond, Expr, Leaves, List, Operand, OperandTree, Operator, Side, Term, TermTree, TextSide,
 };
 use std::alloc::{AllocError, Global};
 use thiserror::Error;
@@ -36,14 +38,20 @@ impl From<AllocError> for TypeFault {
 }
 
 /// A term whose leaf is a place.
-fn term_of(term: &TermTree, leaves: &Leaves) -> Result<Term, TypeFault> {
+fn term_of(term: &TermTree, leaves: &Leaves) -> Result<Term, TypeFault>
+    ensures { length leaves.now.leaves < 2 ^ 32
+        → MatchResult result (λ made. resolved_term leaves.now.leaves term.now ≡ Some made)
+        (λ fault. resolved_term leaves.now.leaves term.now ≡ None) }
+{
     let operand = match &term.operand {
-        OperandTree::Leaf(leaf) => {
-            Operand::Leaf(find_leaf(leaves, leaf).ok_or(TypeFault::UnknownMember(leaf.place))?)
-        }
-        OperandTree::Number(number) => {
-            Operand::Number(number_value(number).ok_or(TypeFault::Number(number.place))?)
-        }
+        OperandTree::Leaf(leaf) => match find_leaf(leaves, leaf) {
+            Some(place) => Operand::Leaf(place),
+            None => return Err(TypeFault::UnknownMember(leaf.place)),
+        },
+        OperandTree::Number(number) => match number_value(number) {
+            Some(value) => Operand::Number(value),
+            None => return Err(TypeFault::Number(number.place)),
+        },
     };
     Ok(Term {
         minus: term.minus,
@@ -51,39 +59,70 @@ fn term_of(term: &TermTree, leaves: &Leaves) -> Result<Term, TypeFault> {
     })
 }
 
-/// The terms of a side of numbers.
-fn sum_of(alloc: Global, side: &Side, leaves: &Leaves) -> Result<List<Term>, TypeFault> {
+/// The terms of a sum.
+fn sum_of(alloc: Global, written: &[TermTree], leaves: &Leaves) -> Result<List<Term>, TypeFault>
+    ensures { length leaves.now.leaves < 2 ^ 32 → AreKnown leaves.now.leaves written.now → IsSumMade leaves.now.leaves written.now result }
+{
     let mut terms = List::new(alloc);
-    if let Side::Sum(written) = side {
-        for term in written.as_slice() {
-            terms.push(term_of(term, leaves)?)?;
-        }
+    for term in written {
+        terms.push(term_of(term, leaves)?)?;
     }
     Ok(terms)
 }
 
+/// The terms of a side of numbers; none of a text.
+fn side_sum(alloc: Global, side: &Side, leaves: &Leaves) -> Result<List<Term>, TypeFault>
+    ensures { length leaves.now.leaves < 2 ^ 32 → IsNumbers leaves.now.leaves side.now → IsSideMade leaves.now.leaves side.now result }
+{
+    match side {
+        Side::Text(_, _) => Ok(List::new(alloc)),
+        Side::Sum(terms) => sum_of(alloc, terms.as_slice(), leaves),
+    }
+}
+
+/// The leaf of a term, where it holds a text.
+fn text_leaf(term: &TermTree, leaves: &Leaves) -> Option<TextSide>
+    ensures { length leaves.now.leaves < 2 ^ 32 → result ≡ text_operand leaves.now.leaves term.now.operand }
+{
+    if !is_text_term(term, leaves) {
+        return None;
+    }
+    match &term.operand {
+        OperandTree::Number(_) => None,
+        OperandTree::Leaf(leaf) => match find_leaf(leaves, leaf) {
+            None => None,
+            Some(place) => Some(TextSide::Leaf(place)),
+        },
+    }
+}
+
 /// The text, or the leaf, of a side of texts.
-fn text_of(alloc: Global, side: &Side, leaves: &Leaves) -> Result<Option<TextSide>, TypeFault> {
+fn text_of(alloc: Global, side: &Side, leaves: &Leaves) -> Result<Option<TextSide>, AllocError>
+    ensures { length leaves.now.leaves < 2 ^ 32 → IfOk result (λ made. made ≡ resolved_text leaves.now.leaves side.now) }
+{
     match side {
         Side::Text(text, _) => Ok(Some(TextSide::Text(text.copy(alloc)?))),
         Side::Sum(terms) => match terms.as_slice() {
-            [
-                TermTree {
-                    operand: OperandTree::Leaf(leaf),
-                    ..
-                },
-            ] => {
-                let Some(place) = find_leaf(leaves, leaf) else {
-                    return Err(TypeFault::UnknownMember(leaf.place));
-                };
-                match leaves.leaves.as_slice().get(place as usize) {
-                    Some(found) if found.kind == Kind::Str => Ok(Some(TextSide::Leaf(place))),
-                    _ => Ok(None),
-                }
-            }
+            [term] => Ok(text_leaf(term, leaves)),
             _ => Ok(None),
         },
     }
+}
+
+/// A comparison of two sums.
+fn numbers(
+    alloc: Global,
+    left: &Side,
+    operator: Operator,
+    right: &Side,
+    leaves: &Leaves,
+) -> Result<Expr, TypeFault>
+    ensures { length leaves.now.leaves < 2 ^ 32 → IsNumbers leaves.now.leaves left.now → IsNumbers leaves.now.leaves right.now
+        → IsMade leaves.now.leaves (Compare left.now operator right.now) result }
+{
+    let first = side_sum(alloc, left, leaves)?;
+    let second = side_sum(alloc, right, leaves)?;
+    Ok(Expr::Whole(operator, first, second))
 }
 
 /// A comparison whose sides are known to have one kind.
@@ -93,50 +132,64 @@ fn comparison(
     operator: Operator,
     right: &Side,
     leaves: &Leaves,
-) -> Result<Expr, TypeFault> {
-    if let Some(left) = text_of(alloc, left, leaves)? {
-        if let Some(right) = text_of(alloc, right, leaves)? {
-            return Ok(Expr::Texts(operator, left, right));
-        }
+) -> Result<Expr, TypeFault>
+    ensures { length leaves.now.leaves < 2 ^ 32 → IsClear leaves.now.leaves (Compare left.now operator right.now)
+        → IsMade leaves.now.leaves (Compare left.now operator right.now) result }
+{
+    match text_of(alloc, left, leaves)? {
+        None => numbers(alloc, left, operator, right, leaves),
+        Some(first) => match text_of(alloc, right, leaves)? {
+            None => numbers(alloc, left, operator, right, leaves),
+            Some(second) => Ok(Expr::Texts(operator, first, second)),
+        },
     }
-    Ok(Expr::Whole(
-        operator,
-        sum_of(alloc, left, leaves)?,
-        sum_of(alloc, right, leaves)?,
-    ))
+}
+
+/// A condition on its own in memory.
+fn boxed(alloc: Global, expr: Expr) -> Result<Box<Expr>, TypeFault>
+    ensures { MatchResult result (λ made. made.value ≡ expr) (λ fault. fault ≡ NoMemory) }
+{
+    match Box::new(alloc, expr) {
+        Ok(made) => Ok(made),
+        Err(_) => Err(TypeFault::NoMemory),
+    }
+}
+
+/// The members of a condition with places for leaves, where nothing stands against them.
+#[cycle(expression)]
+fn members_of(alloc: Global, members: &[Cond], leaves: &Leaves) -> Result<List<Expr>, TypeFault>
+    ensures { length leaves.now.leaves < 2 ^ 32 → AreClear leaves.now.leaves members.now → AreMade leaves.now.leaves members.now result }
+{
+    let mut resolved = List::new(alloc);
+    for member in members {
+        resolved.push(expr_of(alloc, member, leaves)?)?;
+    }
+    Ok(resolved)
 }
 
 /// The condition with places for leaves, where nothing stands against it.
-fn expr_of(alloc: Global, cond: &Cond, leaves: &Leaves) -> Result<Expr, TypeFault> {
+#[cycle(expression)]
+fn expr_of(alloc: Global, cond: &Cond, leaves: &Leaves) -> Result<Expr, TypeFault>
+    ensures { length leaves.now.leaves < 2 ^ 32 → IsClear leaves.now.leaves cond.now → IsMade leaves.now.leaves cond.now result }
+{
     match cond {
-        Cond::Or(members) => {
-            let mut resolved = List::new(alloc);
-            for member in members.as_slice() {
-                resolved.push(expr_of(alloc, member, leaves)?)?;
-            }
-            Ok(Expr::Or(resolved))
-        }
-        Cond::And(members) => {
-            let mut resolved = List::new(alloc);
-            for member in members.as_slice() {
-                resolved.push(expr_of(alloc, member, leaves)?)?;
-            }
-            Ok(Expr::And(resolved))
-        }
+        Cond::Or(members) => Ok(Expr::Or(members_of(alloc, members.as_slice(), leaves)?)),
+        Cond::And(members) => Ok(Expr::And(members_of(alloc, members.as_slice(), leaves)?)),
         Cond::Not(member) => {
             let resolved = expr_of(alloc, member, leaves)?;
-            let boxed = Box::new(alloc, resolved).map_err(|_| TypeFault::NoMemory)?;
-            Ok(Expr::Not(boxed))
+            Ok(Expr::Not(boxed(alloc, resolved)?))
         }
         Cond::Compare(left, operator, right) => comparison(alloc, left, *operator, right, leaves),
     }
 }
 
-/// A condition with places of these leaves.
+/// A condition with places of these leaves. No container has 2^32 leaves.
 ///
 /// `UnknownMember` comes where a leaf isn't one of these; else `Mismatch` where a comparison's sides
 /// don't have one kind; else `Number` where a number has no 64 bits; each with the first such place.
-pub fn resolve(alloc: Global, cond: &Cond, leaves: &Leaves) -> Result<Expr, TypeFault> {
+pub fn resolve(alloc: Global, cond: &Cond, leaves: &Leaves) -> Result<Expr, TypeFault>
+    ensures { length leaves.now.leaves < 2 ^ 32 → IsResolution leaves.now.leaves cond.now result }
+{
     if let Some(place) = first_unknown(cond, leaves) {
         return Err(TypeFault::UnknownMember(place));
     }

@@ -1,10 +1,11 @@
 //! The late items.
-ghost use Rattle.std.specs.Prelude.{◌≡◌, ◌<◌, ◌≤◌, ◌+◌, [], ◌∷◌, length, IfOk, IfSome, IfNone};
+ghost use Rattle.std.specs.Prelude.{◌≡◌, ◌+◌, [], ◌∷◌, IfOk};
 ghost use Rattle.std.specs.List.{All};
-ghost use Rattle.deadlines.specs.Lateness.{IsNotice};
+ghost use Rattle.deadlines.specs.Lateness.{IsNotice, minutes_beyond, minutes_late as late_by, AreDeclared, able, notified_by, late_of, AreOverdue};
+ghost use Rattle.deadlines.specs.Rolls.{roll};
 
 use flow_core::{Core, OpenItem};
-use flow_model::{Hold, Library, Name, Path, PersonDef};
+use flow_model::{Hold, Library, List, Name, Path, PersonDef};
 use staff_worklists::eligible;
 use std::alloc::{AllocError, Global};
 use std::collections::BTreeMap;
@@ -14,43 +15,43 @@ use std::collections::BTreeMap;
 pub struct Late {
     pub item: Path,
     pub minutes: u64,
-    pub notify: Vec<Name>,
+    pub notify: List<Name>,
 }
 
 /// The people by their names, each with the roles of the latest declaration.
-type People<'a> = BTreeMap<Vec<u8>, &'a PersonDef>;
+type People<'a> = BTreeMap<&'a [u8], &'a PersonDef>;
 
 /// By how many minutes the clock is beyond the end of a time; None where it isn't.
 fn minutes_late(clock: u64, since: u64, expires: u32) -> Option<u64>
-    ensures late { IfSome result (λ minutes. (0 < minutes) × (since + expires + minutes ≡ clock)) }
-    ensures none { IfNone result (clock ≤ since + expires) }
+    ensures { result ≡ minutes_beyond clock (since + expires) }
 {
     let late = clock.checked_sub(since)?.checked_sub(u64::from(expires))?;
     if late > 0 { Some(late) } else { None }
 }
 
 /// By how many minutes an item is late; None where it isn't, or never is.
-fn lateness(clock: u64, open: &OpenItem<'_>) -> Option<u64>
-    ensures { IfSome result (λ minutes. 0 < minutes) }
+fn lateness(clock: u64, open_item: &OpenItem<'_>) -> Option<u64>
+    ensures { result ≡ late_by clock open_item.now.since open_item.now.program.now.expires }
 {
-    minutes_late(clock, open.since, open.program.expires?)
+    minutes_late(clock, open_item.since, open_item.program.expires?)
 }
 
-/// The people of a library.
-fn people_of<'a>(alloc: Global, library: &'a Library) -> Result<People<'a>, AllocError> {
+/// The people of a library, each as declared last.
+fn people_of<'a>(alloc: Global, library: &'a Library) -> Result<People<'a>, AllocError>
+    ensures { IfOk result (λ people. AreDeclared library.now (roll people)) }
+{
     let mut people = BTreeMap::new(alloc);
     for person in library.people.as_slice() {
-        let name = Vec::from_slice(alloc, person.name.as_slice())?;
-        people.insert(name, person)?;
+        people.insert(person.name.as_slice(), person)?;
     }
     Ok(people)
 }
 
 /// A list of one name.
-fn alone(alloc: Global, name: &Name) -> Result<Vec<Name>, AllocError>
-    ensures { IfOk result (λ names. names.items ≡ name.now ∷ []) }
+fn alone(alloc: Global, name: &Name) -> Result<List<Name>, AllocError>
+    ensures { IfOk result (λ names. names ≡ name.now ∷ []) }
 {
-    let mut names = Vec::new(alloc);
+    let mut names = List::new(alloc);
     names.push(name.copy(alloc)?)?;
     Ok(names)
 }
@@ -58,12 +59,19 @@ fn alone(alloc: Global, name: &Name) -> Result<Vec<Name>, AllocError>
 /// The people who may do an item, in byte order of their names; nobody may do an automatic one.
 fn able_people(
     alloc: Global,
-    open: &OpenItem<'_>,
+    open_item: &OpenItem<'_>,
     people: &People<'_>,
-) -> Result<Vec<Name>, AllocError> {
-    let mut names = Vec::new(alloc);
+) -> Result<List<Name>, AllocError>
+    ensures { IfOk result (λ names. names ≡ able (roll people.now) open_item.now) }
+{
+    let mut names = List::new(alloc);
     for (_name, person) in people.iter() {
-        if eligible(person, open.program, open.starter, open.performer) {
+        if eligible(
+            person,
+            open_item.program,
+            open_item.starter,
+            open_item.performer,
+        ) {
             names.push(person.name.copy(alloc)?)?;
         }
     }
@@ -74,18 +82,18 @@ fn able_people(
 /// the starter where there is none of them or an agent holds it.
 fn notified(
     alloc: Global,
-    open: &OpenItem<'_>,
+    open_item: &OpenItem<'_>,
     people: &People<'_>,
-) -> Result<Vec<Name>, AllocError>
-    ensures { IfOk result (λ names. 0 < length names.items) }
+) -> Result<List<Name>, AllocError>
+    ensures { IfOk result (λ names. names ≡ notified_by open_item.now.hold.now (able (roll people.now) open_item.now) open_item.now.starter.now) }
 {
-    match open.hold {
+    match open_item.hold {
         Hold::Person(holder) => alone(alloc, holder),
-        Hold::Agent(_) => alone(alloc, open.starter),
+        Hold::Agent(_) => alone(alloc, open_item.starter),
         Hold::Nobody => {
-            let able = able_people(alloc, open, people)?;
+            let able = able_people(alloc, open_item, people)?;
             if able.is_empty() {
-                alone(alloc, open.starter)
+                alone(alloc, open_item.starter)
             } else {
                 Ok(able)
             }
@@ -93,21 +101,38 @@ fn notified(
     }
 }
 
+/// What is said of an item, where it is late.
+fn notice(
+    alloc: Global,
+    clock: u64,
+    open_item: OpenItem<'_>,
+    people: &People<'_>,
+) -> Result<Option<Late>, AllocError>
+    ensures { IfOk result (λ late. late ≡ late_of clock (roll people.now) open_item.entry) }
+{
+    let Some(minutes) = lateness(clock, &open_item) else {
+        return Ok(None);
+    };
+    let notify = notified(alloc, &open_item, people)?;
+    Ok(Some(Late {
+        item: open_item.item,
+        minutes,
+        notify,
+    }))
+}
+
 /// The late items of a state, by root and then in show order. An item is late where the clock is more than
 /// the clock when it came to be and the minutes after which it expires.
 pub fn overdue(alloc: Global, core: &Core) -> Result<Vec<Late>, AllocError>
-    ensures { IfOk result (λ found. All IsNotice found.items) }
+    ensures notices { IfOk result (λ found. All IsNotice found.items) }
+    ensures exact { IfOk result (λ found. AreOverdue core.now found.items) }
 {
     let people = people_of(alloc, core.library())?;
+    let clock = core.clock();
     let mut found = Vec::new(alloc);
-    'items: for open in core.open_items(alloc)? {
-        if let Some(minutes) = lateness(core.clock(), &open) {
-            let notify = notified(alloc, &open, &people)?;
-            found.push(Late {
-                item: open.item,
-                minutes,
-                notify,
-            })?;
+    for open_item in core.open_items(alloc)? {
+        if let Some(late) = notice(alloc, clock, open_item, &people)? {
+            found.push(late)?;
         }
     }
     Ok(found)

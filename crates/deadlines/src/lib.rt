@@ -5,7 +5,9 @@
 #![tactic(auto)]
 
 mod late;
+mod laws;
 mod text;
 
 pub use late::{Late, overdue};
+pub use laws::goes_by_the_state;
 pub use text::overdue_text;

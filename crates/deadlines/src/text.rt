@@ -11,7 +11,7 @@ fn write_late(out: &mut Vec<u8>, late: &Late) -> Result<(), AllocError> {
     write_path(out, &late.item)?;
     out.extend_from_slice(b"' ")?;
     decimal(out, late.minutes)?;
-    for name in &late.notify {
+    for name in late.notify.as_slice() {
         out.push(b' ')?;
         quoted_name(out, name.as_slice())?;
     }

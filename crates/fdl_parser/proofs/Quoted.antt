@@ -8,8 +8,8 @@ use Rattle.fdl_parser.specs.Tokens.{spell}
 use Rattle.fdl_parser.specs.Lexed.{IsQuoted, AreQuoted}
 
 spells_quoted : (w : What) (n : ℕ) (bytes : List ℕ) → Spells w n bytes → IsQuoted w (take n bytes)
-spells_quoted Name n bytes s = (s.0, s.2.0)
-spells_quoted Text n bytes s = (s.0, s.2.0)
+spells_quoted Name n bytes s = (s.0, s.2.0, s.1)
+spells_quoted Text n bytes s = (s.0, s.2.0, s.1)
 spells_quoted (Word w) n bytes s = tt
 spells_quoted Rc n bytes s = tt
 spells_quoted Item n bytes s = tt

@@ -285,7 +285,7 @@ pub record LeafParts (l : LeafAt) (a b : Tokens) : Type 0 where
   pub begins : IsFirstStep first l.place a middle
   pub goes_on : Chain StepTree IsNextStep more middle b
 
-leaf_parts : {l : LeafAt} {a b : Tokens} → IsLeaf l a b → LeafParts l a b
+pub leaf_parts : {l : LeafAt} {a b : Tokens} → IsLeaf l a b → LeafParts l a b
 leaf_parts (FirstStep {s = s} {b = b} h) = record { first = s; more = []; middle = b; steps = refl; begins = h; goes_on = Done }
 leaf_parts (MoreSteps {s = s} h j) =
     let r = leaf_parts h in

@@ -6,3 +6,4 @@ pub mod Lines
 pub mod Activities
 pub mod Items
 pub mod Alike
+pub mod Stops

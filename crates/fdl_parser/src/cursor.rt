@@ -1,8 +1,9 @@
 //! The tokens that are left to read, and the parts that one or two of them make.
-ghost use Rattle.std.specs.Prelude.{◌≡◌, ◌≢◌, ◌<◌, ◌≤◌, ◌+◌, List as Seq, ℕ, length, ◌∷◌, true, false, IfOk, IfErr, ◌==◌};
+ghost use Rattle.std.specs.Prelude.{◌≡◌, ◌≢◌, ◌<◌, ◌≤◌, ◌+◌, List as Seq, ℕ, length, slice_range, ◌∷◌, true, false, IfOk, IfErr, IfSome, ◌==◌};
 ghost use Rattle.fdl_lexer.specs.Bytes.{single_quoted};
 ghost use Rattle.fdl_parser.specs.declared.cursor.SyntaxFault.TheVariants.{NoMemory};
 ghost use Rattle.fdl_parser.specs.Faults.{Names};
+ghost use Rattle.fdl_parser.specs.Stops.{Reads, Anything, Quotes, FirstSteps, StepComes, NoStep, IsTaken, Stops};
 ghost use Rattle.fdl_parser.specs.Tokens.{reading, StaysWithin, first_kind, HasBytes, IsToken, IsName, IsQuote, IsItemToken, IsNumber, IsSigned, IsFirstStep, IsNextStep, IsLeaf};
 
 use fdl_lexer::{Token, What, text_value};
@@ -200,13 +201,11 @@ impl<'a> Cursor<'a> {
     fn spelled(&self, what: What) -> Result<&'a [u8], SyntaxFault>
         ensures read { IfOk result (λ bytes. HasBytes what bytes.now self.now.left) }
         ensures names { IfErr result (Names self.now) }
+        ensures other { IfErr result (λ _. first_kind self.now.left ≢ Some what) }
     {
         match self.left {
             [token, ..] if token.what == what => {
-                match self.text.get(token.from as usize..token.to as usize) {
-                    Some(bytes) => Ok(bytes),
-                    None => Err(self.fault()),
-                }
+                Ok(bytes_between(self.text, token.from as usize, token.to as usize))
             }
             _ => Err(self.fault()),
         }
@@ -218,6 +217,7 @@ impl<'a> Cursor<'a> {
         ensures within { StaysWithin self.old self.new }
         ensures read { IfOk result (λ name. IsName name self.old.left self.new.left) }
         ensures names { IfErr result (Names self.new) }
+        ensures stops { IfErr result (Stops Anything (Reads IsName) self.old.left self.new.left) }
     {
         let bytes = self.spelled(What::Name)?;
         match Name::new(self.alloc, unquoted(bytes)) {
@@ -236,6 +236,7 @@ impl<'a> Cursor<'a> {
         ensures within { StaysWithin self.old self.new }
         ensures read { IfOk result (λ read. IsQuote read.0 read.1 self.old.left self.new.left) }
         ensures names { IfErr result (Names self.new) }
+        ensures stops { IfErr result (Stops Anything Quotes self.old.left self.new.left) }
     {
         let bytes = self.spelled(What::Text)?;
         let value = text_value(self.alloc, bytes)?;
@@ -255,10 +256,22 @@ impl<'a> Cursor<'a> {
         ensures within { StaysWithin self.old self.new }
         ensures read { IfOk result (λ bytes. IsItemToken bytes self.old.left self.new.left) }
         ensures names { IfErr result (Names self.new) }
+        ensures stops { IfErr result (Stops Anything (Reads IsItemToken) self.old.left self.new.left) }
     {
         let bytes = Bytes::new(self.alloc, self.spelled(What::Item)?)?;
         self.token(What::Item)?;
         Ok(bytes)
+    }
+
+    /// The next token's number, if it is one.
+    fn next_size(&self) -> Option<u64>
+        ensures number { IfSome result (λ size. first_kind self.now.left ≡ Some (What.Number size)) }
+        ensures other { (size : ℕ) → first_kind self.now.left ≡ Some (What.Number size) → result ≡ Some size }
+    {
+        match self.left {
+            [token, ..] => size_of(token.what),
+            [] => None,
+        }
     }
 
     /// Takes a number without a sign.
@@ -267,18 +280,17 @@ impl<'a> Cursor<'a> {
         ensures within { StaysWithin self.old self.new }
         ensures read { IfOk result (λ number. IsNumber number self.old.left self.new.left) }
         ensures names { IfErr result (Names self.new) }
+        ensures stops { IfErr result (Stops Anything (Reads IsNumber) self.old.left self.new.left) }
     {
-        match self.peek() {
-            Some(What::Number(size)) => {
-                let place = self.token(What::Number(size))?;
-                Ok(NumberAt {
-                    minus: None,
-                    size,
-                    place,
-                })
-            }
-            _ => Err(self.fault()),
-        }
+        let Some(size) = self.next_size() else {
+            return Err(self.fault());
+        };
+        let place = self.token(What::Number(size))?;
+        Ok(NumberAt {
+            minus: None,
+            size,
+            place,
+        })
     }
 
     /// Takes a number, with a `-` before it or without.
@@ -287,6 +299,7 @@ impl<'a> Cursor<'a> {
         ensures within { StaysWithin self.old self.new }
         ensures read { IfOk result (λ number. IsSigned number self.old.left self.new.left) }
         ensures names { IfErr result (Names self.new) }
+        ensures stops { IfErr result (Stops Anything (Reads IsSigned) self.old.left self.new.left) }
     {
         if !self.is_mark(mark::MINUS) {
             let unsigned = self.number()?;
@@ -307,6 +320,7 @@ impl<'a> Cursor<'a> {
         ensures within { StaysWithin self.old self.new }
         ensures read { IfOk result (λ step. IsFirstStep step.0 step.1 self.old.left self.new.left) }
         ensures names { IfErr result (Names self.new) }
+        ensures stops { IfErr result (Stops Anything FirstSteps self.old.left self.new.left) }
     {
         if self.is_next(What::Rc) {
             let place = self.token(What::Rc)?;
@@ -322,6 +336,7 @@ impl<'a> Cursor<'a> {
         ensures within { StaysWithin self.old self.new }
         ensures read { IfOk result (λ step. IsNextStep step self.old.left self.new.left) }
         ensures names { IfErr result (Names self.new) }
+        ensures stops { IfErr result (Stops Anything (Reads IsNextStep) self.old.left self.new.left) }
     {
         if self.is_mark(mark::DOT) {
             self.mark(mark::DOT)?;
@@ -334,21 +349,51 @@ impl<'a> Cursor<'a> {
         Ok(StepTree::Place(number.size))
     }
 
+    /// Whether a further step of a leaf comes next.
+    fn is_step_next(&self) -> bool
+        ensures yes { result ≡ true → StepComes self.now.left }
+        ensures no { result ≡ false → NoStep self.now.left }
+    {
+        self.is_mark(mark::DOT) || self.is_mark(mark::OPEN_BRACKET)
+    }
+
     /// Takes a leaf.
     pub fn leaf(&mut self) -> Result<LeafAt, SyntaxFault>
         ensures shorter { IfOk result (λ _. length self.new.left < length self.old.left) }
         ensures within { StaysWithin self.old self.new }
         ensures read { IfOk result (λ leaf. IsLeaf leaf self.old.left self.new.left) }
         ensures names { IfErr result (Names self.new) }
+        ensures taken { IfOk result (λ _. IsTaken NoStep (Reads IsLeaf) self.old.left self.new.left) }
+        ensures stops { IfErr result (Stops NoStep (Reads IsLeaf) self.old.left self.new.left) }
     {
         let (first, place) = self.first_step()?;
         let mut steps = List::new(self.alloc);
         steps.push(first)?;
-        while self.is_mark(mark::DOT) || self.is_mark(mark::OPEN_BRACKET) {
+        while self.is_step_next() {
             steps.push(self.next_step()?)?;
         }
         Ok(LeafAt { steps, place })
     }
+}
+
+/// What a token counts, if it is a number.
+fn size_of(what: What) -> Option<u64>
+    ensures number { IfSome result (λ size. what ≡ What.Number size) }
+    ensures other { (size : ℕ) → what ≡ What.Number size → result ≡ Some size }
+{
+    match what {
+        What::Number(size) => Some(size),
+        _ => None,
+    }
+}
+
+/// The bytes from one place to another, as far as there are some.
+fn bytes_between(bytes: &[u8], from: usize, to: usize) -> &[u8]
+    ensures { result.now ≡ slice_range bytes.now from to }
+{
+    let (_, behind) = bytes.split_at(from.min(bytes.len()));
+    let (between, _) = behind.split_at(to.saturating_sub(from).min(behind.len()));
+    between
 }
 
 /// The bytes between the quotes.

@@ -3,4 +3,7 @@ pub mod Listed
 pub mod Putting
 pub mod Moved
 pub mod OpenItems
+pub mod OpenRows
+pub mod OpenRoots
 pub mod Versions
+pub mod Refusing

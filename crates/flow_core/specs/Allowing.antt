@@ -1,10 +1,12 @@
 -- What a state asks of a transaction before it may be, and how the numbers of roots are counted.
-use Rattle.std.specs.Prelude.{◌≡◌, ◌⊎◌, ℕ, ◌<◌, ◌≤◌, ◌==◌, ◌&&◌, false, Result, Ok, Err, Some, None, [], option_map, IfSome, IsTrue}
+use Rattle.std.specs.Prelude.{◌≡◌, ◌⊎◌, ℕ, ◌<◌, ◌≤◌, ◌==◌, ◌&&◌, false, Result, Ok, Err, Option, Some, None, [], option_map, IfSome, IsTrue}
 use Rattle.activity_states.specs.States.{fate_of}
+use Rattle.flow_model.specs.declared.graphs.Program.{Program as ProgramOf}
 use Rattle.flow_model.specs.declared.instances.Mode.{Mode}
 use Rattle.flow_model.specs.declared.instances.Mode.TheVariants.{Active, Suspended}
 use Rattle.flow_model.specs.declared.instances.Path.{Path}
 use Rattle.flow_model.specs.declared.instances.Phase.TheVariants.{Ended}
+use Rattle.flow_model.specs.declared.names.Name.{Name}
 use Rattle.flow_model.specs.declared.transactions.Transaction.{Transaction}
 use Rattle.flow_model.specs.declared.transactions.Transaction.TheVariants.{Import, Start, Turn, Claim, Release, Transfer, Take, Done, Force, Restart, Suspend, Resume, Terminate, Delete, Clock}
 use Rattle.navigator.specs.Instances.{mode_of}
@@ -13,9 +15,8 @@ use Rattle.navigator.specs.declared.instance.Instance.{Instance}
 use Rattle.navigator.specs.declared.scopes.ScopeState.{out-ScopeState}
 use Rattle.recover_queue.specs.Queues.{is_quiet}
 use Rattle.flow_core.specs.Answers.{instance_of}
-use Rattle.flow_core.specs.Driving.{templates, item_of}
+use Rattle.flow_core.specs.Driving.{templates, item_of, program_in, IsFront}
 use Rattle.flow_core.specs.Summaries.{started}
-use Rattle.flow_core.specs.Verdicts.{IsFront}
 use Rattle.flow_core.specs.declared.items.Known.{Known}
 use Rattle.flow_core.specs.declared.refusals.Stop.{Stop}
 use Rattle.flow_core.specs.declared.state.Core.{Core}
@@ -34,10 +35,27 @@ IsRunning mode = (mode ≡ Active) ⊎ (mode ≡ Suspended)
 abbrev pub known_entry : Known → Entry
 known_entry k = entry_of k.item.place.graph.now k.item.place.scope.now k.item.number k.item.activity.now k.item.state.now k.item.attempt
 
--- it is the item of this path, in a root of that mode
-pub record IsKnown (c : Core) (path : Path) (k : Known) : Type 0 where
-  pub there : item_of c path ≡ Some (known_entry k)
-  pub mode : option_map mode_in (instance_of c path.root) ≡ Some k.mode
+-- an item with what the tests of a command ask of it: its program, the mode and the starter of its root, and the
+-- person whose DONE PERFORMER OF asks for
+pub record Subject : Type 0 where
+  pub item : Entry
+  pub program : ProgramOf
+  pub mode : Mode
+  pub starter : Name
+  pub performer : Option Name
+
+abbrev pub subject_of : Known → Subject
+subject_of k = record { item = known_entry k; program = k.program.now; mode = k.mode; starter = k.starter.now; performer = option_map (λ name. name.now) k.performer }
+
+-- it is the item of this path, as it and its root stand; which performer it has isn't said
+pub record IsThere (c : Core) (path : Path) (s : Subject) : Type 0 where
+  pub there : item_of c path ≡ Some s.item
+  pub program : program_in s.item.activity.work ≡ Some s.program
+  pub mode : option_map mode_in (instance_of c path.root) ≡ Some s.mode
+  pub starter : option_map (λ i. i.starter) (instance_of c path.root) ≡ Some s.starter
+
+abbrev pub IsKnown : Core → Path → Known → Type 0
+IsKnown c path k = IsThere c path (subject_of k)
 
 -- the item of a path is there and open, in a root that is live and not terminated
 pub record IsOpen (c : Core) (path : Path) : Type 0 where

@@ -1,5 +1,5 @@
 -- What is replied to the queries that list what is kept: a view, a queue, a root's audited transactions, the templates, a worklist.
-use Rattle.std.specs.Prelude.{◌≡◌, ℕ, ℤ, pos, ◌==◌, ◌&&◌, nat_le, Bool, if◌then◌else◌, Option, Some, None, is_some, option_map, List, [], ◌∷◌, ◌++◌, length, codes}
+use Rattle.std.specs.Prelude.{◌≡◌, ℕ, ℤ, pos, ◌==◌, ◌&&◌, nat_le, Bool, if◌then◌else◌, Option, Some, None, is_some, option_map, List, [], ◌∷◌, ◌++◌, length, slice_get, codes}
 use Rattle.std.specs.List.{filter, flat_map}
 use Rattle.std.specs.Fmt.{decimal}
 use Rattle.std.specs.Ordering.{nat_cmp}
@@ -117,6 +117,10 @@ instance_of c root = option_map (λ r. r.instance) (tree.get_by (nat_cmp root) c
 -- the mode of a root
 abbrev pub mode_now : Instance → Mode
 mode_now i = mode_of i.terminated ((out-ScopeState i.scope).begun && ((out-ScopeState i.scope).unsettled == 0)) i.suspended
+
+-- there is a queue of this number, and a message stands at its front
+abbrev pub has_message : Core → ℕ → Bool
+has_message c number = nat_le 1 number && nat_le number (length c.queues) && is_some (slice_get (messages_of c.queues number) 0)
 
 -- QUEUE shows the queue of a number from 1 to the number of queues, and else is refused
 abbrev pub queue_answer : Core → ℕ → List ℕ

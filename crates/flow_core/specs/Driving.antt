@@ -26,7 +26,6 @@ use Rattle.root_laws.specs.Becoming.{TakesIn, CompletesIn, HoldsIn}
 use Rattle.template_check.specs.Built.{AreSound}
 use Rattle.flow_core.specs.Answers.{instance_of}
 use Rattle.flow_core.specs.Summaries.{root_about}
-use Rattle.flow_core.specs.Verdicts.{IsFront}
 use Rattle.flow_core.specs.declared.state.Core.{Core}
 
 -- the templates of the imports so far
@@ -202,6 +201,10 @@ graph_now c root = option_and_then (λ i. graph_of (templates c) i.template) (in
 
 abbrev pub queue_now : Core → Message → ℕ
 queue_now c message = queue_in (templates c) (length c.queues) (graph_now c (root_of_message message)) message
+
+-- the message stands at the front of this queue
+abbrev pub IsFront : Core → ℕ → Message → Type 0
+IsFront c number message = (1 ≤ number) × (slice_get (queue c.queues number) 0 ≡ Some message)
 
 -- the queues after messages are put in turn, each at the back of its queue
 abbrev pub put_in : (Message → ℕ) → List Message → List (List Message) → List (List Message)

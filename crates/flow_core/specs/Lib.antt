@@ -4,4 +4,6 @@ pub mod Replies
 pub mod Answers
 pub mod Driving
 pub mod Allowing
+pub mod Refusals
 pub mod Judgements
+pub mod OpenItems

@@ -1,7 +1,14 @@
 -- What becomes of a command.
-use Rattle.std.specs.Prelude.{◌≡◌, ℕ, ◌+◌, ◌≤◌, Option, Some, List, slice_get}
+use Rattle.std.specs.Prelude.{◌≡◌, ℕ, ◌+◌, Ok, Some, None, List}
+use Rattle.activity_states.specs.States.{next_take}
+use Rattle.containers.specs.Settings.{outcome_by}
+use Rattle.flow_model.specs.Paths.{Spells}
 use Rattle.flow_model.specs.declared.commands.Command.{Command}
 use Rattle.flow_model.specs.declared.commands.Command.TheVariants.{Import, Start, Turn, Drain, Claim, Release, Transfer, Take, Done, Force, Restart, Suspend, Resume, Terminate, Delete, Clock, Checkpoint, Ask}
+use Rattle.flow_model.specs.declared.commands.Outcome.{Outcome}
+use Rattle.flow_model.specs.declared.commands.RawSetting.{RawSetting}
+use Rattle.flow_model.specs.declared.graphs.Graph.{out-Graph}
+use Rattle.flow_model.specs.declared.graphs.Template.{Template}
 use Rattle.flow_model.specs.declared.instances.Fate.{Fate}
 use Rattle.flow_model.specs.declared.instances.Message.{Message}
 use Rattle.flow_model.specs.declared.instances.Mode.TheVariants as mode
@@ -9,7 +16,11 @@ use Rattle.flow_model.specs.declared.instances.Path.{Path}
 use Rattle.flow_model.specs.declared.transactions.Setting.{Setting}
 use Rattle.flow_model.specs.declared.transactions.Transaction.{Transaction}
 use Rattle.flow_model.specs.declared.transactions.Transaction.TheVariants as made
-use Rattle.recover_queue.specs.Queues.{queue as messages_of}
+use Rattle.flow_model.specs.declared.names.Name.{Name}
+use Rattle.navigator.specs.Items.{Entry}
+pub use Rattle.flow_core.specs.Driving.{IsFront}
+use Rattle.flow_core.specs.Driving.{item_of}
+use Rattle.flow_core.specs.Refusals.{between, newest_of, IsInOrder}
 use Rattle.flow_core.specs.declared.applying.Note.{Note}
 use Rattle.flow_core.specs.declared.applying.Note.TheVariants as note
 use Rattle.flow_core.specs.declared.state.Core.{Core}
@@ -18,23 +29,41 @@ use Rattle.flow_core.specs.declared.state.Core.{Core}
 abbrev pub next_root : Core → ℕ
 next_root c = c.roots + 1
 
--- the message stands at the front of this queue
-abbrev pub IsFront : Core → ℕ → Message → Type 0
-IsFront c queue message = (1 ≤ queue) × (slice_get (messages_of c.queues queue) 0 ≡ Some message)
+-- what a START takes from the library: the newest version of its process, and the settings that are written for its input
+pub record IsNewestFor (c : Core) (process : Name) (written : List RawSetting) (version : ℕ) (settings : List Setting) : Type 0 where
+  pub template : Template
+  pub newest : newest_of c process ≡ Some template
+  pub number : template.version ≡ version
+  pub set : outcome_by (out-Graph template.graph).input None written ≡ Ok settings
+
+-- a completion has the settings that its outcome writes for the output of the item
+pub record IsSetFor (c : Core) (path : Path) (outcome : Outcome) (settings : List Setting) : Type 0 where
+  pub item : Entry
+  pub there : item_of c path ≡ Some item
+  pub set : outcome_by item.activity.output outcome.rc outcome.settings ≡ Ok settings
+
+-- a TAKE has the number of the next take of the item
+pub record IsNextTake (c : Core) (path : Path) (take : ℕ) : Type 0 where
+  pub item : Entry
+  pub there : item_of c path ≡ Some item
+  pub next : take ≡ next_take item.state
 
 -- the transaction is the one that a command names in this state; what makes no transaction names none
 abbrev pub IsFor : Core → Command → Transaction → Type 0
 IsFor c (Import text) t = t ≡ made.Import text
-IsFor c (Start process starter key written) t = (version : ℕ) × (settings : List Setting) × (t ≡ made.Start (next_root c) process version starter key settings)
+IsFor c (Start process starter key written) t =
+    (version : ℕ) × (settings : List Setting) × (IsInOrder c → IsNewestFor c process written version settings) × (t ≡ made.Start (next_root c) process version starter key settings)
 IsFor c (Turn queue) t = (message : Message) × IsFront c queue message × (t ≡ made.Turn queue message)
 IsFor c Drain t = ⊥
-IsFor c (Claim token who) t = (item : Path) × (t ≡ made.Claim item who)
-IsFor c (Release token who) t = (item : Path) × (t ≡ made.Release item who)
-IsFor c (Transfer token who to) t = (item : Path) × (t ≡ made.Transfer item who to)
-IsFor c (Take token) t = (item : Path) × (take : ℕ) × (t ≡ made.Take item take)
-IsFor c (Done token who outcome) t = (item : Path) × (settings : List Setting) × (t ≡ made.Done item who settings)
-IsFor c (Force token outcome) t = (item : Path) × (settings : List Setting) × (t ≡ made.Force item settings)
-IsFor c (Restart token) t = (item : Path) × (t ≡ made.Restart item)
+IsFor c (Claim token who) t = (path : Path) × Spells (between token) path × (t ≡ made.Claim path who)
+IsFor c (Release token who) t = (path : Path) × Spells (between token) path × (t ≡ made.Release path who)
+IsFor c (Transfer token who to) t = (path : Path) × Spells (between token) path × (t ≡ made.Transfer path who to)
+IsFor c (Take token) t = (path : Path) × (take : ℕ) × Spells (between token) path × IsNextTake c path take × (t ≡ made.Take path take)
+IsFor c (Done token who outcome) t =
+    (path : Path) × (settings : List Setting) × Spells (between token) path × (IsInOrder c → IsSetFor c path outcome settings) × (t ≡ made.Done path who settings)
+IsFor c (Force token outcome) t =
+    (path : Path) × (settings : List Setting) × Spells (between token) path × (IsInOrder c → IsSetFor c path outcome settings) × (t ≡ made.Force path settings)
+IsFor c (Restart token) t = (path : Path) × Spells (between token) path × (t ≡ made.Restart path)
 IsFor c (Suspend root) t = t ≡ made.Suspend root
 IsFor c (Resume root) t = t ≡ made.Resume root
 IsFor c (Terminate root) t = t ≡ made.Terminate root

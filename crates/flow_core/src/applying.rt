@@ -203,7 +203,7 @@ impl Core {
         let Some(known) = self.known(item) else {
             return Ok(None);
         };
-        let performer = match known.performer() {
+        let performer = match known.performer {
             None => None,
             Some(name) => Some(name.copy(self.alloc)?),
         };

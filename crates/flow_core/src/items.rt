@@ -1,19 +1,23 @@
-//! The tests of commands on items, on paths that are read.
-ghost use Rattle.std.specs.Prelude.{◌≡◌, option_copied, option_map, IfSome, OnOk};
-ghost use Rattle.flow_core.specs.Allowing.{known_entry, IsKnown, IsOpen, IsRunning};
+//! Items that a token or a path names, and the tests of commands on them.
+ghost use Rattle.std.specs.Prelude.{◌≡◌, None, Some, Err, option_copied, option_map, IfOk, IfSome, IfNone, OnOk};
+ghost use Rattle.flow_core.specs.Allowing.{known_entry, subject_of, IsKnown, IsOpen, IsRunning};
+ghost use Rattle.flow_core.specs.Refusals.{StopsBy, IsStop, is_active as active_mode, is_able as able, is_going, mode_test, staff_refusal, claim_test as claiming_test, release_test as releasing_test, transfer_test as transferring_test, taking_test, completing_test, forcing_test, restart_test, item_test, subject_in, IsFound};
+ghost use Rattle.flow_core.specs.declared.refusals.Refusal.TheVariants.{Item as NoItem};
 ghost use Rattle.flow_core.specs.Driving.{item_of, program_in};
 ghost use Rattle.flow_model.specs.declared.instances.Path.{Path as PathOf};
 
+use crate::paths::unquoted;
 use crate::refusals::{Refusal, Stop, copy_hold};
 use crate::state::Core;
 use flow_model::{
-    DoneBy, Hold, Kind, Leaves, Mode, Name, Path, PersonDef, Phase, Program, Setting, Value, Who,
-    Work,
+    Bytes, DoneBy, Hold, Kind, Leaves, Mode, Name, Path, PathFault, PersonDef, Phase, Program,
+    Setting, Value, Who, Work, path_of,
 };
 use navigator::Item;
 use staff_worklists::{
     StaffFault, claim_test, done_test, eligible, release_test, take_test, transfer_test,
 };
+use std::alloc::AllocError;
 
 /// An item with what the tests ask of it.
 pub struct Known<'a> {
@@ -21,6 +25,8 @@ pub struct Known<'a> {
     pub program: &'a Program,
     pub starter: &'a Name,
     pub mode: Mode,
+    /// The person whose DONE PERFORMER OF asks for, where there is one.
+    pub performer: Option<&'a Name>,
 }
 
 impl Drop for Known<'_> {
@@ -30,25 +36,36 @@ impl Drop for Known<'_> {
             program: _,
             starter: _,
             mode: _,
+            performer: _,
         } = self;
     }
 }
 
-impl<'a> Known<'a> {
-    /// The person whose DONE PERFORMER OF asks for.
-    pub fn performer(&self) -> Option<&'a Name> {
-        match &self.program.by {
-            DoneBy::PerformerOf(place) => self.item.performer_of(*place),
-            _ => None,
-        }
-    }
+/// The item that a token names, with the path that the token spells.
+#[derive(Drop)]
+pub struct Found<'a> {
+    pub path: Path,
+    pub known: Known<'a>,
+}
 
-    fn is_able(&self, person: &PersonDef) -> bool {
-        eligible(person, self.program, self.starter, self.performer())
+/// The person whose DONE PERFORMER OF asks for.
+fn performer<'a>(item: Item<'a>, program: &Program) -> Option<&'a Name> {
+    match &program.by {
+        DoneBy::PerformerOf(place) => item.performer_of(*place),
+        _ => None,
+    }
+}
+
+impl<'a> Known<'a> {
+    fn is_able(&self, person: &PersonDef) -> bool
+        ensures { result ≡ able (Some person.now) (subject_of self.now) }
+    {
+        eligible(person, self.program, self.starter, self.performer)
     }
 
     fn needs_active(&self) -> Result<(), Stop>
-        ensures { OnOk result (IsRunning self.now.mode) }
+        ensures running { OnOk result (IsRunning self.now.mode) }
+        ensures stops { StopsBy (mode_test active_mode self.now.mode) result }
     {
         match self.mode {
             Mode::Active => Ok(()),
@@ -57,7 +74,8 @@ impl<'a> Known<'a> {
     }
 
     fn needs_active_or_suspended(&self) -> Result<(), Stop>
-        ensures { OnOk result (IsRunning self.now.mode) }
+        ensures running { OnOk result (IsRunning self.now.mode) }
+        ensures stops { StopsBy (mode_test is_going self.now.mode) result }
     {
         match self.mode {
             Mode::Active => Ok(()),
@@ -92,11 +110,59 @@ impl Core {
             program,
             starter: &instance.starter,
             mode: instance.mode(),
+            performer: performer(item, program),
         })
     }
 
+    /// The item of a path that was read.
+    fn found_at(&self, path: Path) -> Option<Found<'_>>
+        ensures none { IfNone result (item_of self.now path ≡ None) }
+        ensures found { IfSome result (λ f. f.path ≡ path) }
+        ensures known { IfSome result (λ f. IsKnown self.now path f.known) }
+    {
+        let known = self.known(&path)?;
+        Some(Found { path, known })
+    }
+
+    /// The item that a token names; None exactly where it spells no path, or there is no such item.
+    pub(crate) fn found(&self, token: &Bytes) -> Result<Option<Found<'_>>, AllocError>
+        ensures { IfOk result (IsFound self.now token.now) }
+    {
+        match path_of(self.alloc, unquoted(token.as_slice())) {
+            Ok(path) => Ok(self.found_at(path)),
+            Err(PathFault::BadPath) => Ok(None),
+            Err(PathFault::NoMemory) => Err(AllocError),
+        }
+    }
+
+    fn no_item(&self, token: &Bytes) -> Stop
+        ensures { IsStop (Some (NoItem token.now)) result }
+    {
+        match token.copy(self.alloc) {
+            Ok(token) => Stop::Refused(Refusal::Item(token)),
+            Err(_) => Stop::NoMemory,
+        }
+    }
+
+    /// The item that was found of a token, or ITEM.
+    pub(crate) fn needs_item<'a>(
+        &self,
+        token: &Bytes,
+        found: Option<Found<'a>>,
+    ) -> Result<Found<'a>, Stop>
+        ensures stops { StopsBy (item_test token.now (subject_in found.entry)) result }
+        ensures there { IfOk result (λ f. found.entry ≡ Some f) }
+    {
+        match found {
+            Some(found) => Ok(found),
+            None => Err(self.no_item(token)),
+        }
+    }
+
     /// A refusal of one of the tests on an item.
-    fn staff(&self, fault: StaffFault, hold: &Hold) -> Stop {
+    fn staff(&self, fault: StaffFault, hold: &Hold) -> Stop
+        ensures { IsStop (staff_refusal hold.now (Err fault)) result }
+    {
         match fault {
             StaffFault::State(phase) => Stop::Refused(Refusal::State(phase)),
             StaffFault::Take(take) => Stop::Refused(Refusal::Take(take)),
@@ -108,7 +174,9 @@ impl Core {
         }
     }
 
-    pub(crate) fn may_claim(&self, known: &Known<'_>, person: &PersonDef) -> Result<(), Stop> {
+    pub(crate) fn may_claim(&self, known: &Known<'_>, person: &PersonDef) -> Result<(), Stop>
+        ensures { StopsBy (claiming_test (Some person.now) (subject_of known.now)) result }
+    {
         known.needs_active()?;
         match claim_test(known.item.phase(), known.is_able(person)) {
             Ok(()) => Ok(()),
@@ -116,7 +184,9 @@ impl Core {
         }
     }
 
-    pub(crate) fn may_release(&self, known: &Known<'_>, who: &Name) -> Result<(), Stop> {
+    pub(crate) fn may_release(&self, known: &Known<'_>, who: &Name) -> Result<(), Stop>
+        ensures { StopsBy (releasing_test who.now (subject_of known.now)) result }
+    {
         known.needs_active_or_suspended()?;
         match release_test(known.item.phase(), known.item.hold(), who) {
             Ok(()) => Ok(()),
@@ -129,7 +199,9 @@ impl Core {
         known: &Known<'_>,
         who: &Name,
         to: &PersonDef,
-    ) -> Result<(), Stop> {
+    ) -> Result<(), Stop>
+        ensures { StopsBy (transferring_test who.now (Some to.now) (subject_of known.now)) result }
+    {
         known.needs_active_or_suspended()?;
         let hold = known.item.hold();
         match transfer_test(known.item.phase(), hold, who, known.is_able(to)) {
@@ -138,7 +210,9 @@ impl Core {
         }
     }
 
-    pub(crate) fn may_take(&self, known: &Known<'_>) -> Result<(), Stop> {
+    pub(crate) fn may_take(&self, known: &Known<'_>) -> Result<(), Stop>
+        ensures { StopsBy (taking_test (subject_of known.now)) result }
+    {
         known.needs_active()?;
         match take_test(known.item.phase(), known.program.manual) {
             Ok(()) => Ok(()),
@@ -147,7 +221,8 @@ impl Core {
     }
 
     pub(crate) fn may_complete(&self, known: &Known<'_>, who: &Who) -> Result<(), Stop>
-        ensures { (item : PathOf) → IsKnown self.now item known.now → OnOk result (IsOpen self.now item) }
+        ensures stops { StopsBy (completing_test who.now (subject_of known.now)) result }
+        ensures opened { (item : PathOf) → IsKnown self.now item known.now → OnOk result (IsOpen self.now item) }
     {
         known.needs_active()?;
         match done_test(known.item.phase(), known.item.hold(), who) {
@@ -157,7 +232,8 @@ impl Core {
     }
 
     pub(crate) fn may_force(&self, known: &Known<'_>) -> Result<(), Stop>
-        ensures { (item : PathOf) → IsKnown self.now item known.now → OnOk result (IsOpen self.now item) }
+        ensures stops { StopsBy (forcing_test (subject_of known.now)) result }
+        ensures opened { (item : PathOf) → IsKnown self.now item known.now → OnOk result (IsOpen self.now item) }
     {
         known.needs_active_or_suspended()?;
         match known.item.phase() {
@@ -167,7 +243,9 @@ impl Core {
         }
     }
 
-    pub(crate) fn may_restart(&self, known: &Known<'_>) -> Result<(), Stop> {
+    pub(crate) fn may_restart(&self, known: &Known<'_>) -> Result<(), Stop>
+        ensures { StopsBy (restart_test (subject_of known.now)) result }
+    {
         known.needs_active_or_suspended()?;
         match known.item.phase() {
             Phase::Running => Ok(()),

@@ -1,20 +1,25 @@
 //! Whether a command is allowed now: the first refusal in the order of its tests, or its transaction.
-ghost use Rattle.std.specs.Prelude.{◌≡◌, ℕ, ◌<◌, List as ListOf, option_copied, IfOk, OnOk};
+ghost use Rattle.std.specs.Prelude.{◌≡◌, ◌≤◌, ◌<◌, [], ◌∷◌, None, Some, Ok, length, List as ListOf, option_copied, option_map, IfOk, IfErr, IfSome, OnOk};
 ghost use Rattle.flow_model.specs.declared.commands.Command.TheVariants as asked;
 ghost use Rattle.flow_model.specs.declared.transactions.Setting.{Setting as SettingOf};
 ghost use Rattle.flow_model.specs.declared.transactions.Transaction.TheVariants as made;
-ghost use Rattle.flow_core.specs.Allowing.{IsKnown, IsAllowed};
+ghost use Rattle.containers.specs.Settings.{outcome_by};
+ghost use Rattle.flow_model.specs.declared.graphs.Graph.{out-Graph};
+ghost use Rattle.flow_core.specs.Allowing.{subject_of, mode_in, IsAllowed};
+ghost use Rattle.flow_core.specs.Answers.{instance_of};
+ghost use Rattle.flow_core.specs.Refusals.{first_of, full_test, number_test, person_of, person_test, newest_of, process_test, value_test, input_test, outcome_test, minutes_test, clock_test, queue_test, message_test, is_active, is_suspended, is_going, is_over, root_test, queued_test, IsSmall, IsInOrder, IsRuleOf, IsFirstRefusal, IsOrderFor, same_root as root_with_key, StopsBy, StopsAs, IsStop};
+ghost use Rattle.flow_core.specs.declared.refusals.Refusal.TheVariants as refused;
 ghost use Rattle.flow_core.specs.Judgements.{IsVerdict};
-ghost use Rattle.flow_core.specs.Verdicts.{IsFor, next_root};
+ghost use Rattle.flow_core.specs.Verdicts.{IsFor, IsFront, next_root};
 
 use crate::items::Known;
-use crate::paths::{copy_message, unquoted};
+use crate::paths::copy_message;
 use crate::refusals::{Refusal, Stop};
 use crate::state::Core;
 use containers::settings_of;
 use flow_model::{
-    Bytes, Command, Leaves, List, Mode, Name, NumberAt, Outcome, Path, PathFault, PersonDef,
-    RawSetting, Setting, Transaction, Who, path_of,
+    Bytes, Command, Leaves, List, Message, Mode, Name, NumberAt, Outcome, PersonDef, RawSetting,
+    Setting, Template, Transaction,
 };
 use std::alloc::AllocError;
 use template_check::ImportFault;
@@ -34,7 +39,8 @@ pub enum Verdict {
 
 impl Core {
     pub(crate) fn needs_room(&self) -> Result<(), Stop>
-        ensures { OnOk result (self.now.number < self.now.limit) }
+        ensures room { OnOk result (self.now.number < self.now.limit) }
+        ensures stops { StopsBy (full_test self.now) result }
     {
         if self.is_full() {
             Err(Stop::Refused(Refusal::Full(self.limit)))
@@ -45,7 +51,8 @@ impl Core {
 
     /// The number of the next root. Each root takes a transaction, so that the limit comes first.
     fn needs_number(&self) -> Result<u64, Stop>
-        ensures { IfOk result (λ root. root ≡ next_root self.now) }
+        ensures number { IfOk result (λ root. root ≡ next_root self.now) }
+        ensures stops { StopsBy (number_test self.now) result }
     {
         match self.roots.checked_add(1) {
             Some(root) => Ok(root),
@@ -53,35 +60,52 @@ impl Core {
         }
     }
 
-    fn needs_person(&self, name: &Name) -> Result<&PersonDef, Stop> {
-        match self.store.person(name) {
-            Some(person) => Ok(person),
-            None => Err(Stop::Refused(Refusal::Person(name.copy(self.alloc)?))),
-        }
-    }
-
-    /// The path of an item token.
-    fn needs_path(&self, token: &Bytes) -> Result<Path, Stop> {
-        match path_of(self.alloc, unquoted(token.as_slice())) {
-            Ok(path) => Ok(path),
-            Err(PathFault::NoMemory) => Err(Stop::NoMemory),
-            Err(PathFault::BadPath) => Err(self.no_item(token)),
-        }
-    }
-
-    fn no_item(&self, token: &Bytes) -> Stop {
-        match token.copy(self.alloc) {
-            Ok(token) => Stop::Refused(Refusal::Item(token)),
+    fn no_person(&self, name: &Name) -> Stop
+        ensures { IsStop (Some (refused.Person name.now)) result }
+    {
+        match name.copy(self.alloc) {
+            Ok(name) => Stop::Refused(Refusal::Person(name)),
             Err(_) => Stop::NoMemory,
         }
     }
 
-    fn needs_item<'a>(&'a self, token: &Bytes, path: &Path) -> Result<Known<'a>, Stop>
-        ensures { IfOk result (IsKnown self.now path.now) }
+    /// The person whom a name means, or PERSON.
+    pub(crate) fn needs_person(&self, name: &Name) -> Result<&PersonDef, Stop>
+        ensures stops { IsInOrder self.now → StopsBy (person_test self.now name.now) result }
+        ensures person { IsInOrder self.now → IfOk result (λ person. person_of self.now name.now ≡ Some person.now) }
     {
-        match self.known(path) {
-            Some(known) => Ok(known),
-            None => Err(self.no_item(token)),
+        match self.store.person(name) {
+            Some(person) => Ok(person),
+            None => Err(self.no_person(name)),
+        }
+    }
+
+    fn no_process(&self, name: &Name) -> Stop
+        ensures { IsStop (Some (refused.Process name.now)) result }
+    {
+        match name.copy(self.alloc) {
+            Ok(name) => Stop::Refused(Refusal::Process(name)),
+            Err(_) => Stop::NoMemory,
+        }
+    }
+
+    /// The newest template of a process.
+    fn newest(&self, process: &Name) -> Option<&Template>
+        ensures newest { IsInOrder self.now → option_copied result ≡ newest_of self.now process.now }
+        ensures small { IsInOrder self.now → IfSome result (λ t. IsSmall (out-Graph t.now.graph).input) }
+    {
+        self.store.template(self.store.newest(process)?)
+    }
+
+    /// The newest template of a process, or PROCESS.
+    fn needs_process(&self, process: &Name) -> Result<&Template, Stop>
+        ensures stops { IsInOrder self.now → StopsBy (process_test self.now process.now) result }
+        ensures newest { IsInOrder self.now → IfOk result (λ t. newest_of self.now process.now ≡ Some t.now) }
+        ensures small { IsInOrder self.now → IfOk result (λ t. IsSmall (out-Graph t.now.graph).input) }
+    {
+        match self.newest(process) {
+            Some(template) => Ok(template),
+            None => Err(self.no_process(process)),
         }
     }
 
@@ -91,30 +115,49 @@ impl Core {
         leaves: &Leaves,
         rc: Option<&NumberAt>,
         written: &[RawSetting],
-    ) -> Result<List<Setting>, Stop> {
+    ) -> Result<List<Setting>, Stop>
+        ensures set { IsSmall leaves.now → IfOk result (λ settings. outcome_by leaves.now (option_copied rc.entry) written.now ≡ Ok settings) }
+        ensures stops { IsSmall leaves.now → StopsBy (value_test leaves.now (option_copied rc.entry) written.now) result }
+    {
         match settings_of(self.alloc, leaves, rc, written)? {
             Ok(settings) => Ok(settings),
             Err(place) => Err(Stop::Refused(Refusal::Value(place.saturating_add(1)))),
         }
     }
 
-    fn needs_outcome(&self, known: &Known<'_>, outcome: &Outcome) -> Result<List<Setting>, Stop> {
+    /// The settings of a completion of an item, or VALUE.
+    pub(crate) fn needs_outcome(
+        &self,
+        known: &Known<'_>,
+        outcome: &Outcome,
+    ) -> Result<List<Setting>, Stop>
+        ensures set { IsSmall known.now.item.activity.now.output → IfOk result (λ settings. outcome_by known.now.item.activity.now.output outcome.now.rc outcome.now.settings ≡ Ok settings) }
+        ensures stops { IsSmall known.now.item.activity.now.output → StopsBy (outcome_test outcome.now (subject_of known.now)) result }
+    {
         let leaves = &known.item.activity.output;
         self.needs_settings(leaves, outcome.rc.as_ref(), outcome.settings.as_slice())
+    }
+
+    /// A text that breaks no rule, or RULE.
+    fn needs_rules(&self, text: &Bytes) -> Result<(), Stop>
+        ensures { StopsAs (IsRuleOf self.now text.now) result }
+    {
+        match self.store.check(self.alloc, text.as_slice()) {
+            Ok(_) => Ok(()),
+            Err(ImportFault::NoMemory) => Err(Stop::NoMemory),
+            Err(ImportFault::Rule(fault)) => {
+                Err(Stop::Refused(Refusal::Rule(fault.rule, fault.line)))
+            }
+        }
     }
 
     fn judge_import(&self, text: &Bytes) -> Result<Transaction, Stop>
         ensures room { OnOk result (self.now.number < self.now.limit) }
         ensures made { IfOk result (IsFor self.now (asked.Import text.now)) }
         ensures allowed { IfOk result (IsAllowed self.now) }
+        ensures stops { StopsAs (IsFirstRefusal self.now (asked.Import text.now)) result }
     {
-        match self.store.check(self.alloc, text.as_slice()) {
-            Ok(_) => {}
-            Err(ImportFault::NoMemory) => return Err(Stop::NoMemory),
-            Err(ImportFault::Rule(fault)) => {
-                return Err(Stop::Refused(Refusal::Rule(fault.rule, fault.line)));
-            }
-        }
+        self.needs_rules(text)?;
         self.needs_room()?;
         Ok(Transaction::Import(text.copy(self.alloc)?))
     }
@@ -128,24 +171,20 @@ impl Core {
         }
     }
 
-    fn judge_start(
+    /// The START of a process that is there, by a person who is declared.
+    fn start_of(
         &self,
+        template: &Template,
         process: &Name,
         starter: &Name,
         key: Option<&Name>,
         written: &[RawSetting],
     ) -> Result<Transaction, Stop>
         ensures room { OnOk result (self.now.number < self.now.limit) }
-        ensures made { IfOk result (λ t. (version : ℕ) × (settings : ListOf SettingOf) × (t ≡ made.Start (next_root self.now) process.now version starter.now (option_copied key.entry) settings)) }
+        ensures made { IfOk result (λ t. (settings : ListOf SettingOf) × (IsSmall (out-Graph template.now.graph).input → outcome_by (out-Graph template.now.graph).input None written.now ≡ Ok settings) × (t ≡ made.Start (next_root self.now) process.now template.now.version starter.now (option_copied key.entry) settings)) }
         ensures allowed { IfOk result (IsAllowed self.now) }
+        ensures stops { IsSmall (out-Graph template.now.graph).input → StopsBy (first_of (input_test written.now (Some template.now) ∷ full_test self.now ∷ number_test self.now ∷ [])) result }
     {
-        self.needs_person(starter)?;
-        let Some(place) = self.store.newest(process) else {
-            return Err(Stop::Refused(Refusal::Process(process.copy(self.alloc)?)));
-        };
-        let Some(template) = self.store.template(place) else {
-            return Err(Stop::Refused(Refusal::Process(process.copy(self.alloc)?)));
-        };
         let settings = self.needs_settings(&template.graph.input, None, written)?;
         self.needs_room()?;
         Ok(Transaction::Start(
@@ -158,145 +197,92 @@ impl Core {
         ))
     }
 
+    fn judge_start(
+        &self,
+        process: &Name,
+        starter: &Name,
+        key: Option<&Name>,
+        written: &[RawSetting],
+    ) -> Result<Transaction, Stop>
+        ensures room { OnOk result (self.now.number < self.now.limit) }
+        ensures made { IfOk result (IsFor self.now (asked.Start process.now starter.now (option_copied key.entry) written.now)) }
+        ensures allowed { IfOk result (IsAllowed self.now) }
+        ensures stops { IsInOrder self.now → StopsAs (IsFirstRefusal self.now (asked.Start process.now starter.now (option_copied key.entry) written.now)) result }
+    {
+        self.needs_person(starter)?;
+        let template = self.needs_process(process)?;
+        self.start_of(template, process, starter, key, written)
+    }
+
+    /// The number of a queue, or QUEUE.
+    fn needs_queue(&self, number: u64) -> Result<u8, Stop>
+        ensures number { IfOk result (λ queue. (queue ≡ number) × (1 ≤ queue) × (queue ≤ length self.now.queues)) }
+        ensures stops { StopsBy (queue_test self.now number) result }
+    {
+        let count = self.queues.count();
+        if number < 1 || number > u64::from(count) {
+            return Err(Stop::Refused(Refusal::Queue(count)));
+        }
+        Ok(number as u8)
+    }
+
+    /// The front message of a queue, or EMPTY.
+    fn needs_message(&self, queue: u8) -> Result<&Message, Stop>
+        requires counted { 1 ≤ queue }
+        requires there { queue ≤ length self.now.queues }
+        ensures front { IfOk result (λ message. IsFront self.now queue message.now) }
+        ensures stops { StopsBy (message_test self.now queue) result }
+    {
+        match self.queues.front(queue) {
+            Some(message) => Ok(message),
+            None => Err(Stop::Refused(Refusal::Empty(queue))),
+        }
+    }
+
     fn judge_turn(&self, number: u64) -> Result<Transaction, Stop>
         ensures room { OnOk result (self.now.number < self.now.limit) }
         ensures made { IfOk result (IsFor self.now (asked.Turn number)) }
         ensures allowed { IfOk result (IsAllowed self.now) }
+        ensures stops { StopsAs (IsFirstRefusal self.now (asked.Turn number)) result }
     {
-        let count = self.queues.count();
-        let queue = u8::try_from(number).unwrap_or(0);
-        if queue < 1 || queue > count {
-            return Err(Stop::Refused(Refusal::Queue(count)));
-        }
-        let Some(message) = self.queues.front(queue) else {
-            return Err(Stop::Refused(Refusal::Empty(queue)));
-        };
+        let queue = self.needs_queue(number)?;
+        let message = self.needs_message(queue)?;
         self.needs_room()?;
         Ok(Transaction::Turn(queue, copy_message(self.alloc, message)?))
     }
 
-    fn judge_claim(&self, token: &Bytes, name: &Name) -> Result<Transaction, Stop>
-        ensures room { OnOk result (self.now.number < self.now.limit) }
-        ensures made { IfOk result (IsFor self.now (asked.Claim token.now name.now)) }
-        ensures allowed { IfOk result (IsAllowed self.now) }
+    /// The mode of a live root, or ROOT.
+    fn needs_root(&self, root: u64) -> Result<Mode, Stop>
+        ensures mode { IfOk result (λ mode. option_map mode_in (instance_of self.now root) ≡ Some mode) }
+        ensures stops { IfErr result (λ stop. (option_map mode_in (instance_of self.now root) ≡ None) × IsStop (Some (refused.Root root)) stop) }
     {
-        let person = self.needs_person(name)?;
-        let path = self.needs_path(token)?;
-        let known = self.needs_item(token, &path)?;
-        self.may_claim(&known, person)?;
-        self.needs_room()?;
-        Ok(Transaction::Claim(path, name.copy(self.alloc)?))
-    }
-
-    fn judge_release(&self, token: &Bytes, name: &Name) -> Result<Transaction, Stop>
-        ensures room { OnOk result (self.now.number < self.now.limit) }
-        ensures made { IfOk result (IsFor self.now (asked.Release token.now name.now)) }
-        ensures allowed { IfOk result (IsAllowed self.now) }
-    {
-        self.needs_person(name)?;
-        let path = self.needs_path(token)?;
-        let known = self.needs_item(token, &path)?;
-        self.may_release(&known, name)?;
-        self.needs_room()?;
-        Ok(Transaction::Release(path, name.copy(self.alloc)?))
-    }
-
-    fn judge_transfer(&self, token: &Bytes, from: &Name, to: &Name) -> Result<Transaction, Stop>
-        ensures room { OnOk result (self.now.number < self.now.limit) }
-        ensures made { IfOk result (IsFor self.now (asked.Transfer token.now from.now to.now)) }
-        ensures allowed { IfOk result (IsAllowed self.now) }
-    {
-        self.needs_person(from)?;
-        let person = self.needs_person(to)?;
-        let path = self.needs_path(token)?;
-        let known = self.needs_item(token, &path)?;
-        self.may_transfer(&known, from, person)?;
-        self.needs_room()?;
-        let (from, to) = (from.copy(self.alloc)?, to.copy(self.alloc)?);
-        Ok(Transaction::Transfer(path, from, to))
-    }
-
-    fn judge_take(&self, token: &Bytes) -> Result<Transaction, Stop>
-        ensures room { OnOk result (self.now.number < self.now.limit) }
-        ensures made { IfOk result (IsFor self.now (asked.Take token.now)) }
-        ensures allowed { IfOk result (IsAllowed self.now) }
-    {
-        let path = self.needs_path(token)?;
-        let known = self.needs_item(token, &path)?;
-        self.may_take(&known)?;
-        self.needs_room()?;
-        let number = known.item.state.next_take();
-        Ok(Transaction::Take(path, number))
-    }
-
-    fn judge_done(&self, token: &Bytes, who: &Who, outcome: &Outcome) -> Result<Transaction, Stop>
-        ensures room { OnOk result (self.now.number < self.now.limit) }
-        ensures made { IfOk result (IsFor self.now (asked.Done token.now who.now outcome.now)) }
-        ensures allowed { IfOk result (IsAllowed self.now) }
-    {
-        if let Who::Person(name) = who {
-            self.needs_person(name)?;
-        }
-        let path = self.needs_path(token)?;
-        let known = self.needs_item(token, &path)?;
-        self.may_complete(&known, who)?;
-        let settings = self.needs_outcome(&known, outcome)?;
-        self.needs_room()?;
-        let who = match who {
-            Who::Person(name) => Who::Person(name.copy(self.alloc)?),
-            Who::Agent(take) => Who::Agent(*take),
-        };
-        Ok(Transaction::Done(path, who, settings))
-    }
-
-    fn judge_force(&self, token: &Bytes, outcome: &Outcome) -> Result<Transaction, Stop>
-        ensures room { OnOk result (self.now.number < self.now.limit) }
-        ensures made { IfOk result (IsFor self.now (asked.Force token.now outcome.now)) }
-        ensures allowed { IfOk result (IsAllowed self.now) }
-    {
-        let path = self.needs_path(token)?;
-        let known = self.needs_item(token, &path)?;
-        self.may_force(&known)?;
-        let settings = self.needs_outcome(&known, outcome)?;
-        self.needs_room()?;
-        Ok(Transaction::Force(path, settings))
-    }
-
-    fn judge_restart(&self, token: &Bytes) -> Result<Transaction, Stop>
-        ensures room { OnOk result (self.now.number < self.now.limit) }
-        ensures made { IfOk result (IsFor self.now (asked.Restart token.now)) }
-        ensures allowed { IfOk result (IsAllowed self.now) }
-    {
-        let path = self.needs_path(token)?;
-        let known = self.needs_item(token, &path)?;
-        self.may_restart(&known)?;
-        self.needs_room()?;
-        Ok(Transaction::Restart(path))
-    }
-
-    /// The mode of a live root.
-    pub(crate) fn needs_root(&self, root: u64) -> Result<Mode, Stop> {
         match self.instance(root) {
             Some(instance) => Ok(instance.mode()),
             None => Err(Stop::Refused(Refusal::Root(root))),
         }
     }
 
-    pub(crate) fn may_suspend(&self, root: u64) -> Result<(), Stop> {
+    pub(crate) fn may_suspend(&self, root: u64) -> Result<(), Stop>
+        ensures { StopsBy (root_test self.now is_active root) result }
+    {
         match self.needs_root(root)? {
             Mode::Active => Ok(()),
             mode => Err(Stop::Refused(Refusal::Mode(mode))),
         }
     }
 
-    pub(crate) fn may_resume(&self, root: u64) -> Result<(), Stop> {
+    pub(crate) fn may_resume(&self, root: u64) -> Result<(), Stop>
+        ensures { StopsBy (root_test self.now is_suspended root) result }
+    {
         match self.needs_root(root)? {
             Mode::Suspended => Ok(()),
             mode => Err(Stop::Refused(Refusal::Mode(mode))),
         }
     }
 
-    pub(crate) fn may_terminate(&self, root: u64) -> Result<(), Stop> {
+    pub(crate) fn may_terminate(&self, root: u64) -> Result<(), Stop>
+        ensures { StopsBy (root_test self.now is_going root) result }
+    {
         match self.needs_root(root)? {
             Mode::Active => Ok(()),
             Mode::Suspended => Ok(()),
@@ -304,72 +290,115 @@ impl Core {
         }
     }
 
-    pub(crate) fn may_delete(&self, root: u64) -> Result<(), Stop> {
+    fn needs_over(&self, root: u64) -> Result<(), Stop>
+        ensures { StopsBy (root_test self.now is_over root) result }
+    {
         match self.needs_root(root)? {
-            Mode::Done => {}
-            Mode::Terminated => {}
-            mode => return Err(Stop::Refused(Refusal::Mode(mode))),
+            Mode::Done => Ok(()),
+            Mode::Terminated => Ok(()),
+            mode => Err(Stop::Refused(Refusal::Mode(mode))),
         }
+    }
+
+    fn needs_none_queued(&self, root: u64) -> Result<(), Stop>
+        ensures { StopsBy (queued_test self.now root) result }
+    {
         match self.queues.count_of_root(root) {
             0 => Ok(()),
             count => Err(Stop::Refused(Refusal::Queued(count))),
         }
     }
 
-    pub(crate) fn may_set_clock(&self, minutes: u64) -> Result<(), Stop> {
+    pub(crate) fn may_delete(&self, root: u64) -> Result<(), Stop>
+        ensures { StopsBy (first_of (root_test self.now is_over root ∷ queued_test self.now root ∷ [])) result }
+    {
+        self.needs_over(root)?;
+        self.needs_none_queued(root)
+    }
+
+    pub(crate) fn may_set_clock(&self, minutes: u64) -> Result<(), Stop>
+        ensures { StopsBy (clock_test self.now minutes) result }
+    {
         if minutes < self.clock {
             return Err(Stop::Refused(Refusal::Clock(self.clock)));
         }
         Ok(())
     }
 
-    fn clock_to(&self, number: &NumberAt) -> Result<Transaction, Stop>
-        ensures room { OnOk result (self.now.number < self.now.limit) }
-        ensures made { IfOk result (IsFor self.now (asked.Clock number.now)) }
-        ensures allowed { IfOk result (IsAllowed self.now) }
+    /// The minutes of a clock, or VALUE.
+    fn needs_minutes(&self, number: &NumberAt) -> Result<(), Stop>
+        ensures { StopsBy (minutes_test number.now) result }
     {
         if number.size > MOST_MINUTES {
             let place = number.place.saturating_add(1);
             return Err(Stop::Refused(Refusal::Value(place)));
         }
+        Ok(())
+    }
+
+    fn judge_suspend(&self, root: u64) -> Result<Transaction, Stop>
+        ensures room { OnOk result (self.now.number < self.now.limit) }
+        ensures made { IfOk result (IsFor self.now (asked.Suspend root)) }
+        ensures allowed { IfOk result (IsAllowed self.now) }
+        ensures stops { StopsAs (IsFirstRefusal self.now (asked.Suspend root)) result }
+    {
+        self.may_suspend(root)?;
+        self.needs_room()?;
+        Ok(Transaction::Suspend(root))
+    }
+
+    fn judge_resume(&self, root: u64) -> Result<Transaction, Stop>
+        ensures room { OnOk result (self.now.number < self.now.limit) }
+        ensures made { IfOk result (IsFor self.now (asked.Resume root)) }
+        ensures allowed { IfOk result (IsAllowed self.now) }
+        ensures stops { StopsAs (IsFirstRefusal self.now (asked.Resume root)) result }
+    {
+        self.may_resume(root)?;
+        self.needs_room()?;
+        Ok(Transaction::Resume(root))
+    }
+
+    fn judge_terminate(&self, root: u64) -> Result<Transaction, Stop>
+        ensures room { OnOk result (self.now.number < self.now.limit) }
+        ensures made { IfOk result (IsFor self.now (asked.Terminate root)) }
+        ensures allowed { IfOk result (IsAllowed self.now) }
+        ensures stops { StopsAs (IsFirstRefusal self.now (asked.Terminate root)) result }
+    {
+        self.may_terminate(root)?;
+        self.needs_room()?;
+        Ok(Transaction::Terminate(root))
+    }
+
+    fn judge_delete(&self, root: u64) -> Result<Transaction, Stop>
+        ensures room { OnOk result (self.now.number < self.now.limit) }
+        ensures made { IfOk result (IsFor self.now (asked.Delete root)) }
+        ensures allowed { IfOk result (IsAllowed self.now) }
+        ensures stops { StopsAs (IsFirstRefusal self.now (asked.Delete root)) result }
+    {
+        self.needs_over(root)?;
+        self.needs_none_queued(root)?;
+        self.needs_room()?;
+        Ok(Transaction::Delete(root))
+    }
+
+    fn judge_clock(&self, number: &NumberAt) -> Result<Transaction, Stop>
+        ensures room { OnOk result (self.now.number < self.now.limit) }
+        ensures made { IfOk result (IsFor self.now (asked.Clock number.now)) }
+        ensures allowed { IfOk result (IsAllowed self.now) }
+        ensures stops { StopsAs (IsFirstRefusal self.now (asked.Clock number.now)) result }
+    {
+        self.needs_minutes(number)?;
         self.may_set_clock(number.size)?;
         self.needs_room()?;
         Ok(Transaction::Clock(number.size))
     }
 
-    fn on_root(&self, command: &Command) -> Result<Transaction, Stop>
-        ensures room { OnOk result (self.now.number < self.now.limit) }
-        ensures made { IfOk result (IsFor self.now command.now) }
-        ensures allowed { IfOk result (IsAllowed self.now) }
-    {
-        let transaction = match command {
-            Command::Suspend(root) => {
-                self.may_suspend(*root)?;
-                Transaction::Suspend(*root)
-            }
-            Command::Resume(root) => {
-                self.may_resume(*root)?;
-                Transaction::Resume(*root)
-            }
-            Command::Terminate(root) => {
-                self.may_terminate(*root)?;
-                Transaction::Terminate(*root)
-            }
-            Command::Delete(root) => {
-                self.may_delete(*root)?;
-                Transaction::Delete(*root)
-            }
-            _ => return Err(Stop::NoMemory),
-        };
-        self.needs_room()?;
-        Ok(transaction)
-    }
-
-    /// The transaction of a command other than START, or why it is refused.
+    /// The transaction of a command, or why it is refused.
     fn transaction(&self, command: &Command) -> Result<Transaction, Stop>
         ensures room { OnOk result (self.now.number < self.now.limit) }
         ensures made { IfOk result (IsFor self.now command.now) }
         ensures allowed { IfOk result (IsAllowed self.now) }
+        ensures stops { IsOrderFor self.now command.now → StopsAs (IsFirstRefusal self.now command.now) result }
     {
         match command {
             Command::Import(text) => self.judge_import(text),
@@ -384,13 +413,21 @@ impl Core {
             Command::Done(item, who, outcome) => self.judge_done(item, who, outcome),
             Command::Force(item, outcome) => self.judge_force(item, outcome),
             Command::Restart(item) => self.judge_restart(item),
-            Command::Clock(number) => self.clock_to(number),
-            _ => self.on_root(command),
+            Command::Suspend(root) => self.judge_suspend(*root),
+            Command::Resume(root) => self.judge_resume(*root),
+            Command::Terminate(root) => self.judge_terminate(*root),
+            Command::Delete(root) => self.judge_delete(*root),
+            Command::Clock(number) => self.judge_clock(number),
+            Command::Drain => Err(Stop::NoMemory),
+            Command::Checkpoint => Err(Stop::NoMemory),
+            Command::Ask(_) => Err(Stop::NoMemory),
         }
     }
 
     /// The live root that has a START's key.
-    fn same_root(&self, command: &Command) -> Option<u64> {
+    fn same_root(&self, command: &Command) -> Option<u64>
+        ensures { result ≡ root_with_key self.now command.now }
+    {
         match command {
             Command::Start(_, _, Some(key), _) => self.keys.get(key.as_slice()).copied(),
             _ => None,

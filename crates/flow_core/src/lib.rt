@@ -8,6 +8,7 @@
 mod adopting;
 mod answering;
 mod applying;
+mod item_commands;
 mod items;
 mod judging;
 mod listings;

@@ -1,6 +1,7 @@
 //! Paths: the queue of a message, the rank of an item, and equal messages.
 ghost use Rattle.std.specs.Prelude.{◌≡◌, ◌-◌, ◌^◌, min, Some, option_copied, IfOk, IsTrue};
 ghost use Rattle.flow_core.specs.Driving.{activity_named as named_activity, is_process as processes_of, processes_along, receiver as receiver_of, queue_in};
+ghost use Rattle.flow_core.specs.Refusals.{between};
 ghost use Rattle.recover_queue.specs.Queues.{root_of as root_in};
 
 use blocks_subprocs::graph_of;
@@ -161,7 +162,9 @@ pub fn copy_message(alloc: Global, message: &Message) -> Result<Message, AllocEr
 }
 
 /// The bytes of an item token between its quotes.
-pub fn unquoted(token: &[u8]) -> &[u8] {
+pub fn unquoted(token: &[u8]) -> &[u8]
+    ensures { result.now ≡ between token.now }
+{
     match token {
         [_, inner @ .., _] => inner,
         _ => token,

@@ -2,7 +2,8 @@
 ghost use Rattle.std.specs.Prelude.{◌≡◌, ◌+◌, ◌<◌, ◌↔◌, ◌≤◌, length, [], IfOk, IsTrue, option_copied};
 ghost use Rattle.flow_core.specs.Allowing.{IsBlank};
 ghost use Rattle.flow_core.specs.Summaries.{summary};
-ghost use Rattle.flow_core.specs.Answers.{instance_of};
+ghost use Rattle.flow_core.specs.Answers.{instance_of, has_message as message_test};
+ghost use Rattle.recover_queue.specs.Queues.{is_quiet as quiet_test};
 ghost use Rattle.flow_core.specs.Driving.{graph_now};
 
 use flow_model::{Graph, Library, Mode, Name, Numbered};
@@ -129,7 +130,9 @@ impl Core {
     }
 
     /// Whether all queues are empty.
-    pub fn is_quiet(&self) -> bool {
+    pub fn is_quiet(&self) -> bool
+        ensures { result ≡ quiet_test self.now.queues }
+    {
         self.queues.is_quiet()
     }
 
@@ -165,7 +168,9 @@ impl Core {
     }
 
     /// Whether the queue of this number has a message; false where there is none of that number.
-    pub fn has_message(&self, queue: u8) -> bool {
+    pub fn has_message(&self, queue: u8) -> bool
+        ensures { result ≡ message_test self.now queue }
+    {
         1 <= queue && queue <= self.queues.count() && self.queues.front(queue).is_some()
     }
 

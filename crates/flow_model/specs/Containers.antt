@@ -1,13 +1,11 @@
 -- Containers: a value for each leaf, and maps that copy leaves.
-use Rattle.std.specs.Prelude.{◌≡◌, ◌⊎◌, ℕ, ◌<◌, pos, true, Option, Some, None, List, [], ◌∷◌, map, length, slice_get, slice_set}
+use Rattle.std.specs.Prelude.{◌≡◌, ℕ, pos, Option, Some, None, List, [], ◌∷◌, map, slice_get, slice_set}
 use Rattle.std.specs.List.{All}
-use Rattle.flow_model.specs.Words.{is_text}
 use Rattle.flow_model.specs.declared.graphs.Container.{Container}
 use Rattle.flow_model.specs.declared.graphs.Value.{Value}
 use Rattle.flow_model.specs.declared.graphs.Value.TheVariants.{Whole, Text}
 use Rattle.flow_model.specs.declared.graphs.Kind.{Kind}
 use Rattle.flow_model.specs.declared.graphs.Kind.TheVariants.{Long, Str}
-use Rattle.flow_model.specs.declared.graphs.Leaf.{Leaf}
 use Rattle.flow_model.specs.declared.graphs.Leaves.{Leaves}
 use Rattle.flow_model.specs.declared.graphs.LeafMap.{LeafMap}
 

@@ -6,7 +6,6 @@ use Rattle.flow_model.specs.declared.graphs.Container.{Container}
 use Rattle.flow_model.specs.declared.graphs.Graph.{Graph, out-Graph}
 use Rattle.flow_model.specs.declared.graphs.Template.{Template}
 use Rattle.flow_model.specs.declared.instances.Fact.{Fact}
-use Rattle.flow_model.specs.declared.instances.Fate.{Fate}
 use Rattle.flow_model.specs.declared.instances.Fate.TheVariants.{Ready}
 use Rattle.flow_model.specs.declared.instances.FateRow.{FateRow}
 use Rattle.flow_model.specs.declared.instances.Part.{Part}

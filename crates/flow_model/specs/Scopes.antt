@@ -1,6 +1,6 @@
 -- The scopes of a root, with blocks and subprocesses. One recursion serves the fates and the view:
 -- it asks a record what counts of messages and completions. Paths are relative to the scope at hand.
-use Rattle.std.specs.Prelude.{ℕ, zero, suc, ◌+◌, ◌==◌, Bool, true, false, ◌&&◌, if◌then◌else◌, Option, Some, None, List, [], ◌∷◌, map, length, slice_get}
+use Rattle.std.specs.Prelude.{ℕ, zero, suc, ◌+◌, ◌==◌, Bool, true, ◌&&◌, if◌then◌else◌, Option, Some, None, List, [], ◌∷◌, map, length, slice_get}
 use Rattle.std.specs.List.{filter}
 use Rattle.std.specs.Option.{option_map}
 use Rattle.flow_model.specs.declared.graphs.Activity.{Activity}

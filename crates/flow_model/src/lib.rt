@@ -11,7 +11,10 @@ mod graphs;
 mod instances;
 mod lists;
 mod names;
+mod path_reading;
 mod paths;
+#[cfg(test)]
+mod tests;
 mod transactions;
 mod trees;
 
@@ -26,7 +29,8 @@ pub use instances::{
 };
 pub use lists::List;
 pub use names::{Bytes, Name, NameFault, Txt, is_name, is_text};
-pub use paths::{PathFault, path_of, path_text, write_path};
+pub use path_reading::path_of;
+pub use paths::{PathFault, path_text, write_path};
 pub use transactions::{Numbered, Setting, Transaction};
 pub use trees::{
     ActivityTree, AttrAt, AttrTree, Cond, CondAt, ControlTree, DataTree, ElementTree, EndTree,

@@ -6,3 +6,5 @@ pub mod Calls
 pub mod Runs
 pub mod Turns
 pub mod Rights
+pub mod Scripts
+pub mod Inputs

@@ -3,3 +3,6 @@ pub mod Keeping
 pub mod Runs
 pub mod Serving
 pub mod Replying
+pub mod Draining
+pub mod Inputs
+pub mod Scripts

@@ -4,12 +4,15 @@
 //! graphs, tokens or gates. Begin with [`Session`].
 #![tactic(auto)]
 
+mod draining;
 mod journal;
+mod laws;
 mod opening;
 mod serving;
 mod store;
 
 pub use journal::{Journal, NoJournal};
+pub use laws::{answered_is_kept, scripts_keep_right};
 pub use opening::{open, reopen};
 pub use serving::{Input, Session, Stop};
 pub use store::Stored;

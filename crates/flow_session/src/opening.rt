@@ -1,11 +1,12 @@
 //! How a store is opened: the state that its records give.
-ghost use Rattle.std.specs.Prelude.{◌≡◌, ◌≤◌, IfOk, OnOk};
+ghost use Rattle.std.specs.Prelude.{None, ◌≡◌, ◌≤◌, IfOk, OnOk};
 ghost use Rattle.flow_disk.specs.Moments.{LeavesOnly};
 ghost use Rattle.flow_model.specs.declared.transactions.Numbered.{Numbered as NumberedOf};
 ghost use Rattle.flow_txn.specs.Records.{record_bytes};
 ghost use Rattle.txn_log.specs.Opening.{IsOpened};
 ghost use Rattle.core_laws.specs.RightStates.{IsRightCore};
 ghost use Rattle.flow_core.specs.Summaries.{summary, taken_up, Follows};
+ghost use Rattle.flow_session.specs.Inputs.{unended};
 ghost use Rattle.flow_session.specs.Keeping.{IsOpen, ComesTo};
 
 use crate::serving::Session;
@@ -85,6 +86,7 @@ pub fn open<D: Disk>(alloc: Global, disk: &mut D) -> Result<(Core, Opened), LogS
 pub fn reopen<D: Disk>(alloc: Global, disk: &mut D) -> Result<(Session, Log), LogStop>
     ensures open { IfOk result (λ r. D.tells → IsOpen D.seen D.images r.1 disk.new (summary r.0.core)) }
     ensures right { IfOk result (λ r. 1 ≤ (summary r.0.core).queues → IsRightCore r.0.core) }
+    ensures outside { IfOk result (λ r. unended r.0 ≡ None) }
     ensures seen { OnOk result (D.seen disk.new ≡ D.seen disk.old) }
     ensures any_moment { LeavesOnly D.moment D.left_since disk.old disk.new (D.images disk.old) }
 {

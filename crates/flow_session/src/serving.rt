@@ -1,5 +1,5 @@
 //! A session: the state, and the text of an IMPORT that isn't ended yet.
-ghost use Rattle.std.specs.Prelude.{◌≡◌, ◌⊎◌, ◌<◌, ◌≤◌, ◌+◌, ◌++◌, ◌∷◌, [], IfOk, OnOk};
+ghost use Rattle.std.specs.Prelude.{◌≡◌, ◌⊎◌, ◌<◌, ◌≤◌, ◌+◌, ◌++◌, ◌∷◌, [], Some, None, length, IfOk, OnOk};
 ghost use Rattle.std.specs.Fmt.{decimal as digits_of};
 ghost use Rattle.flow_disk.specs.Moments.{LeavesOnly};
 ghost use Rattle.flow_core.specs.declared.applying.Note.{Note as NoteOf};
@@ -8,7 +8,9 @@ ghost use Rattle.flow_core.specs.Allowing.{IsAllowed};
 ghost use Rattle.flow_core.specs.Replies.{applied_text, refusal_text};
 ghost use Rattle.flow_core.specs.Summaries.{summary, next};
 ghost use Rattle.flow_core.specs.Verdicts.{IsNoteOf};
-ghost use Rattle.flow_session.specs.Replying.{IsObeyed, IsReplied, IsDrained, IsTakenOrKept, turns_text, full_text};
+ghost use Rattle.flow_core.specs.Answers.{IsAnswer};
+ghost use Rattle.flow_session.specs.Inputs.{given, unended_in, no_lines, is_end, with_line, unended, long_text, Answers, IsCommanded, ServesLine, ServesText, ServesInside, IsServed};
+ghost use Rattle.flow_session.specs.Replying.{IsObeyed, checkpoint_text};
 ghost use Rattle.flow_session.specs.Serving.{Makes, WithOrWithout};
 ghost use Rattle.flow_session.specs.declared.serving.Stop.TheVariants.{NoMemory};
 
@@ -70,8 +72,8 @@ struct Gathered {
 /// A state that is served.
 #[derive(Drop)]
 pub struct Session {
-    alloc: Global,
-    core: Core,
+    pub(crate) alloc: Global,
+    pub(crate) core: Core,
     gathered: Option<Gathered>,
 }
 
@@ -83,7 +85,7 @@ fn words(alloc: Global, text: &[u8]) -> Result<Vec<u8>, Stop>
 }
 
 /// A reply of words, a number and a line feed.
-fn numbered(alloc: Global, text: &[u8], number: u64) -> Result<Vec<u8>, Stop>
+pub(crate) fn numbered(alloc: Global, text: &[u8], number: u64) -> Result<Vec<u8>, Stop>
     ensures { IfOk result (λ out. out.items ≡ text.now ++ digits_of number ++ 10 ∷ []) }
 {
     let mut out = Vec::from_slice(alloc, text)?;
@@ -102,13 +104,17 @@ fn refused(alloc: Global, refusal: &Refusal) -> Result<Vec<u8>, Stop>
 }
 
 /// Whether a line ends an IMPORT: `.`, or `.` and a carriage return.
-fn ends_import(line: &[u8]) -> bool {
+fn ends_import(line: &[u8]) -> bool
+    ensures { result ≡ is_end line.now }
+{
     line == b".".as_slice() || line == b".\r".as_slice()
 }
 
 impl Gathered {
     /// Adds a line, as far as the text is judged.
-    fn add(&mut self, line: &[u8]) -> Result<(), AllocError> {
+    fn add(&mut self, line: &[u8]) -> Result<(), AllocError>
+        ensures { OnOk result (unended_in self.new ≡ record (unended_in self.old) { text = with_line self.old.text.items line.now }) }
+    {
         if self.text.len() <= MOST_TEXT {
             self.text.extend_from_slice(line)?;
             self.text.push(b'\n')?;
@@ -122,6 +128,7 @@ impl Session {
     pub fn fresh(alloc: Global, queues: u8, limit: u64) -> Result<Session, AllocError>
         ensures begins { IfOk result (λ session. summary session.core ≡ record { queues = queues; limit = limit; transactions = 0; roots = 0; live = [] }) }
         ensures right { 1 ≤ queues → IfOk result (λ session. IsRightCore session.core) }
+        ensures outside { IfOk result (λ session. unended session ≡ None) }
     {
         Ok(Session {
             alloc,
@@ -132,7 +139,8 @@ impl Session {
 
     /// A session over a state.
     pub fn over(alloc: Global, core: Core) -> Session
-        ensures { result.core ≡ core }
+        ensures core { result.core ≡ core }
+        ensures outside { unended result ≡ None }
     {
         Session {
             alloc,
@@ -150,7 +158,7 @@ impl Session {
 
     /// Makes a transaction: all that may want memory is done first, and then it is kept, before anything is
     /// answered.
-    fn make<J: Journal>(
+    pub(crate) fn make<J: Journal>(
         &mut self,
         journal: &mut J,
         t: Transaction,
@@ -161,6 +169,7 @@ impl Session {
         requires allowed { IsAllowed self.old.core t }
         ensures made { OnOk result (summary self.new.core ≡ next t (summary self.old.core)) }
         ensures right { IsRightCore self.old.core → OnOk result (IsRightCore self.new.core) }
+        ensures gathers { OnOk result (self.new.gathered ≡ self.old.gathered) }
         ensures told { OnOk result ((note : NoteOf) × IsNoteOf self.old.core t note
             × (out.new.items ≡ out.old.items ++ applied_text (record { number = self.old.core.number + 1; note = note }))) }
         ensures kept { J.tells → OnOk result (J.holds journal.new (summary self.new.core)) }
@@ -178,6 +187,7 @@ impl Session {
         ensures kept { J.tells → OnOk result (J.holds journal.new (summary self.new.core)) }
         ensures makes { Makes J.tells J.moment J.left_since journal.old journal.new (summary self.old.core) (λ s. OnOk result (summary self.new.core ≡ s)) }
         ensures right { IsRightCore self.old.core → OnOk result (IsRightCore self.new.core) }
+        ensures gathers { OnOk result (self.new.gathered ≡ self.old.gathered) }
         ensures replied { IfOk result (λ reply. IsObeyed self.old.core self.new.core command.now reply.items) }
     {
         match self.core.judge(command) {
@@ -192,92 +202,34 @@ impl Session {
         }
     }
 
-    /// Takes the front message of a queue; whether there was one.
-    fn turn<J: Journal>(&mut self, journal: &mut J, queue: u8) -> Result<bool, Stop>
-        requires { J.tells → J.holds journal.old (summary self.old.core) }
-        ensures kept { J.tells → OnOk result (J.holds journal.new (summary self.new.core)) }
-        ensures makes { Makes J.tells J.moment J.left_since journal.old journal.new (summary self.old.core) (λ s. OnOk result (summary self.new.core ≡ s)) }
-        ensures right { IsRightCore self.old.core → OnOk result (IsRightCore self.new.core) }
-        ensures turned { IfOk result (λ is_taken. IsTakenOrKept is_taken self.old.core self.new.core) }
-    {
-        if !self.core.has_message(queue) {
-            return Ok(false);
-        }
-        match self.core.judge(&Command::Turn(u64::from(queue))) {
-            Ok(Verdict::Do(t)) => {
-                let mut out = Vec::new(self.alloc);
-                self.make(journal, t, &mut out)?;
-                Ok(true)
-            }
-            Ok(_) => Ok(false),
-            Err(_) => Err(Stop::NoMemory),
-        }
-    }
-
-    /// The reply of a DRAIN that made so many turns.
-    fn drained(&self, turns: u64) -> Result<Vec<u8>, Stop>
-        ensures { IfOk result (λ reply. (reply.items ≡ turns_text turns) ⊎ (reply.items ≡ full_text self.now.core.limit turns)) }
-    {
-        if self.core.is_quiet() {
-            return numbered(self.alloc, b"ok TURNS ", turns);
-        }
-        let mut out = Vec::from_slice(self.alloc, b"no FULL ")?;
-        decimal(&mut out, self.core.limit())?;
-        out.extend_from_slice(b" TURNS ")?;
-        decimal(&mut out, turns)?;
-        out.push(b'\n')?;
-        Ok(out)
-    }
-
-    /// Turns on the queues one after the other, until all are empty or the limit is met.
-    fn drain<J: Journal>(&mut self, journal: &mut J) -> Result<Vec<u8>, Stop>
-        requires { J.tells → J.holds journal.old (summary self.old.core) }
-        ensures kept { J.tells → OnOk result (J.holds journal.new (summary self.new.core)) }
-        ensures makes { Makes J.tells J.moment J.left_since journal.old journal.new (summary self.old.core) (λ s. OnOk result (summary self.new.core ≡ s)) }
-        ensures right { IsRightCore self.old.core → OnOk result (IsRightCore self.new.core) }
-        ensures replied { IfOk result (λ reply. IsDrained self.old.core self.new.core reply.items) }
-    {
-        let mut turns = 0u64;
-        let mut queue = 1u8;
-        for _ in 0..u64::MAX {
-            if self.core.is_quiet() || self.core.is_full() {
-                break;
-            }
-            if self.turn(journal, queue)? {
-                turns = turns.saturating_add(1);
-            }
-            queue = if queue >= self.core.queue_count() {
-                1
-            } else {
-                queue.saturating_add(1)
-            };
-        }
-        self.drained(turns)
-    }
-
     fn checkpoint<J: Journal>(&mut self, journal: &mut J) -> Result<Vec<u8>, Stop>
         requires { J.tells → J.holds journal.old (summary self.old.core) }
         ensures kept { J.tells → OnOk result (J.holds journal.new (summary self.new.core)) }
         ensures makes { Makes J.tells J.moment J.left_since journal.old journal.new (summary self.old.core) (λ s. OnOk result (summary self.new.core ≡ s)) }
         ensures right { IsRightCore self.old.core → OnOk result (IsRightCore self.new.core) }
+        ensures gathers { OnOk result (self.new.gathered ≡ self.old.gathered) }
         ensures same { self.new.core ≡ self.old.core }
+        ensures replied { IfOk result (λ reply. reply.items ≡ checkpoint_text (length self.old.core.live.items)) }
     {
         journal.checkpoint(&self.core)?;
         numbered(self.alloc, b"ok CHECKPOINT ", self.core.live().len() as u64)
     }
 
     /// The reply to a query.
-    fn answer(&self, query: &Query) -> Result<Vec<u8>, Stop> {
+    fn answer(&self, query: &Query) -> Result<Vec<u8>, Stop>
+        ensures { IfOk result (λ reply. IsAnswer self.now.core query.now reply.items) }
+    {
         Ok(self.core.answer(query)?)
     }
 
     /// The reply to a command.
     fn command<J: Journal>(&mut self, journal: &mut J, command: &Command) -> Result<Vec<u8>, Stop>
-        requires { J.tells → J.holds journal.old (summary self.old.core) }
+        requires open { J.tells → J.holds journal.old (summary self.old.core) }
+        requires outside { self.old.gathered ≡ None }
         ensures kept { J.tells → OnOk result (J.holds journal.new (summary self.new.core)) }
         ensures makes { Makes J.tells J.moment J.left_since journal.old journal.new (summary self.old.core) (λ s. OnOk result (summary self.new.core ≡ s)) }
         ensures right { IsRightCore self.old.core → OnOk result (IsRightCore self.new.core) }
-        ensures replied { IfOk result (λ reply. IsReplied self.old.core self.new.core reply.items) }
+        ensures served { IfOk result (λ reply. IsCommanded self.old.core self.new.core command.now (unended self.new) reply.items) }
     {
         match command {
             Command::Import(_) => {
@@ -296,11 +248,12 @@ impl Session {
 
     /// The reply to a line outside an IMPORT.
     fn line<J: Journal>(&mut self, journal: &mut J, line: &[u8]) -> Result<Vec<u8>, Stop>
-        requires { J.tells → J.holds journal.old (summary self.old.core) }
+        requires open { J.tells → J.holds journal.old (summary self.old.core) }
+        requires outside { self.old.gathered ≡ None }
         ensures kept { J.tells → OnOk result (J.holds journal.new (summary self.new.core)) }
         ensures makes { Makes J.tells J.moment J.left_since journal.old journal.new (summary self.old.core) (λ s. OnOk result (summary self.new.core ≡ s)) }
         ensures right { IsRightCore self.old.core → OnOk result (IsRightCore self.new.core) }
-        ensures replied { IfOk result (λ reply. IsReplied self.old.core self.new.core reply.items) }
+        ensures served { IfOk result (λ reply. ServesLine line.now self.old.core self.new.core (unended self.new) reply.items) }
     {
         if line.len() > MOST_LINE {
             return words(self.alloc, b"no LINE\n");
@@ -317,11 +270,12 @@ impl Session {
 
     /// The reply to an IMPORT that is ended.
     fn imported<J: Journal>(&mut self, journal: &mut J, gathered: Gathered) -> Result<Vec<u8>, Stop>
-        requires { J.tells → J.holds journal.old (summary self.old.core) }
+        requires open { J.tells → J.holds journal.old (summary self.old.core) }
+        requires outside { self.old.gathered ≡ None }
         ensures kept { J.tells → OnOk result (J.holds journal.new (summary self.new.core)) }
         ensures makes { Makes J.tells J.moment J.left_since journal.old journal.new (summary self.old.core) (λ s. OnOk result (summary self.new.core ≡ s)) }
         ensures right { IsRightCore self.old.core → OnOk result (IsRightCore self.new.core) }
-        ensures replied { IfOk result (λ reply. IsReplied self.old.core self.new.core reply.items) }
+        ensures served { IfOk result (λ reply. ServesText gathered.has_long gathered.text.items self.old.core self.new.core (unended self.new) reply.items) }
     {
         let Gathered { text, has_long } = gathered;
         if has_long {
@@ -338,11 +292,12 @@ impl Session {
         gathered: Gathered,
         input: Input<'_>,
     ) -> Result<Vec<u8>, Stop>
-        requires { J.tells → J.holds journal.old (summary self.old.core) }
+        requires open { J.tells → J.holds journal.old (summary self.old.core) }
+        requires outside { self.old.gathered ≡ None }
         ensures kept { J.tells → OnOk result (J.holds journal.new (summary self.new.core)) }
         ensures makes { Makes J.tells J.moment J.left_since journal.old journal.new (summary self.old.core) (λ s. OnOk result (summary self.new.core ≡ s)) }
         ensures right { IsRightCore self.old.core → OnOk result (IsRightCore self.new.core) }
-        ensures replied { IfOk result (λ reply. IsReplied self.old.core self.new.core reply.items) }
+        ensures served { IfOk result (λ reply. ServesInside (unended_in gathered) (given input.entry) self.old.core self.new.core (unended self.new) reply.items) }
     {
         let mut gathered = gathered;
         match input {
@@ -371,7 +326,7 @@ impl Session {
         ensures kept { J.tells → OnOk result (J.holds journal.new (summary self.new.core)) }
         ensures makes { Makes J.tells J.moment J.left_since journal.old journal.new (summary self.old.core) (λ s. OnOk result (summary self.new.core ≡ s)) }
         ensures right { IsRightCore self.old.core → OnOk result (IsRightCore self.new.core) }
-        ensures replied { IfOk result (λ reply. IsReplied self.old.core self.new.core reply.items) }
+        ensures served { IfOk result (λ reply. IsServed self.old self.new (given input.entry) reply.items) }
     {
         if let Some(gathered) = self.gathered.take() {
             return self.gather(journal, gathered, input);

@@ -1,3 +1,5 @@
 pub mod Endings
 pub mod Crashes
 pub mod Printed
+pub mod Numbers
+pub mod Scripts

@@ -1,4 +1,6 @@
 //! The numbers among the words.
+ghost use Rattle.std.specs.Prelude.{◌≤◌, IfSome, IfNone, map, string_bytes};
+ghost use Rattle.flow_words.specs.Numbers.{AreQueues, IsLimit, AreSettings, NamesSome};
 
 /// The limit of a store where the words name none.
 pub const USUAL_LIMIT: u64 = 1_000_000;
@@ -35,7 +37,9 @@ pub fn number(word: &str) -> Option<u64> {
 }
 
 /// A number within bounds.
-pub fn number_in(word: &str, least: u64, most: u64) -> Option<u64> {
+pub fn number_in(word: &str, least: u64, most: u64) -> Option<u64>
+    ensures { IfSome result (λ n. (least ≤ n) × (n ≤ most)) }
+{
     let value = number(word)?;
     if least <= value && value <= most {
         Some(value)
@@ -44,16 +48,23 @@ pub fn number_in(word: &str, least: u64, most: u64) -> Option<u64> {
     }
 }
 
-fn queues(word: &str) -> Option<u8> {
+fn queues(word: &str) -> Option<u8>
+    ensures { IfSome result AreQueues }
+{
     u8::try_from(number_in(word, 1, MOST_QUEUES)?).ok()
 }
 
-fn limit(word: &str) -> Option<u64> {
+fn limit(word: &str) -> Option<u64>
+    ensures { IfSome result IsLimit }
+{
     number_in(word, 1, MOST_LIMIT)
 }
 
 /// The settings that these words name: `[LIMIT n] [QUEUES n]`.
-pub fn settings_of(words: &[String]) -> Option<Settings> {
+pub fn settings_of(words: &[String]) -> Option<Settings>
+    ensures some { IfSome result (λ s. AreSettings (map string_bytes words.now) s.queues s.limit) }
+    ensures none { IfNone result (NamesSome (map string_bytes words.now)) }
+{
     match words {
         [] => Some(Settings {
             queues: 1,

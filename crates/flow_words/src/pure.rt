@@ -1,9 +1,12 @@
 //! The words that need no store.
-ghost use Rattle.std.specs.Prelude.{◌≡◌, ℕ, Some, None, [], ◌∷◌, codes, map, string_bytes, MatchResult};
+ghost use Rattle.std.specs.Prelude.{◌≡◌, ℕ, Some, None, List, Result, [], ◌∷◌, codes, map, string_bytes, MatchResult};
 ghost use Rattle.std.specs.Io.KnownBytes.{Appends, Keeps};
 ghost use Rattle.flow_words.specs.Endings.{PrintCause, RunCause, EndCause};
 ghost use Rattle.flow_words.specs.Printed.{Prints, PrintsAnswer, IsUnknown, IsCheckOf, IsFateOf, answer_status};
-ghost use Rattle.flow_words.specs.declared.pure.Word.TheVariants.{Check as CheckWord, Fate as FateWord};
+ghost use Rattle.flow_words.specs.Scripts.{IsTried, IsTryWord, PrintsTry, status_after};
+ghost use Rattle.flow_words.specs.declared.numbers.Settings.{Settings as SettingsOf};
+ghost use Rattle.flow_words.specs.declared.pure.Word.TheVariants.{Check as CheckWord, Fate as FateWord, Try as TryWord};
+ghost use Rattle.flow_words.specs.declared.status.Status.{Status as StatusOf};
 ghost use Rattle.flow_words.specs.declared.status.Status.TheVariants.{NoMemory as NoMemoryStatus, Usage as UsageStatus};
 
 use crate::load::load;
@@ -35,17 +38,26 @@ fn load_of(seed: &str, roots: &str) -> Option<Word> {
     Some(Word::Load(seed, roots))
 }
 
+/// The word `try` with these words behind it.
+fn try_of(words: &[String]) -> Option<Word>
+    ensures { IsTryWord (map string_bytes words.now) result }
+{
+    let settings = settings_of(words)?;
+    Some(Word::Try(settings))
+}
+
 /// The word that these words say.
 fn word_of(words: &[String]) -> Option<Word>
     ensures check { map string_bytes words.now ≡ codes "check" ∷ [] → result ≡ Some CheckWord }
     ensures fate { map string_bytes words.now ≡ codes "fate" ∷ [] → result ≡ Some FateWord }
     ensures unknown { IsUnknown (map string_bytes words.now) → result ≡ None }
+    ensures tries { (rest : List (List ℕ)) → map string_bytes words.now ≡ codes "try" ∷ rest → IsTryWord rest result }
 {
     match words {
         [word] if word.as_str() == "check" => Some(Word::Check),
         [word] if word.as_str() == "fate" => Some(Word::Fate),
         [word, seed, roots] if word.as_str() == "load" => load_of(seed.as_str(), roots.as_str()),
-        [word, rest @ ..] if word.as_str() == "try" => Some(Word::Try(settings_of(rest)?)),
+        [word, rest @ ..] if word.as_str() == "try" => try_of(rest),
         _ => None,
     }
 }
@@ -110,7 +122,8 @@ fn serve_script<S: Source, K: Sink>(
     src: &mut S,
     out: &mut K,
 ) -> Status
-    ensures { RunCause (S.faults src.old) (S.faults src.new) (K.faults out.old) (K.faults out.new) result }
+    ensures cause { RunCause (S.faults src.old) (S.faults src.new) (K.faults out.old) (K.faults out.new) result }
+    ensures tries { (served : Result (Unit {0}) StatusOf) × IsTried settings.queues settings.limit (S.left src.old) (K.held out.old) (K.held out.new) served × (result ≡ status_after served) }
 {
     match try_script(alloc, settings, src, out) {
         Ok(()) => Status::Done,
@@ -132,6 +145,7 @@ fn obey<S: Source, K: Sink>(alloc: Global, word: Word, src: &mut S, out: &mut K)
     ensures cause { RunCause (S.faults src.old) (S.faults src.new) (K.faults out.old) (K.faults out.new) result }
     ensures check { word ≡ CheckWord → PrintsAnswer (IsCheckOf (S.left src.old)) (K.held out.old) (K.held out.new) result }
     ensures fate { word ≡ FateWord → PrintsAnswer (IsFateOf (S.left src.old)) (K.held out.old) (K.held out.new) result }
+    ensures tries { (settings : SettingsOf) → word ≡ TryWord settings → (served : Result (Unit {0}) StatusOf) × IsTried settings.queues settings.limit (S.left src.old) (K.held out.old) (K.held out.new) served × (result ≡ status_after served) }
 {
     match word {
         Word::Check => answer_check(alloc, src, out),
@@ -147,6 +161,8 @@ fn obey<S: Source, K: Sink>(alloc: Global, word: Word, src: &mut S, out: &mut K)
 /// sink's did; `Store` never. Under `Done` and `Refused` the words `check` and `fate` have printed the
 /// text of their answer and nothing else, under `WriteFault` a front part of it, and else nothing. The
 /// answer is that to an input with the lines of all bytes that the source had left.
+/// The word `try` serves the inputs of the script over the empty history, and prints their replies in order, all
+/// of them under `Done`; or `no USAGE`, only where words stand behind it.
 #[tactic(auto, using(crate::proofs::EndingLemmas::ends_run, crate::proofs::EndingLemmas::ends_print))]
 pub fn run_pure<S: Source, K: Sink>(
     alloc: Global,
@@ -157,6 +173,7 @@ pub fn run_pure<S: Source, K: Sink>(
     ensures cause { EndCause (S.faults src.old) (S.faults src.new) (K.faults out.old) (K.faults out.new) result }
     ensures check { map string_bytes words.now ≡ codes "check" ∷ [] → PrintsAnswer (IsCheckOf (S.left src.old)) (K.held out.old) (K.held out.new) result }
     ensures fate { map string_bytes words.now ≡ codes "fate" ∷ [] → PrintsAnswer (IsFateOf (S.left src.old)) (K.held out.old) (K.held out.new) result }
+    ensures tries { (rest : List (List ℕ)) → map string_bytes words.now ≡ codes "try" ∷ rest → PrintsTry rest (S.left src.old) (K.held out.old) (K.held out.new) result }
     ensures unknown { IsUnknown (map string_bytes words.now) → Prints (codes "no USAGE\n") UsageStatus (K.held out.old) (K.held out.new) result }
     ensures usage { result ≡ UsageStatus → Appends (K.held out.old) (K.held out.new) (codes "no USAGE\n") }
 {

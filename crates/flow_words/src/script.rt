@@ -2,10 +2,13 @@
 ghost use Rattle.std.specs.Prelude.{◌≡◌, ℕ, MatchResult, IfErr, OnOk};
 ghost use Rattle.std.specs.Io.KnownBytes.{Appends};
 ghost use Rattle.flow_core.specs.Summaries.{summary};
+ghost use Rattle.flow_session.specs.Inputs.{given};
 ghost use Rattle.flow_session.specs.Serving.{Makes};
 ghost use Rattle.flow_words.specs.Crashes.{IsFailing};
 ghost use Rattle.flow_words.specs.Endings.{PrintCause, RunCause, status_of};
 ghost use Rattle.flow_words.specs.Printed.{PrintsPart};
+ghost use Rattle.flow_words.specs.Scripts.{input_of as given_of, ServesAndPrints, ServesScript, IsTried};
+ghost use Rattle.text_words.specs.Gathered.{found_input};
 ghost use Rattle.flow_words.specs.declared.status.Status.TheVariants.{WriteFault as WriteFaultStatus};
 
 use crate::numbers::Settings;
@@ -51,6 +54,17 @@ pub fn line_status(stop: IoStop) -> Status
     }
 }
 
+/// What a session is given of what a reader found.
+fn input_of(found: Line, text: &[u8]) -> Input<'_>
+    ensures { given result ≡ given_of (found_input found text.now) }
+{
+    match found {
+        Line::Text => Input::Text(text),
+        Line::TooLong => Input::TooLong,
+        Line::Ended => Input::Ended,
+    }
+}
+
 /// Serves one input and prints the reply.
 fn serve_one<J: Journal, K: Sink>(
     session: &mut Session,
@@ -63,6 +77,7 @@ fn serve_one<J: Journal, K: Sink>(
     ensures makes { Makes J.tells J.moment J.left_since journal.old journal.new (summary session.old.core) (λ s. OnOk result (summary session.new.core ≡ s)) }
     ensures fails { IfErr result IsFailing }
     ensures cause { MatchResult result (λ _. K.faults out.new ≡ K.faults out.old) (PrintCause (K.faults out.old) (K.faults out.new)) }
+    ensures served { ServesAndPrints J.tells J.holds J.moment J.left_since (K.held out.old) (K.held out.new) (given input.entry) session.old session.new journal.old journal.new result }
 {
     match session.serve(journal, input) {
         Err(stop) => Err(stop_status(stop)),
@@ -89,27 +104,23 @@ pub fn serve_all<S: Source, K: Sink, J: Journal>(
     ensures makes { Makes J.tells J.moment J.left_since journal.old journal.new (summary session.old.core) (λ s. OnOk result (summary session.new.core ≡ s)) }
     ensures fails { IfErr result IsFailing }
     ensures cause { IfErr result (RunCause (S.faults src.old) (S.faults src.new) (K.faults out.old) (K.faults out.new)) }
+    ensures serves { ServesScript J.tells J.holds J.moment J.left_since (S.left src.old) (K.held out.old) (K.held out.new) session.old session.new journal.old journal.new result }
 {
     let mut lines = match Lines::new(alloc, MOST_BYTES) {
         Ok(lines) => lines,
         Err(_) => return Err(Status::NoMemory),
     };
-    'inputs: for _ in 0..u64::MAX {
-        let input = match lines.next(src) {
+    'inputs: loop {
+        let found = match lines.next(src) {
+            Ok(found) => found,
             Err(stop) => return Err(line_status(stop)),
-            Ok(Line::Text) => Input::Text(lines.text()),
-            Ok(Line::TooLong) => Input::TooLong,
-            Ok(Line::Ended) => Input::Ended,
         };
-        let is_last = matches!(input, Input::Ended);
-        if let Err(status) = serve_one(session, journal, out, input) {
-            return Err(status);
-        }
-        if is_last {
-            break;
+        let input = input_of(found, lines.text());
+        serve_one(session, journal, out, input)?;
+        if found == Line::Ended {
+            return Ok(());
         }
     }
-    Ok(())
 }
 
 /// The word `try`: serves a script over a history in memory.
@@ -119,7 +130,8 @@ pub fn try_script<S: Source, K: Sink>(
     src: &mut S,
     out: &mut K,
 ) -> Result<(), Status>
-    ensures { IfErr result (RunCause (S.faults src.old) (S.faults src.new) (K.faults out.old) (K.faults out.new)) }
+    ensures cause { IfErr result (RunCause (S.faults src.old) (S.faults src.new) (K.faults out.old) (K.faults out.new)) }
+    ensures tries { IsTried settings.queues settings.limit (S.left src.old) (K.held out.old) (K.held out.new) result }
 {
     match Session::fresh(alloc, settings.queues, settings.limit) {
         Err(_) => Err(Status::NoMemory),

@@ -1,5 +1,5 @@
 //! The words over a store in two files, and the two that make and serve one: `new` and `run`.
-ghost use Rattle.std.specs.Prelude.{◌≡◌, ℕ, None, List, [], ◌∷◌, codes, map, string_bytes, IfErr, IsOk, MatchResult};
+ghost use Rattle.std.specs.Prelude.{◌≡◌, ◌≢◌, ℕ, Some, None, List, [], ◌∷◌, codes, map, string_bytes, IfErr, IsOk, MatchResult};
 ghost use Rattle.flow_disk.specs.Images.{Image};
 ghost use Rattle.flow_disk.specs.Moments.{Only};
 ghost use Rattle.flow_core.specs.Summaries.{summary};
@@ -9,7 +9,9 @@ ghost use Rattle.flow_session.specs.Runs.{KeepsStore, KeepsOrServes};
 ghost use Rattle.flow_session.specs.Serving.{Makes};
 ghost use Rattle.flow_words.specs.Crashes.{IsFailing, EndsDone, MakesStore, MakesKeepsOrServes};
 ghost use Rattle.flow_words.specs.Printed.{PrintsAnswer, IsCheckOf, IsFateOf};
+ghost use Rattle.flow_words.specs.Scripts.{status_of_word, IsUnserved, ServesOver, RunsStore, PrintsTry};
 ghost use Rattle.flow_words.specs.declared.status.Status.TheVariants.{Done as DoneStatus};
+ghost use Rattle.flow_words.specs.declared.stored.Word.TheVariants.{Run as RunWord};
 
 use crate::following::{follow_into, ship_from};
 use crate::looking::{explain_in, overdue_in, verify_in};
@@ -47,7 +49,10 @@ enum Word {
 }
 
 /// The word over a store that has no words behind its two files.
-fn short_word(word: &str) -> Option<Word> {
+fn short_word(word: &str) -> Option<Word>
+    ensures run { word.now ≡ codes "run" → result ≡ Some RunWord }
+    ensures tries { word.now ≡ codes "try" → result ≡ None }
+{
     match word {
         "run" => Some(Word::Run),
         "follow" => Some(Word::Follow),
@@ -58,7 +63,10 @@ fn short_word(word: &str) -> Option<Word> {
 }
 
 /// The word over a store with these words behind its two files.
-fn store_word(word: &str, rest: &[String]) -> Option<Word> {
+fn store_word(word: &str, rest: &[String]) -> Option<Word>
+    ensures run { word.now ≡ codes "run" → rest.now ≡ [] → result ≡ Some RunWord }
+    ensures tries { word.now ≡ codes "try" → result ≡ None }
+{
     if word == "new" {
         return Some(Word::New(settings_of(rest)?));
     }
@@ -75,7 +83,9 @@ fn store_word(word: &str, rest: &[String]) -> Option<Word> {
 
 /// The word over a store that these words say; its two files are two different words.
 fn word_of(words: &[String]) -> Option<Word>
-    ensures { (word : List ℕ) → map string_bytes words.now ≡ word ∷ [] → result ≡ None }
+    ensures one { (word : List ℕ) → map string_bytes words.now ≡ word ∷ [] → result ≡ None }
+    ensures tries { (rest : List (List ℕ)) → map string_bytes words.now ≡ codes "try" ∷ rest → result ≡ None }
+    ensures run { (a b : List ℕ) → map string_bytes words.now ≡ codes "run" ∷ a ∷ b ∷ [] → a ≢ b → result ≡ Some RunWord }
 {
     match words {
         [word, a, b, rest @ ..] if a.as_str() != b.as_str() => store_word(word.as_str(), rest),
@@ -123,7 +133,8 @@ fn stop_text(alloc: Global, stop: &LogStop) -> Result<Option<Vec<u8>>, AllocErro
 
 /// Prints why a store isn't opened.
 pub fn refuse<K: Sink>(alloc: Global, out: &mut K, stop: &LogStop) -> Result<Status, Status>
-    ensures { MatchResult result IsFailing IsFailing }
+    ensures fails { MatchResult result IsFailing IsFailing }
+    ensures unserved { IsUnserved (status_of_word result) }
 {
     match stop_text(alloc, stop) {
         Err(_) => Err(Status::NoMemory),
@@ -172,6 +183,7 @@ fn serve_store<S: Source, K: Sink, D: Disk + Drop>(
     requires open { D.tells → IsOpen D.seen D.images log disk (summary session.core) }
     ensures makes { Makes D.tells D.moment D.left_since disk result.1 (summary session.core) (λ s. IsOk result.0 → D.tells → (c : Image) → D.images result.1 c → StandsFor s c) }
     ensures fails { IfErr result.0 IsFailing }
+    ensures serves { ServesOver D.tells D.moment D.left_since D.seen D.images (S.left src.old) (K.held out.old) (K.held out.new) session log disk result.1 result.0 }
 {
     let mut session = session;
     let mut journal = Stored::new(alloc, log, disk);
@@ -186,7 +198,8 @@ fn run_script<S: Source, K: Sink, D: Disk + Drop>(
     out: &mut K,
     disk: D,
 ) -> (Result<Status, Status>, D)
-    ensures { D.tells → Only (D.seen disk) (D.images disk) → KeepsOrServes D.tells D.moment D.left_since D.seen D.images disk result.1 (EndsDone result.0) }
+    ensures store { D.tells → Only (D.seen disk) (D.images disk) → KeepsOrServes D.tells D.moment D.left_since D.seen D.images disk result.1 (EndsDone result.0) }
+    ensures runs { RunsStore D.tells D.moment D.left_since D.seen D.images (S.left src.old) (K.held out.old) (K.held out.new) disk result.1 (status_of_word result.0) }
 {
     let mut disk = disk;
     match reopen(alloc, &mut disk) {
@@ -226,7 +239,8 @@ fn obey<S: Source, K: Sink, D: Disk + Drop>(
     out: &mut K,
     disk: D,
 ) -> (Result<Status, Status>, D)
-    ensures { D.tells → Only (D.seen disk) (D.images disk) → MakesKeepsOrServes D.tells D.moment D.left_since D.seen D.images disk result.1 (EndsDone result.0) }
+    ensures store { D.tells → Only (D.seen disk) (D.images disk) → MakesKeepsOrServes D.tells D.moment D.left_since D.seen D.images disk result.1 (EndsDone result.0) }
+    ensures runs { word ≡ RunWord → RunsStore D.tells D.moment D.left_since D.seen D.images (S.left src.old) (K.held out.old) (K.held out.new) disk result.1 (status_of_word result.0) }
 {
     let mut disk = disk;
     match word {
@@ -244,7 +258,10 @@ fn obey<S: Source, K: Sink, D: Disk + Drop>(
 /// the history before with some of the transactions that the call makes, from the first on. Where the
 /// status is `Done`, it leaves the new store, or the history with all of them.
 ///
-/// What `check` and `fate` print is that of `run_pure`.
+/// What `check`, `fate` and `try` print is that of `run_pure`. Under `run` over two files the store isn't opened, or
+/// a session over the state for which it stands serves the inputs of the script one after the other, as
+/// `specs/Scripts.antt` says: each transaction is kept before its reply is given, and the replies are printed in
+/// order, all of them under `Done`.
 pub fn run<S: Source, K: Sink, D: Disk + Drop>(
     alloc: Global,
     words: &[String],
@@ -255,6 +272,9 @@ pub fn run<S: Source, K: Sink, D: Disk + Drop>(
     ensures store { D.tells → Only (D.seen disk) (D.images disk) → MakesKeepsOrServes D.tells D.moment D.left_since D.seen D.images disk result.1 (result.0 ≡ DoneStatus) }
     ensures check { map string_bytes words.now ≡ codes "check" ∷ [] → PrintsAnswer (IsCheckOf (S.left src.old)) (K.held out.old) (K.held out.new) result.0 }
     ensures fate { map string_bytes words.now ≡ codes "fate" ∷ [] → PrintsAnswer (IsFateOf (S.left src.old)) (K.held out.old) (K.held out.new) result.0 }
+    ensures tries { (rest : List (List ℕ)) → map string_bytes words.now ≡ codes "try" ∷ rest → PrintsTry rest (S.left src.old) (K.held out.old) (K.held out.new) result.0 }
+    ensures serves { (a b : List ℕ) → map string_bytes words.now ≡ codes "run" ∷ a ∷ b ∷ [] → a ≢ b
+        → RunsStore D.tells D.moment D.left_since D.seen D.images (S.left src.old) (K.held out.old) (K.held out.new) disk result.1 result.0 }
 {
     let Some(word) = word_of(words) else {
         return (run_pure(alloc, words, src, out), disk);

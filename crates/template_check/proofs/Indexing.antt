@@ -31,7 +31,7 @@ later true n o p = refl
 later false n o p = refl
 
 -- the last place of a longer list
-last_pushed : {X : Type 0} (test : X → Bool) (xs : List X) (x : X) → last_place test (xs ++ x ∷ []) ≡ cond (test x) (Some (length xs)) (last_place test xs)
+pub last_pushed : {X : Type 0} (test : X → Bool) (xs : List X) (x : X) → last_place test (xs ++ x ∷ []) ≡ cond (test x) (Some (length xs)) (last_place test xs)
 last_pushed test [] x = refl
 last_pushed test (y ∷ ys) x =
     ap (λ o. option_or (option_map (λ place. place + 1) o) (cond (test y) (Some 0) None)) (last_pushed test ys x)

@@ -9,3 +9,6 @@ pub mod Laying
 pub mod Calling
 pub mod ProcessNames
 pub mod Together
+pub mod Meaning
+pub mod Resolutions
+pub mod Knowing

@@ -19,7 +19,7 @@ unfolding KeepsOthers
 others eq test old new h = h
 
 -- a look-up by bytes after a change at the bytes bs
-updated : {S : Type 0} (bs : List ℕ) (m n : HashMap (Bor (List ℕ)) ℕ S) (w : Option ℕ) → hash.UpdatesBy (λ x y. bytes_eq x.now y.now) (λ k. bytes_eq bs k.now) m n w
+pub updated : {S : Type 0} (bs : List ℕ) (m n : HashMap (Bor (List ℕ)) ℕ S) (w : Option ℕ) → hash.UpdatesBy (λ x y. bytes_eq x.now y.now) (λ k. bytes_eq bs k.now) m n w
     → (cs : List ℕ) → hash.get_by (λ k. bytes_eq cs k.now) n ≡ cond (bytes_eq bs cs) w (hash.get_by (λ k. bytes_eq cs k.now) m)
 updated bs m n w h cs =
     ⊎_elim

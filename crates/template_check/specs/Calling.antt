@@ -1,5 +1,9 @@
 -- Which processes the activities of a template run: those that stand before it in the library, so that nesting ends.
-use Rattle.std.specs.Prelude.{◌≡◌, ℕ, zero, suc, ◌+◌, ◌<◌, Some, List, [], length, slice_get}
+use Rattle.std.specs.Prelude.{◌≡◌, ℕ, zero, suc, ◌+◌, ◌<◌, nat_lt, if◌then◌else◌, Option, Some, None, List, [], bytes_eq, length, slice_get}
+use Rattle.std.specs.Option.{option_map, option_and_then}
+use Rattle.std.specs.HashMap as hash
+use Rattle.template_check.specs.Imports.{newest_listed}
+use Rattle.template_check.specs.declared.people.Known.{Known}
 use Rattle.std.specs.List.{All}
 use Rattle.fate_laws.specs.Layout.{OfInside}
 use Rattle.flow_model.specs.ScopeContainers.{graph_in}
@@ -47,3 +51,32 @@ place_behind earlier number = length earlier.library.templates + number
 abbrev pub IsBefore : Catalog → ℕ → Callee → Type 0
 IsBefore earlier number (callee.Text t) = t < number
 IsBefore earlier number (callee.Library place) = place < length earlier.library.templates
+
+-- the number of the process of a name in the text, where it stands before this one
+abbrev pub before_this : ℕ → Option ℕ → Option ℕ
+before_this process None = None
+before_this process (Some number) = if nat_lt number process then Some number else None
+
+abbrev pub earlier_meant : Known → ℕ → List ℕ → Option ℕ
+earlier_meant known process name = before_this process (hash.get_by (λ key. bytes_eq name key.now) known.numbers)
+
+-- the newest template of a name, where it is in the library
+abbrev pub stored_meant : Catalog → List ℕ → Option Callee
+stored_meant c name = option_and_then (λ place. option_map (λ t. callee.Library place) (slice_get c.library.templates place)) (newest_listed c name)
+
+-- a process of the text where there is one, else what is in the library
+abbrev pub text_or : Option ℕ → Option Callee → Option Callee
+text_or None stored = stored
+text_or (Some number) stored = Some (callee.Text number)
+
+-- what an activity in the process of this number runs by a name
+abbrev pub callee_meant : Known → ℕ → List ℕ → Option Callee
+callee_meant known process name = text_or (earlier_meant known process name) (stored_meant known.catalog.now name)
+
+-- where it is in the library once the text is added
+abbrev pub place_among : Catalog → Callee → ℕ
+place_among earlier (callee.Text number) = place_behind earlier number
+place_among earlier (callee.Library place) = place
+
+abbrev pub place_meant : Known → ℕ → List ℕ → Option ℕ
+place_meant known process name = option_map (place_among known.catalog.now) (callee_meant known process name)

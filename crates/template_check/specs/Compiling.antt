@@ -1,5 +1,5 @@
 -- What a text compiles to: a template for each of its processes, in the order of the text.
-use Rattle.std.specs.Prelude.{◌≡◌, ℕ, List, map}
+use Rattle.std.specs.Prelude.{◌≡◌, ℕ, List, length, map}
 use Rattle.fdl_lexer.specs.Tokens.{AreTokens}
 use Rattle.fdl_lexer.specs.declared.kinds.Token.{Token}
 use Rattle.fdl_parser.specs.Items.{IsTree}
@@ -8,6 +8,10 @@ use Rattle.flow_model.specs.declared.graphs.Template.{Template}
 use Rattle.flow_model.specs.declared.trees.ItemTree.{ItemTree}
 use Rattle.flow_model.specs.declared.trees.Tree.{Tree}
 use Rattle.template_check.specs.Built.{AreSoundBehind}
+use Rattle.template_check.specs.Imports.{IsIndexed}
+use Rattle.template_check.specs.Knowing.{place_named}
+use Rattle.template_check.specs.declared.catalog.Catalog.{Catalog}
+use Rattle.template_check.specs.Meant.{Reading, AreMeantFrom}
 use Rattle.template_check.specs.Texts.{processes_in}
 
 -- this is the tree of a text
@@ -24,13 +28,30 @@ process_names items = map (λ p. p.name.name) (processes_in items)
 abbrev pub template_names : List Template → List (List ℕ)
 template_names ts = map (λ t. t.name) ts
 
--- templates that a tree compiles to behind so many others: sound, and named as the processes
-pub record AreBuilt (before : ℕ) (items : List ItemTree) (ts : List Template) : Type 0 where
-  pub sound : AreSoundBehind before ts
+-- a reading of the names of a text, behind a library: a process is the one that stands before in the text, else the newest
+-- that was imported, where the index of the library is right
+pub record IsReading (earlier : Catalog) (items : List ItemTree) (reading : Reading) : Type 0 where
+  pub places : IsIndexed earlier → (number : ℕ) (name : List ℕ) → reading.place number name ≡ place_named earlier (processes_in items) number name
+
+-- templates that a tree compiles to behind a library: sound, named as the processes, and their graphs meant by them
+pub record AreBuilt (earlier : Catalog) (items : List ItemTree) (ts : List Template) : Type 0 where
+  pub sound : AreSoundBehind (length earlier.library.templates) ts
   pub named : template_names ts ≡ process_names items
+  pub reading : Reading
+  pub read : IsReading earlier items reading
+  pub meant : AreMeantFrom reading 0 (processes_in items) ts
 
 -- what a text compiles to is named as its processes
 pub record IsNamedBy (text : List ℕ) (ts : List Template) : Type 0 where
   pub tree : Tree
   pub has : HasTree text tree
   pub named : template_names ts ≡ process_names tree.items
+
+-- the graphs of what a text compiles to are those of its processes, in order: there is one reading of its names, the same
+-- for all of them, by which each is meant
+pub record IsMeantBy (text : List ℕ) (earlier : Catalog) (ts : List Template) : Type 0 where
+  pub tree : Tree
+  pub has : HasTree text tree
+  pub reading : Reading
+  pub read : IsReading earlier tree.items reading
+  pub meant : AreMeantFrom reading 0 (processes_in tree.items) ts

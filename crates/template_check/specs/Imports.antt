@@ -32,3 +32,7 @@ AreIndexed name_of items index = (key : List ℕ) → hash.get_by (λ k. bytes_e
 -- the names of a catalog lead to the newest templates and the latest people
 abbrev pub IsIndexed : Catalog → Type 0
 IsIndexed c = AreIndexed (λ t. t.name) c.library.templates c.templates × AreIndexed (λ q. q.name) c.library.people c.people
+
+-- the place to which the index of a catalog leads from a name
+abbrev pub newest_listed : Catalog → List ℕ → Option ℕ
+newest_listed c name = hash.get_by (λ key. bytes_eq name key.items) c.templates

@@ -1,11 +1,17 @@
 pub mod Imports
 pub mod ClosedWalks
 pub mod Texts
+pub mod GraphTexts
+pub mod Attributes
+pub mod ReturnCodes
+pub mod Leaves
 pub mod Meeting
 pub mod GraphEdges
 pub mod Blocks
 pub mod Wires
 pub mod Calling
+pub mod Knowing
 pub mod Built
+pub mod Meant
 pub mod Passed
 pub mod Compiling

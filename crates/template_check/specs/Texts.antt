@@ -1,8 +1,8 @@
 -- What the text of a graph says: its activities, connectors and data lines, the activities that names stand for, and which graphs stand in it.
 use Rattle.std.specs.Borrow.{Bor}
-use Rattle.std.specs.Prelude.{◌≡◌, ℕ, ◌+◌, ◌<◌, ◌≤◌, Bool, if◌then◌else◌, Option, Some, None, List, [], ◌∷◌, bytes_eq, length, map}
+use Rattle.std.specs.Prelude.{◌≡◌, ℕ, ◌+◌, ◌<◌, ◌≤◌, Bool, if◌then◌else◌, Option, Some, None, List, [], ◌∷◌, bytes_eq, length, map, slice_get}
 use Rattle.std.specs.List.{All, AllPairs, filter_map}
-use Rattle.std.specs.Option.{option_map}
+use Rattle.std.specs.Option.{option_map, option_and_then}
 use Rattle.std.specs.HashMap as hash
 use Rattle.std.specs.HashMap.{HashMap}
 use Rattle.flow_model.specs.declared.trees.ActivityTree.{ActivityTree}
@@ -78,6 +78,10 @@ AreNumbered activities numbers = (key : List ℕ) → hash.get_by (λ k. bytes_e
 -- the first activity of a name
 abbrev pub number_in : List ElementTree → List ℕ → Option ℕ
 number_in elements name = first_place (λ a. bytes_eq a.name.name name) (activities_in elements)
+
+-- the activity of a name
+abbrev pub activity_named : List ElementTree → List ℕ → Option ActivityTree
+activity_named elements name = option_and_then (λ place. slice_get (activities_in elements) place) (number_in elements name)
 
 -- two numbers, where both are there
 abbrev pub pair_of : Option ℕ → Option ℕ → Option (ℕ × ℕ)

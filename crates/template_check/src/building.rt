@@ -1,25 +1,31 @@
 //! From the tree of an accepted text to its templates and people.
-ghost use Rattle.std.specs.Prelude.{◌≡◌, ◌<◌, length, map, IfOk, IfSome};
+ghost use Rattle.std.specs.Prelude.{◌≡◌, ℕ, ◌<◌, ◌^◌, Some, length, map, option_copied, IfOk, IfSome};
 ghost use Rattle.std.specs.List.{All};
 ghost use Rattle.template_check.specs.Built.{end_in, IsDrawn, IsSound, IsSoundAlone, IsSoundInside, IsSoundWork};
-ghost use Rattle.template_check.specs.Calling.{place_behind, IsCalling, IsCallingWork};
+ghost use Rattle.conditions.specs.Resolving.{IsResolved};
+ghost use Rattle.template_check.specs.Attributes.{first_said, join_said, joined_by, expires_said, expires_by, exit_said, doer_said, done_by, program_by};
+ghost use Rattle.template_check.specs.Calling.{place_behind, place_meant, IsCalling, IsCallingWork};
+ghost use Rattle.template_check.specs.GraphTexts.{text_of, process_text};
+ghost use Rattle.template_check.specs.Leaves.{table_leaves, with_code, output_leaves, line_source, line_target};
+ghost use Rattle.template_check.specs.Meant.{AreParts, IsOne, IsMap, AreMaps, IsExit, IsWhen, IsControl, IsDataLine, IsLoopLine, IsWork, IsActivity, MeantTo, IsMeant, reading_of};
 ghost use Rattle.template_check.specs.declared.building.BuildFault.TheVariants.{NoMemory};
-ghost use Rattle.template_check.specs.Texts.{activities_in, names_in, lines_in, edges_in, IsLineAlong};
+ghost use Rattle.template_check.specs.Texts.{activities_in, controls_in, names_in, lines_in, edge_of, edges_in, IsLineAlong};
 ghost use Rattle.template_check.specs.Wires.{pairs_of};
 
 use crate::catalog::Catalog;
+use crate::forms::leaves_copy;
 use crate::members::LeafTable;
 use crate::people::{Callee, Known, is_manual};
-use crate::scopes::{Scope, small};
+use crate::scopes::{Scope, narrow};
 use crate::sizes::Shape;
 use crate::wires::wiring;
 use conditions::{TypeFault, resolve};
 use containers::find_leaf;
 use flow_model::{
-    Activity, ActivityTree, AttrTree, Cond, Control, ControlTree, DataLine, DataTree, DoneBy,
-    ElementTree, EndTree, EndsTree, Expr, Graph, Join, JoinTree, LeafMap, Leaves, List, LoopLine,
-    MapEnd, NameAt, PersonDef, PersonTree, ProcessTree, Program, Template, When, WhenTree, Work,
-    WorkTree,
+    Activity, ActivityTree, AttrTree, Cond, CondAt, Control, ControlTree, DataLine, DataTree,
+    DoneBy, ElementTree, EndTree, EndsTree, Expr, Graph, Join, JoinTree, LeafMap, Leaves, List,
+    LoopLine, MapEnd, MapTree, NameAt, NumberAt, PersonDef, PersonTree, ProcessTree, Program,
+    Template, When, WhenTree, Work, WorkTree,
 };
 use std::alloc::{AllocError, AllocFailed, Global};
 use thiserror::Error;
@@ -27,9 +33,9 @@ use thiserror::Error;
 /// Why an accepted text isn't built.
 #[derive(Clone, Copy, Debug, PartialEq, Eq, Drop, Error)]
 pub enum BuildFault {
-    /// The name at this place is that of a process that isn't there yet.
-    #[error("UnknownProcess")]
-    UnknownProcess(u32),
+    /// This rule, which was judged before, is broken at this place.
+    #[error("Rule")]
+    Rule(u8, u32),
     /// There was no memory for it.
     #[error("NoMemory")]
     NoMemory,
@@ -59,33 +65,136 @@ pub struct Builder<'a> {
     pub known: Known<'a>,
 }
 
-/// The place of an activity, which is known to be one of the graph.
-fn number_in<'a>(scope: &Scope<'a>, name: &'a NameAt) -> u32 {
-    scope.number(name).unwrap_or(0)
+/// The join that an attribute says.
+fn join_in(what: &AttrTree) -> Option<Join>
+    ensures { result ≡ join_said what.now }
+{
+    match what {
+        AttrTree::When(JoinTree::All) => Some(Join::All),
+        AttrTree::When(JoinTree::AtLeastOne) => Some(Join::AtLeastOne),
+        AttrTree::When(JoinTree::AtLeast(number)) => Some(Join::AtLeast(u32::try_from(
+            number.size,
+        ).unwrap_or(u32::MAX))),
+        AttrTree::Exit(_) => None,
+        AttrTree::Start(_) => None,
+        AttrTree::Expires(_) => None,
+        AttrTree::Role(_) => None,
+        AttrTree::Person(_) => None,
+        AttrTree::Starter => None,
+        AttrTree::Performer(_) => None,
+    }
 }
 
-fn join_of(activity: &ActivityTree) -> Join {
+/// The join of an activity; ALL where nothing is said.
+fn join_of(activity: &ActivityTree) -> Join
+    ensures { result ≡ joined_by activity.now.attrs }
+{
     for attribute in activity.attrs.as_slice() {
-        if let AttrTree::When(join) = &attribute.what {
-            return match join {
-                JoinTree::All => Join::All,
-                JoinTree::AtLeastOne => Join::AtLeastOne,
-                JoinTree::AtLeast(number) => {
-                    Join::AtLeast(u32::try_from(number.size).unwrap_or(u32::MAX))
-                }
-            };
+        if let Some(join) = join_in(&attribute.what) {
+            return join;
         }
     }
     Join::All
 }
 
-fn expires_of(activity: &ActivityTree) -> Option<u32> {
+/// The minutes after which an attribute says that an activity is late.
+fn expires_in(what: &AttrTree) -> Option<&NumberAt>
+    ensures { option_copied result ≡ expires_said what.now }
+{
+    match what {
+        AttrTree::Expires(minutes) => Some(minutes),
+        AttrTree::When(_) => None,
+        AttrTree::Exit(_) => None,
+        AttrTree::Start(_) => None,
+        AttrTree::Role(_) => None,
+        AttrTree::Person(_) => None,
+        AttrTree::Starter => None,
+        AttrTree::Performer(_) => None,
+    }
+}
+
+fn expires_of(activity: &ActivityTree) -> Option<u32>
+    ensures { result ≡ expires_by activity.now.attrs }
+{
     for attribute in activity.attrs.as_slice() {
-        if let AttrTree::Expires(minutes) = &attribute.what {
+        if let Some(minutes) = expires_in(&attribute.what) {
             return u32::try_from(minutes.size).ok();
         }
     }
     None
+}
+
+/// The exit condition that an attribute says.
+fn exit_in(what: &AttrTree) -> Option<&CondAt>
+    ensures { option_copied result ≡ exit_said what.now }
+{
+    match what {
+        AttrTree::Exit(cond) => Some(cond),
+        AttrTree::When(_) => None,
+        AttrTree::Start(_) => None,
+        AttrTree::Expires(_) => None,
+        AttrTree::Role(_) => None,
+        AttrTree::Person(_) => None,
+        AttrTree::Starter => None,
+        AttrTree::Performer(_) => None,
+    }
+}
+
+/// The exit condition of an activity, if it has one.
+fn exit_of(activity: &ActivityTree) -> Option<&CondAt>
+    ensures { option_copied result ≡ first_said exit_said activity.now.attrs }
+{
+    for attribute in activity.attrs.as_slice() {
+        if let Some(cond) = exit_in(&attribute.what) {
+            return Some(cond);
+        }
+    }
+    None
+}
+
+/// One map of a line, by the places of its leaves.
+fn leaf_map(map: &MapTree, from: &Leaves, to: &Leaves) -> Result<LeafMap, BuildFault>
+    ensures { length from.now.leaves < 2 ^ 32 → length to.now.leaves < 2 ^ 32 → IfOk result (IsMap from.now.leaves to.now.leaves map.now) }
+{
+    match find_leaf(from, &map.from) {
+        None => Err(BuildFault::Rule(13, map.from.place)),
+        Some(source) => match find_leaf(to, &map.to) {
+            None => Err(BuildFault::Rule(13, map.to.place)),
+            Some(target) => Ok(LeafMap {
+                from: source,
+                to: target,
+            }),
+        },
+    }
+}
+
+/// The maps of a line, by the places of the leaves.
+fn leaf_maps(
+    alloc: Global,
+    maps: &[MapTree],
+    from: &Leaves,
+    to: &Leaves,
+) -> Result<List<LeafMap>, BuildFault>
+    ensures { length from.now.leaves < 2 ^ 32 → length to.now.leaves < 2 ^ 32 → IfOk result (AreParts (IsOne (IsMap from.now.leaves to.now.leaves)) maps.now) }
+{
+    let mut places = List::new(alloc);
+    for map in maps {
+        places.push(leaf_map(map, from, to)?)?;
+    }
+    Ok(places)
+}
+
+/// A condition with places for these leaves.
+fn expr(alloc: Global, cond: &Cond, leaves: &Leaves) -> Result<Expr, BuildFault>
+    ensures { length leaves.now.leaves < 2 ^ 32 → IfOk result (IsResolved leaves.now.leaves cond.now) }
+{
+    match resolve(alloc, cond, leaves) {
+        Ok(expr) => Ok(expr),
+        Err(TypeFault::UnknownMember(place)) => Err(BuildFault::Rule(13, place)),
+        Err(TypeFault::Mismatch(place)) => Err(BuildFault::Rule(14, place)),
+        Err(TypeFault::Number(place)) => Err(BuildFault::Rule(23, place)),
+        Err(TypeFault::NoMemory) => Err(BuildFault::NoMemory),
+    }
 }
 
 /// The end of a line, where its name is known.
@@ -102,48 +211,53 @@ fn map_end<'a>(scope: &Scope<'a>, end: &'a EndTree) -> Option<MapEnd>
 }
 
 impl<'a> Builder<'a> {
-    /// A condition, which is known to suit these leaves.
-    fn expr(&self, cond: &Cond, leaves: Option<&Leaves>) -> Result<Option<Expr>, AllocError> {
-        let Some(leaves) = leaves else {
-            return Ok(None);
-        };
-        match resolve(self.alloc, cond, leaves) {
-            Ok(expr) => Ok(Some(expr)),
-            Err(TypeFault::NoMemory) => Err(AllocError),
-            Err(_) => Ok(None),
+    /// The exit condition of an activity.
+    fn exit(&self, activity: &'a ActivityTree) -> Result<Option<Expr>, BuildFault>
+        ensures { IfOk result (IsExit (with_code (table_leaves self.now.table activity.now.output.name)) (first_said exit_said activity.now.attrs)) }
+    {
+        match exit_of(activity) {
+            None => Ok(None),
+            Some(cond) => match self.table.coded(&activity.output) {
+                None => Err(BuildFault::Rule(6, activity.output.place)),
+                Some(leaves) => Ok(Some(expr(self.alloc, &cond.cond, leaves)?)),
+            },
         }
     }
 
-    fn exit(&self, activity: &'a ActivityTree) -> Result<Option<Expr>, AllocError> {
-        for attribute in activity.attrs.as_slice() {
-            if let AttrTree::Exit(cond) = &attribute.what {
-                return self.expr(&cond.cond, self.table.coded(&activity.output));
-            }
+    /// Who may do an activity, as an attribute says.
+    fn doer_in(&self, scope: &Scope<'a>, what: &'a AttrTree) -> Result<Option<DoneBy>, BuildFault>
+        ensures { IfOk result (λ doer. doer ≡ doer_said scope.now.elements.now what.now) }
+    {
+        match what {
+            AttrTree::Role(name) => Ok(Some(DoneBy::Role(name.name.copy(self.alloc)?))),
+            AttrTree::Person(name) => Ok(Some(DoneBy::Person(name.name.copy(self.alloc)?))),
+            AttrTree::Starter => Ok(Some(DoneBy::Starter)),
+            AttrTree::Performer(name) => match scope.number(name) {
+                Some(number) => Ok(Some(DoneBy::PerformerOf(number))),
+                None => Err(BuildFault::Rule(20, name.place)),
+            },
+            AttrTree::When(_) => Ok(None),
+            AttrTree::Exit(_) => Ok(None),
+            AttrTree::Start(_) => Ok(None),
+            AttrTree::Expires(_) => Ok(None),
         }
-        Ok(None)
     }
 
     /// Who may do an activity; its starter where nothing is said.
-    fn done_by(&self, scope: &Scope<'a>, activity: &'a ActivityTree) -> Result<DoneBy, AllocError> {
+    fn done_by(&self, scope: &Scope<'a>, activity: &'a ActivityTree) -> Result<DoneBy, BuildFault>
+        ensures { IfOk result (λ doer. doer ≡ done_by scope.now.elements.now activity.now.attrs) }
+    {
         for attribute in activity.attrs.as_slice() {
-            match &attribute.what {
-                AttrTree::Role(name) => return Ok(DoneBy::Role(name.name.copy(self.alloc)?)),
-                AttrTree::Person(name) => return Ok(DoneBy::Person(name.name.copy(self.alloc)?)),
-                AttrTree::Starter => return Ok(DoneBy::Starter),
-                AttrTree::Performer(name) => {
-                    return Ok(DoneBy::PerformerOf(number_in(scope, name)));
-                }
-                _ => {}
+            if let Some(doer) = self.doer_in(scope, &attribute.what)? {
+                return Ok(doer);
             }
         }
         Ok(DoneBy::Starter)
     }
 
-    fn program(
-        &self,
-        scope: &Scope<'a>,
-        activity: &'a ActivityTree,
-    ) -> Result<Program, AllocError> {
+    fn program(&self, scope: &Scope<'a>, activity: &'a ActivityTree) -> Result<Program, BuildFault>
+        ensures { IfOk result (λ made. made ≡ program_by scope.now.elements.now activity.now.attrs) }
+    {
         Ok(Program {
             manual: is_manual(activity),
             by: self.done_by(scope, activity)?,
@@ -153,60 +267,76 @@ impl<'a> Builder<'a> {
 
     /// The place in the library of the process that an activity runs.
     fn callee(&self, process: u32, name: &'a NameAt) -> Result<u32, BuildFault>
-        ensures { IfOk result (λ place. place < place_behind self.now.known.catalog.now process) }
+        ensures before { IfOk result (λ place. place < place_behind self.now.known.catalog.now process) }
+        ensures meant { IfOk result (λ place. place_meant self.now.known process name.now.name ≡ Some place) }
     {
         match self.known.callee(process, name) {
             Some(Callee::Library(place)) => Ok(place),
             Some(Callee::Text(number)) => {
-                let earlier = small(self.known.catalog().library().templates.len());
-                Ok(earlier.saturating_add(number))
+                let earlier = narrow(self.known.catalog().library().templates.len())?;
+                match earlier.checked_add(number) {
+                    Some(place) => Ok(place),
+                    None => Err(BuildFault::NoMemory),
+                }
             }
-            None => Err(BuildFault::UnknownProcess(name.place)),
+            None => Err(BuildFault::Rule(17, name.place)),
         }
     }
 
-    fn when(&self, scope: &Scope<'a>, control: &'a ControlTree) -> Result<When, AllocError> {
+    /// The transition condition of a connector.
+    fn when(&self, scope: &Scope<'a>, control: &'a ControlTree) -> Result<When, BuildFault>
+        ensures { IfOk result (IsWhen (output_leaves (table_leaves self.now.table) scope.now.elements.now control.now.from.name) control.now.when) }
+    {
         match &control.when {
             WhenTree::Always => Ok(When::Always),
             WhenTree::Otherwise => Ok(When::Otherwise),
-            WhenTree::Cond(cond) => {
-                let leaves = self.table.connector_leaves(scope, control);
-                match self.expr(&cond.cond, leaves)? {
-                    Some(expr) => Ok(When::Cond(expr)),
-                    None => Ok(When::Always),
-                }
-            }
+            WhenTree::Cond(cond) => match self.table.connector_leaves(scope, control) {
+                None => Err(BuildFault::Rule(9, control.from.place)),
+                Some(leaves) => Ok(When::Cond(expr(self.alloc, &cond.cond, leaves)?)),
+            },
         }
     }
 
-    fn controls(&self, scope: &Scope<'a>) -> Result<List<Control>, AllocError>
-        ensures { IfOk result (λ controls. pairs_of controls ≡ edges_in scope.now.elements.now) }
+    /// A connector.
+    fn control(&self, scope: &Scope<'a>, control: &'a ControlTree) -> Result<Control, BuildFault>
+        ensures ends { IfOk result (λ made. edge_of scope.now.elements.now control.now ≡ Some (made.from, made.to)) }
+        ensures meant { IfOk result (IsControl (table_leaves self.now.table) scope.now.elements.now control.now) }
+    {
+        match scope.number(&control.from) {
+            None => Err(BuildFault::Rule(9, control.from.place)),
+            Some(from) => match scope.number(&control.to) {
+                None => Err(BuildFault::Rule(9, control.to.place)),
+                Some(to) => Ok(Control {
+                    from,
+                    to,
+                    when: self.when(scope, control)?,
+                }),
+            },
+        }
+    }
+
+    fn controls(&self, scope: &Scope<'a>) -> Result<List<Control>, BuildFault>
+        ensures ends { IfOk result (λ controls. pairs_of controls ≡ edges_in scope.now.elements.now) }
+        ensures meant { IfOk result (AreParts (IsOne (IsControl (table_leaves self.now.table) scope.now.elements.now)) (controls_in scope.now.elements.now)) }
     {
         let mut controls = List::new(self.alloc);
         for control in &scope.controls {
-            match scope.ends(&control.from, &control.to) {
-                None => {}
-                Some((from, to)) => {
-                    let when = self.when(scope, control)?;
-                    controls.push(Control { from, to, when })?;
-                }
-            }
+            controls.push(self.control(scope, control)?)?;
         }
         Ok(controls)
     }
 
     /// The maps of a line, by the places of the leaves.
-    fn maps(&self, scope: &Scope<'a>, line: &'a DataTree) -> Result<List<LeafMap>, AllocError> {
-        let mut maps = List::new(self.alloc);
-        let Some((from, to)) = self.table.line_leaves(scope, &line.ends) else {
-            return Ok(maps);
-        };
-        for map in line.maps.as_slice() {
-            if let (Some(from), Some(to)) = (find_leaf(from, &map.from), find_leaf(to, &map.to)) {
-                maps.push(LeafMap { from, to })?;
-            }
+    fn maps(&self, scope: &Scope<'a>, line: &'a DataTree) -> Result<List<LeafMap>, BuildFault>
+        ensures { IfOk result (AreMaps (line_source (table_leaves self.now.table) (text_of scope.now) line.now.ends) (line_target (table_leaves self.now.table) (text_of scope.now) line.now.ends) line.now.maps) }
+    {
+        match self.table.line_source(scope, &line.ends) {
+            None => Err(BuildFault::Rule(6, line.place)),
+            Some(from) => match self.table.line_target(scope, &line.ends) {
+                None => Err(BuildFault::Rule(6, line.place)),
+                Some(to) => leaf_maps(self.alloc, line.maps.as_slice(), from, to),
+            },
         }
-        Ok(maps)
     }
 
     /// A line between two known ends.
@@ -214,18 +344,19 @@ impl<'a> Builder<'a> {
         &self,
         scope: &Scope<'a>,
         line: &'a DataTree,
-    ) -> Result<Option<DataLine>, AllocError>
+    ) -> Result<Option<DataLine>, BuildFault>
         requires { IsLineAlong scope.now.elements.now line.now }
-        ensures { IfOk result (λ drawn. IfSome drawn (IsDrawn scope.now.elements.now)) }
+        ensures drawn { IfOk result (λ drawn. IfSome drawn (IsDrawn scope.now.elements.now)) }
+        ensures meant { IfOk result (IsDataLine (table_leaves self.now.table) (text_of scope.now) line.now) }
     {
         match &line.ends {
             EndsTree::Loop(_) => Ok(None),
             EndsTree::Line(from, to) => {
                 let Some(from) = map_end(scope, from) else {
-                    return Ok(None);
+                    return Err(BuildFault::Rule(9, line.place));
                 };
                 let Some(to) = map_end(scope, to) else {
-                    return Ok(None);
+                    return Err(BuildFault::Rule(9, line.place));
                 };
                 let maps = self.maps(scope, line)?;
                 Ok(Some(DataLine { from, to, maps }))
@@ -233,9 +364,10 @@ impl<'a> Builder<'a> {
         }
     }
 
-    fn lines(&self, scope: &Scope<'a>) -> Result<List<DataLine>, AllocError>
+    fn lines(&self, scope: &Scope<'a>) -> Result<List<DataLine>, BuildFault>
         requires { All (IsLineAlong scope.now.elements.now) (lines_in scope.now.elements.now) }
-        ensures { IfOk result (All (IsDrawn scope.now.elements.now)) }
+        ensures drawn { IfOk result (All (IsDrawn scope.now.elements.now)) }
+        ensures meant { IfOk result (AreParts (IsDataLine (table_leaves self.now.table) (text_of scope.now)) (lines_in scope.now.elements.now)) }
     {
         let mut lines = List::new(self.alloc);
         for line in &scope.lines {
@@ -252,14 +384,15 @@ impl<'a> Builder<'a> {
         &self,
         scope: &Scope<'a>,
         line: &'a DataTree,
-    ) -> Result<Option<LoopLine>, AllocError>
-        ensures { IfOk result (λ made. IfSome made (λ l. l.activity < length (activities_in scope.now.elements.now))) }
+    ) -> Result<Option<LoopLine>, BuildFault>
+        ensures within { IfOk result (λ made. IfSome made (λ l. l.activity < length (activities_in scope.now.elements.now))) }
+        ensures meant { IfOk result (IsLoopLine (table_leaves self.now.table) (text_of scope.now) line.now) }
     {
         match &line.ends {
             EndsTree::Line(_, _) => Ok(None),
             EndsTree::Loop(name) => {
                 let Some(activity) = scope.number(name) else {
-                    return Ok(None);
+                    return Err(BuildFault::Rule(9, name.place));
                 };
                 let maps = self.maps(scope, line)?;
                 Ok(Some(LoopLine { activity, maps }))
@@ -267,8 +400,9 @@ impl<'a> Builder<'a> {
         }
     }
 
-    fn loops(&self, scope: &Scope<'a>) -> Result<List<LoopLine>, AllocError>
-        ensures { IfOk result (All (λ l. l.activity < length (activities_in scope.now.elements.now))) }
+    fn loops(&self, scope: &Scope<'a>) -> Result<List<LoopLine>, BuildFault>
+        ensures within { IfOk result (All (λ l. l.activity < length (activities_in scope.now.elements.now))) }
+        ensures meant { IfOk result (AreParts (IsLoopLine (table_leaves self.now.table) (text_of scope.now)) (lines_in scope.now.elements.now)) }
     {
         let mut loops = List::new(self.alloc);
         for line in &scope.lines {
@@ -280,11 +414,32 @@ impl<'a> Builder<'a> {
         Ok(loops)
     }
 
+    /// The leaves of a structure.
+    fn plain(&self, name: &'a NameAt) -> Result<Leaves, BuildFault>
+        ensures { IfOk result (λ made. table_leaves self.now.table name.now.name ≡ Some made.leaves) }
+    {
+        match self.table.plain(name) {
+            None => Err(BuildFault::Rule(6, name.place)),
+            Some(leaves) => Ok(leaves_copy(self.alloc, leaves)?),
+        }
+    }
+
+    /// The leaves of a structure, with `_RC` before them.
+    fn coded(&self, name: &'a NameAt) -> Result<Leaves, BuildFault>
+        ensures { IfOk result (λ made. with_code (table_leaves self.now.table name.now.name) ≡ Some made.leaves) }
+    {
+        match self.table.coded(name) {
+            None => Err(BuildFault::Rule(6, name.place)),
+            Some(leaves) => Ok(leaves_copy(self.alloc, leaves)?),
+        }
+    }
+
     #[cycle(building)]
     fn work(&self, scope: &Scope<'a>, activity: &'a ActivityTree) -> Result<Work, BuildFault>
         requires { IsSoundInside activity.now }
         ensures sound { IfOk result IsSoundWork }
         ensures calls { IfOk result (IsCallingWork (place_behind self.now.known.catalog.now scope.now.process)) }
+        ensures meant { IfOk result (λ made. (depth : ℕ) → IsWork (MeantTo (reading_of self.now) depth) (reading_of self.now) (text_of scope.now) activity.now made) }
     {
         match &activity.work {
             WorkTree::Program => Ok(Work::Program(self.program(scope, activity)?)),
@@ -308,13 +463,13 @@ impl<'a> Builder<'a> {
         ensures named { IfOk result (λ built. built.name ≡ activity.now.name.name) }
         ensures sound { IfOk result (λ built. IsSoundWork built.work) }
         ensures calls { IfOk result (λ built. IsCallingWork (place_behind self.now.known.catalog.now scope.now.process) built.work) }
+        ensures meant { IfOk result (λ built. (depth : ℕ) → IsActivity (MeantTo (reading_of self.now) depth) (reading_of self.now) (text_of scope.now) activity.now built) }
     {
-        let structures = self.table.structures();
         Ok(Activity {
             name: activity.name.name.copy(self.alloc)?,
             work: self.work(scope, activity)?,
-            input: structures.leaves(self.alloc, &activity.input)?,
-            output: structures.output_leaves(self.alloc, &activity.output)?,
+            input: self.plain(&activity.input)?,
+            output: self.coded(&activity.output)?,
             join: join_of(activity),
             exit: self.exit(activity)?,
         })
@@ -330,6 +485,7 @@ impl<'a> Builder<'a> {
         ensures named { IfOk result (λ built. map (λ a. a.name) built ≡ names_in elements.now) }
         ensures sound { IfOk result (All (λ built. IsSoundWork built.work)) }
         ensures calls { IfOk result (All (λ built. IsCallingWork (place_behind self.now.known.catalog.now scope.now.process) built.work)) }
+        ensures meant { IfOk result (λ built. (depth : ℕ) → AreParts (IsOne (IsActivity (MeantTo (reading_of self.now) depth) (reading_of self.now) (text_of scope.now))) (activities_in elements.now) built) }
     {
         let mut activities = List::new(self.alloc);
         for element in elements {
@@ -356,6 +512,7 @@ impl<'a> Builder<'a> {
         requires { IsSound elements.now }
         ensures sound { IfOk result IsSoundAlone }
         ensures calls { IfOk result (IsCalling (place_behind self.now.known.catalog.now process)) }
+        ensures meant { IfOk result (IsMeant (reading_of self.now) (record { process = process; input = input.now.name; output = output.now.name; elements = elements.now })) }
     {
         let scope = Scope::new(self.alloc, process, place, input, output, elements)?;
         let activities = self.activities(&scope, elements)?;
@@ -369,10 +526,9 @@ impl<'a> Builder<'a> {
             lines.as_slice(),
             loops.as_slice(),
         )?;
-        let structures = self.table.structures();
         Ok(Graph {
-            input: structures.leaves(self.alloc, input)?,
-            output: structures.leaves(self.alloc, output)?,
+            input: self.plain(input)?,
+            output: self.plain(output)?,
             activities,
             controls,
             lines,
@@ -392,6 +548,7 @@ impl<'a> Builder<'a> {
         ensures named { IfOk result (λ template. template.name ≡ process.now.name.name) }
         ensures sound { IfOk result (λ template. IsSoundAlone template.graph) }
         ensures calls { IfOk result (λ template. IsCalling (place_behind self.now.known.catalog.now number) template.graph) }
+        ensures meant { IfOk result (λ template. IsMeant (reading_of self.now) (process_text number process.now) template.graph) }
     {
         let (input, output) = (&process.input, &process.output);
         let elements = process.elements.as_slice();

@@ -1,6 +1,6 @@
 //! The library of the imports so far, with its names.
 ghost use Rattle.std.specs.Prelude.{◌≡◌, ◌≤◌, ◌<◌, ◌-◌, ◌^◌, ◌++◌, ◌∷◌, [], min, length, slice_get, option_copied, OnOk};
-ghost use Rattle.template_check.specs.Imports.{IsIndexed, newest_place, latest_place, latest_person};
+ghost use Rattle.template_check.specs.Imports.{IsIndexed, newest_place, newest_listed, latest_place, latest_person};
 
 use flow_model::{Library, List, Name, PersonDef, Template};
 use indexmap::IndexMap;
@@ -46,7 +46,8 @@ impl Catalog {
 
     /// The place of the newest template of this name; None exactly where there is none.
     pub fn newest(&self, name: &Name) -> Option<u32>
-        ensures { IsIndexed self.now → result ≡ newest_place self.now.library name.now }
+        ensures newest { IsIndexed self.now → result ≡ newest_place self.now.library name.now }
+        ensures listed { result ≡ newest_listed self.now name.now }
     {
         self.templates.get(name.as_slice()).copied()
     }

@@ -3,7 +3,8 @@ ghost use Rattle.std.specs.Prelude.{◌≡◌, None, length, IfOk};
 ghost use Rattle.std.specs.List.{All};
 ghost use Rattle.template_check.specs.Blocks.{lists_of, IsCovered};
 ghost use Rattle.template_check.specs.Built.{AreSoundBehind, AreSoundWithin, IsSound};
-ghost use Rattle.template_check.specs.Compiling.{AreBuilt, HasTree, IsNamedBy};
+ghost use Rattle.template_check.specs.Compiling.{AreBuilt, HasTree, IsNamedBy, IsMeantBy};
+ghost use Rattle.template_check.specs.Knowing.{IsKnowing};
 ghost use Rattle.template_check.specs.Passed.{IsPassed};
 ghost use Rattle.template_check.specs.Texts.{lines_in, processes_in, AreNamesApart, IsConnected, IsLimited, IsLineAlong};
 
@@ -270,15 +271,16 @@ fn sized_and_built<'a>(
     shapes: &[Shape],
     scopes: &[Scope<'a>],
 ) -> Result<Result<Compiled, (u8, u32)>, AllocError>
-    requires { AreSoundWithin scopes.now (processes_in tree.now.items) }
-    ensures { IfOk result (λ judged. IfOk judged (λ compiled. AreBuilt (length builder.now.known.catalog.now.library.templates) tree.now.items compiled.templates)) }
+    requires sound { AreSoundWithin scopes.now (processes_in tree.now.items) }
+    requires knowing { IsKnowing builder.now.known (processes_in tree.now.items) }
+    ensures { IfOk result (λ judged. IfOk judged (λ compiled. AreBuilt builder.now.known.catalog.now tree.now.items compiled.templates)) }
 {
     let structures = builder.table.structures();
     match first_sizes(builder.alloc, structures, &builder.known, shapes, scopes)? {
         Some(fault) => Ok(Err(fault)),
         None => match built(builder, tree, shapes) {
             Ok(compiled) => Ok(Ok(compiled)),
-            Err(BuildFault::UnknownProcess(place)) => Ok(Err((17, place))),
+            Err(BuildFault::Rule(rule, place)) => Ok(Err((rule, place))),
             Err(BuildFault::NoMemory) => Err(AllocError),
         },
     }
@@ -293,7 +295,7 @@ fn shaped_and_built<'a>(
     earlier: &'a Catalog,
 ) -> Result<Result<Compiled, (u8, u32)>, AllocError>
     requires { AreSoundWithin scopes.now (processes_in tree.now.items) }
-    ensures { IfOk result (λ judged. IfOk judged (λ compiled. AreBuilt (length earlier.now.library.templates) tree.now.items compiled.templates)) }
+    ensures { IfOk result (λ judged. IfOk judged (λ compiled. AreBuilt earlier.now tree.now.items compiled.templates)) }
 {
     let known = Known::new(alloc, tree, earlier)?;
     if let Some(fault) = first_people(alloc, &known, &table, scopes)? {
@@ -319,7 +321,7 @@ fn judged_and_built<'a>(
     requires covered { All (λ p. IsCovered (lists_of scopes.now) p.elements) (processes_in tree.now.items) }
     requires named { All (λ s. AreNamesApart s.elements.now) scopes.now }
     requires connected { All (λ s. IsConnected s.elements.now) scopes.now }
-    ensures { IfOk result (λ judged. IfOk judged (λ compiled. AreBuilt (length earlier.now.library.templates) tree.now.items compiled.templates)) }
+    ensures { IfOk result (λ judged. IfOk judged (λ compiled. AreBuilt earlier.now tree.now.items compiled.templates)) }
 {
     let table = LeafTable::new(alloc, structures, scopes)?;
     match first_members(alloc, &table, scopes)? {
@@ -334,8 +336,9 @@ fn built<'a>(
     tree: &'a Tree,
     shapes: &[Shape],
 ) -> Result<Compiled, BuildFault>
-    requires { All (λ p. IsSound p.elements) (processes_in tree.now.items) }
-    ensures { IfOk result (λ compiled. AreBuilt (length builder.now.known.catalog.now.library.templates) tree.now.items compiled.templates) }
+    requires sound { All (λ p. IsSound p.elements) (processes_in tree.now.items) }
+    requires knowing { IsKnowing builder.now.known (processes_in tree.now.items) }
+    ensures { IfOk result (λ compiled. AreBuilt builder.now.known.catalog.now tree.now.items compiled.templates) }
 {
     let mut templates = List::new(builder.alloc);
     let mut people = List::new(builder.alloc);
@@ -370,7 +373,7 @@ fn connected_and_built<'a>(
 ) -> Result<Result<Compiled, (u8, u32)>, AllocError>
     requires covered { All (λ p. IsCovered (lists_of scopes.now) p.elements) (processes_in tree.now.items) }
     requires named { All (λ s. AreNamesApart s.elements.now) scopes.now }
-    ensures { IfOk result (λ judged. IfOk judged (λ compiled. AreBuilt (length earlier.now.library.templates) tree.now.items compiled.templates)) }
+    ensures { IfOk result (λ judged. IfOk judged (λ compiled. AreBuilt earlier.now tree.now.items compiled.templates)) }
 {
     match first_connectors(alloc, scopes)? {
         Some(fault) => Ok(Err(fault)),
@@ -384,7 +387,7 @@ fn compile_tree(
     tree: &Tree,
     earlier: &Catalog,
 ) -> Result<Result<Compiled, (u8, u32)>, AllocError>
-    ensures { IfOk result (λ judged. IfOk judged (λ compiled. AreBuilt (length earlier.now.library.templates) tree.now.items compiled.templates)) }
+    ensures { IfOk result (λ judged. IfOk judged (λ compiled. AreBuilt earlier.now tree.now.items compiled.templates)) }
 {
     let scopes = text_scopes(alloc, tree)?;
     let mut structures = Structures::new(alloc, tree)?;
@@ -400,6 +403,7 @@ fn compile_tree(
 pub fn compile(alloc: Global, text: &[u8], earlier: &Catalog) -> Result<Compiled, ImportFault>
     ensures sound { IfOk result (λ compiled. AreSoundBehind (length earlier.now.library.templates) compiled.templates) }
     ensures named { IfOk result (λ compiled. IsNamedBy text.now compiled.templates) }
+    ensures meant { IfOk result (λ compiled. IsMeantBy text.now earlier.now compiled.templates) }
 {
     let tree = syntax_tree(alloc, text)?;
     match compile_tree(alloc, &tree, earlier)? {

@@ -11,6 +11,7 @@ mod compiling;
 mod connectors;
 mod edges;
 mod faults;
+mod forms;
 mod layout;
 mod least;
 mod members;

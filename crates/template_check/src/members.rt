@@ -1,4 +1,9 @@
 //! Rules 13 and 14: the leaves that conditions and maps read and write, and their kinds.
+ghost use Rattle.std.specs.Prelude.{◌≡◌, ◌<◌, ◌^◌, length, IfSome, option_map};
+ghost use Rattle.template_check.specs.Leaves.{with_code, table_leaves, input_leaves, output_leaves, source_leaves, target_leaves, line_source, line_target};
+ghost use Rattle.template_check.specs.GraphTexts.{text_of};
+
+use crate::forms::{StructureLeaves, both_forms};
 use crate::least::lesser;
 use crate::scopes::Scope;
 use crate::structures::Structures;
@@ -15,8 +20,7 @@ use std::alloc::{AllocError, Global};
 #[derive(Drop)]
 pub struct LeafTable<'a> {
     structures: Structures<'a>,
-    inputs: IndexMap<u32, Leaves>,
-    outputs: IndexMap<u32, Leaves>,
+    leaves: IndexMap<&'a [u8], StructureLeaves>,
 }
 
 impl<'a> LeafTable<'a> {
@@ -28,8 +32,7 @@ impl<'a> LeafTable<'a> {
     ) -> Result<LeafTable<'a>, AllocError> {
         let mut table = LeafTable {
             structures,
-            inputs: IndexMap::new(alloc),
-            outputs: IndexMap::new(alloc),
+            leaves: IndexMap::new(alloc),
         };
         for scope in scopes {
             table.add_scope(alloc, scope)?;
@@ -38,32 +41,20 @@ impl<'a> LeafTable<'a> {
     }
 
     fn add_scope(&mut self, alloc: Global, scope: &Scope<'a>) -> Result<(), AllocError> {
-        self.add_input(alloc, scope.input)?;
-        self.add_input(alloc, scope.output)?;
+        self.add(alloc, scope.input)?;
+        self.add(alloc, scope.output)?;
         for activity in &scope.activities {
-            self.add_input(alloc, &activity.input)?;
-            self.add_input(alloc, &activity.output)?;
-            self.add_output(alloc, &activity.output)?;
+            self.add(alloc, &activity.input)?;
+            self.add(alloc, &activity.output)?;
         }
         Ok(())
     }
 
-    fn add_input(&mut self, alloc: Global, name: &'a NameAt) -> Result<(), AllocError> {
-        if let Some(number) = self.structures.number(name) {
-            if !self.inputs.contains_key(&number) {
-                self.inputs
-                    .insert(number, self.structures.leaves(alloc, name)?)?;
-            }
-        }
-        Ok(())
-    }
-
-    fn add_output(&mut self, alloc: Global, name: &'a NameAt) -> Result<(), AllocError> {
-        if let Some(number) = self.structures.number(name) {
-            if !self.outputs.contains_key(&number) {
-                self.outputs
-                    .insert(number, self.structures.output_leaves(alloc, name)?)?;
-            }
+    fn add(&mut self, alloc: Global, name: &'a NameAt) -> Result<(), AllocError> {
+        let key = name.name.as_slice();
+        if self.structures.number(name).is_some() && !self.leaves.contains_key(&key) {
+            let plain = self.structures.leaves(alloc, name)?;
+            self.leaves.insert(key, both_forms(alloc, plain)?)?;
         }
         Ok(())
     }
@@ -74,45 +65,99 @@ impl<'a> LeafTable<'a> {
     }
 
     /// The leaves of a structure, without `_RC`.
-    pub fn plain(&self, name: &'a NameAt) -> Option<&Leaves> {
-        self.inputs.get(&self.structures.number(name)?)
+    pub fn plain(&self, name: &'a NameAt) -> Option<&Leaves>
+        ensures leaves { option_map (λ l. l.now.leaves) result ≡ table_leaves self.now name.now.name }
+        ensures few { IfSome result (λ l. length l.now.leaves < 2 ^ 32) }
+    {
+        match self.leaves.get(&name.name.as_slice()) {
+            None => None,
+            Some(found) => Some(&found.plain),
+        }
     }
 
     /// The leaves of an activity's output structure, with `_RC` before them.
-    pub fn coded(&self, name: &'a NameAt) -> Option<&Leaves> {
-        self.outputs.get(&self.structures.number(name)?)
+    pub fn coded(&self, name: &'a NameAt) -> Option<&Leaves>
+        ensures leaves { option_map (λ l. l.now.leaves) result ≡ with_code (table_leaves self.now name.now.name) }
+        ensures few { IfSome result (λ l. length l.now.leaves < 2 ^ 32) }
+    {
+        match self.leaves.get(&name.name.as_slice()) {
+            None => None,
+            Some(found) => Some(&found.coded),
+        }
+    }
+
+    /// The leaves of the output of the activity of this name.
+    fn output_of(&self, scope: &Scope<'a>, name: &'a NameAt) -> Option<&Leaves>
+        ensures leaves { option_map (λ l. l.now.leaves) result ≡ output_leaves (table_leaves self.now) scope.now.elements.now name.now.name }
+        ensures few { IfSome result (λ l. length l.now.leaves < 2 ^ 32) }
+    {
+        match scope.activity(name) {
+            None => None,
+            Some(activity) => self.coded(&activity.output),
+        }
+    }
+
+    /// The leaves of the input of the activity of this name.
+    fn input_of(&self, scope: &Scope<'a>, name: &'a NameAt) -> Option<&Leaves>
+        ensures leaves { option_map (λ l. l.now.leaves) result ≡ input_leaves (table_leaves self.now) scope.now.elements.now name.now.name }
+        ensures few { IfSome result (λ l. length l.now.leaves < 2 ^ 32) }
+    {
+        match scope.activity(name) {
+            None => None,
+            Some(activity) => self.plain(&activity.input),
+        }
     }
 
     /// The leaves that a DATA line reads.
-    fn source(&self, scope: &Scope<'a>, end: &'a EndTree) -> Option<&Leaves> {
+    fn source(&self, scope: &Scope<'a>, end: &'a EndTree) -> Option<&Leaves>
+        ensures leaves { option_map (λ l. l.now.leaves) result ≡ source_leaves (table_leaves self.now) (text_of scope.now) end.now }
+        ensures few { IfSome result (λ l. length l.now.leaves < 2 ^ 32) }
+    {
         match end {
             EndTree::Border => self.plain(scope.input),
-            EndTree::Activity(name) => self.coded(&scope.activity(name)?.output),
+            EndTree::Activity(name) => self.output_of(scope, name),
         }
     }
 
     /// The leaves that a DATA line writes.
-    fn target(&self, scope: &Scope<'a>, end: &'a EndTree) -> Option<&Leaves> {
+    fn target(&self, scope: &Scope<'a>, end: &'a EndTree) -> Option<&Leaves>
+        ensures leaves { option_map (λ l. l.now.leaves) result ≡ target_leaves (table_leaves self.now) (text_of scope.now) end.now }
+        ensures few { IfSome result (λ l. length l.now.leaves < 2 ^ 32) }
+    {
         match end {
             EndTree::Border => self.plain(scope.output),
-            EndTree::Activity(name) => self.plain(&scope.activity(name)?.input),
+            EndTree::Activity(name) => self.input_of(scope, name),
         }
     }
 
-    /// The leaves that a line reads and writes.
-    pub fn line_leaves(&self, scope: &Scope<'a>, ends: &'a EndsTree) -> Option<(&Leaves, &Leaves)> {
+    /// The leaves that a line reads.
+    pub fn line_source(&self, scope: &Scope<'a>, ends: &'a EndsTree) -> Option<&Leaves>
+        ensures leaves { option_map (λ l. l.now.leaves) result ≡ line_source (table_leaves self.now) (text_of scope.now) ends.now }
+        ensures few { IfSome result (λ l. length l.now.leaves < 2 ^ 32) }
+    {
         match ends {
-            EndsTree::Line(from, to) => Some((self.source(scope, from)?, self.target(scope, to)?)),
-            EndsTree::Loop(name) => {
-                let activity = scope.activity(name)?;
-                Some((self.coded(&activity.output)?, self.plain(&activity.input)?))
-            }
+            EndsTree::Line(from, _) => self.source(scope, from),
+            EndsTree::Loop(name) => self.output_of(scope, name),
+        }
+    }
+
+    /// The leaves that a line writes.
+    pub fn line_target(&self, scope: &Scope<'a>, ends: &'a EndsTree) -> Option<&Leaves>
+        ensures leaves { option_map (λ l. l.now.leaves) result ≡ line_target (table_leaves self.now) (text_of scope.now) ends.now }
+        ensures few { IfSome result (λ l. length l.now.leaves < 2 ^ 32) }
+    {
+        match ends {
+            EndsTree::Line(_, to) => self.target(scope, to),
+            EndsTree::Loop(name) => self.input_of(scope, name),
         }
     }
 
     /// The leaves that a transition condition reads.
-    pub fn connector_leaves(&self, scope: &Scope<'a>, control: &'a ControlTree) -> Option<&Leaves> {
-        self.coded(&scope.activity(&control.from)?.output)
+    pub fn connector_leaves(&self, scope: &Scope<'a>, control: &'a ControlTree) -> Option<&Leaves>
+        ensures leaves { option_map (λ l. l.now.leaves) result ≡ output_leaves (table_leaves self.now) scope.now.elements.now control.now.from.name }
+        ensures few { IfSome result (λ l. length l.now.leaves < 2 ^ 32) }
+    {
+        self.output_of(scope, &control.from)
     }
 }
 
@@ -165,7 +210,8 @@ fn line_fault<'a>(
     scope: &Scope<'a>,
     line: &'a DataTree,
 ) -> Option<u32> {
-    let (from, to) = table.line_leaves(scope, &line.ends)?;
+    let from = table.line_source(scope, &line.ends)?;
+    let to = table.line_target(scope, &line.ends)?;
     let mut least = None;
     for map in line.maps.as_slice() {
         least = lesser(least, map_fault(search, map, from, to));

@@ -1,11 +1,16 @@
 //! Rules 17 to 20: the processes and the people that activities name.
-ghost use Rattle.std.specs.Prelude.{◌≡◌, ℕ, IfOk, IfSome};
-ghost use Rattle.template_check.specs.Calling.{IsBefore};
+ghost use Rattle.std.specs.Prelude.{◌≡◌, ℕ, ◌<◌, List, [], ◌∷◌, ◌++◌, IfOk, OnOk, IfSome};
+ghost use Rattle.std.specs.List.{list_any, cons_option};
+ghost use Rattle.flow_model.specs.declared.trees.ProcessTree.{ProcessTree};
+ghost use Rattle.template_check.specs.Knowing.{IsKnowing};
+ghost use Rattle.template_check.specs.Texts.{process_of, processes_in};
+ghost use Rattle.template_check.specs.Attributes.{is_start_manual};
+ghost use Rattle.template_check.specs.Calling.{IsBefore, earlier_meant, stored_meant, callee_meant};
 
 use crate::catalog::Catalog;
 use crate::least::lesser;
 use crate::members::LeafTable;
-use crate::scopes::{Scope, small};
+use crate::scopes::{Scope, narrow, small};
 use flow_model::{
     ActivityTree, AttrTree, ItemTree, Leaf, Leaves, NameAt, ProcessTree, Step, Tree, WorkTree,
 };
@@ -32,7 +37,8 @@ pub struct Known<'a> {
 
 impl<'a> Known<'a> {
     pub fn new(alloc: Global, tree: &'a Tree, catalog: &'a Catalog) -> Result<Known<'a>, AllocError>
-        ensures { IfOk result (λ known. known.catalog.now ≡ catalog.now) }
+        ensures catalog { IfOk result (λ known. known.catalog.now ≡ catalog.now) }
+        ensures knowing { IfOk result (λ known. IsKnowing known (processes_in tree.now.items)) }
     {
         let mut known = Known {
             catalog,
@@ -47,7 +53,8 @@ impl<'a> Known<'a> {
     }
 
     fn add(&mut self, item: &'a ItemTree) -> Result<(), AllocError>
-        ensures { self.new.catalog ≡ self.old.catalog }
+        ensures catalog { self.new.catalog ≡ self.old.catalog }
+        ensures knowing { OnOk result ((processes : List ProcessTree) → IsKnowing self.old processes → IsKnowing self.new (processes ++ cons_option (process_of item.now) [])) }
     {
         match item {
             ItemTree::Structure(_) => Ok(()),
@@ -55,13 +62,18 @@ impl<'a> Known<'a> {
                 self.people.insert_full(person.name.name.as_slice())?;
                 Ok(())
             }
-            ItemTree::Process(process) => {
-                let number = small(self.processes.len());
-                self.processes.push(process)?;
-                self.numbers.insert(process.name.name.as_slice(), number)?;
-                Ok(())
-            }
+            ItemTree::Process(process) => self.add_process(process),
         }
+    }
+
+    fn add_process(&mut self, process: &'a ProcessTree) -> Result<(), AllocError>
+        ensures catalog { self.new.catalog ≡ self.old.catalog }
+        ensures knowing { OnOk result ((processes : List ProcessTree) → IsKnowing self.old processes → IsKnowing self.new (processes ++ process.now ∷ [])) }
+    {
+        let number = narrow(self.processes.len())?;
+        self.processes.push(process)?;
+        self.numbers.insert(process.name.name.as_slice(), number)?;
+        Ok(())
     }
 
     /// The processes of the text, in order.
@@ -79,21 +91,38 @@ impl<'a> Known<'a> {
     /// What an activity in the process of this number runs: a process that stands before it in the text,
     /// else the newest version that was imported earlier.
     pub fn callee(&self, process: u32, name: &'a NameAt) -> Option<Callee>
-        ensures { IfSome result (IsBefore self.now.catalog.now process) }
+        ensures before { IfSome result (IsBefore self.now.catalog.now process) }
+        ensures meant { result ≡ callee_meant self.now process name.now.name }
+    {
+        match self.earlier(process, name) {
+            Some(number) => Some(Callee::Text(number)),
+            None => self.stored(name),
+        }
+    }
+
+    /// The process of a name that stands before this one in the text.
+    fn earlier(&self, process: u32, name: &'a NameAt) -> Option<u32>
+        ensures before { IfSome result (λ number. number < process) }
+        ensures meant { result ≡ earlier_meant self.now process name.now.name }
     {
         match self.numbers.get(&name.name.as_slice()).copied() {
-            Some(number) if number < process => Some(Callee::Text(number)),
-            _ => self.stored(name),
+            None => None,
+            Some(number) => { if number < process { Some(number) } else { None } }
         }
     }
 
     /// The newest version of a process in the library.
     fn stored(&self, name: &'a NameAt) -> Option<Callee>
-        ensures { IfSome result (λ found. (number : ℕ) → IsBefore self.now.catalog.now number found) }
+        ensures before { IfSome result (λ found. (number : ℕ) → IsBefore self.now.catalog.now number found) }
+        ensures meant { result ≡ stored_meant self.now.catalog.now name.now.name }
     {
-        let place = self.catalog.newest(&name.name)?;
-        let _template = self.catalog.template(place)?;
-        Some(Callee::Library(place))
+        match self.catalog.newest(&name.name) {
+            None => None,
+            Some(place) => match self.catalog.template(place) {
+                None => None,
+                Some(_) => Some(Callee::Library(place)),
+            },
+        }
     }
 
     fn is_person(&self, name: &'a NameAt) -> bool {
@@ -205,11 +234,30 @@ pub fn unknown_person<'a>(known: &Known<'a>, scope: &Scope<'a>) -> Option<u32> {
 }
 
 /// Whether an activity is a program activity that a person starts.
-pub fn is_manual(activity: &ActivityTree) -> bool {
-    activity.attrs.as_slice().iter().any(|attribute| matches!(
-        attribute.what,
-        AttrTree::Start(true)
-    ))
+pub fn is_manual(activity: &ActivityTree) -> bool
+    ensures { result ≡ list_any (λ attribute. is_start_manual attribute.what) activity.now.attrs }
+{
+    for attribute in activity.attrs.as_slice() {
+        if starts_manual(&attribute.what) {
+            return true;
+        }
+    }
+    false
+}
+
+fn starts_manual(what: &AttrTree) -> bool
+    ensures { result ≡ is_start_manual what.now }
+{
+    match what {
+        AttrTree::Start(manual) => *manual,
+        AttrTree::When(_) => false,
+        AttrTree::Exit(_) => false,
+        AttrTree::Expires(_) => false,
+        AttrTree::Role(_) => false,
+        AttrTree::Person(_) => false,
+        AttrTree::Starter => false,
+        AttrTree::Performer(_) => false,
+    }
 }
 
 /// The first PERFORMER OF of an activity that names no manual activity, or one that doesn't lead here.

@@ -1,6 +1,6 @@
 //! The graphs of a text: its processes, and the blocks in them.
 ghost use Rattle.std.specs.Prelude.{◌≡◌, ℕ, ◌<◌, ◌≤◌, map, bytes_eq, IfOk, OnOk, option_copied, length, slice_get};
-ghost use Rattle.template_check.specs.Texts.{activities_in, controls_in, lines_in, number_in, pair_of, AreNumbered};
+ghost use Rattle.template_check.specs.Texts.{activities_in, controls_in, lines_in, number_in, activity_named, pair_of, AreNumbered};
 ghost use Rattle.template_check.specs.GraphEdges.{AreEdgesOf};
 
 use crate::edges::Edges;
@@ -122,6 +122,8 @@ impl<'a> Scope<'a> {
     ) -> Result<Scope<'a>, AllocError>
         ensures numbered { IfOk result (λ scope. scope.process ≡ process) }
         ensures elements { IfOk result (λ scope. scope.elements.now ≡ elements.now) }
+        ensures input { IfOk result (λ scope. scope.input.now ≡ input.now) }
+        ensures output { IfOk result (λ scope. scope.output.now ≡ output.now) }
     {
         let activities = activities_of(alloc, elements)?;
         let numbers = numbers_of(alloc, &activities)?;
@@ -153,9 +155,13 @@ impl<'a> Scope<'a> {
     }
 
     /// The activity of this name.
-    pub fn activity(&self, name: &'a NameAt) -> Option<&'a ActivityTree> {
-        let number = self.number(name)?;
-        self.activities.get(number as usize).copied()
+    pub fn activity(&self, name: &'a NameAt) -> Option<&'a ActivityTree>
+        ensures { option_copied result ≡ activity_named self.now.elements.now name.now.name }
+    {
+        match self.number(name) {
+            None => None,
+            Some(number) => self.activities.get(number as usize).copied(),
+        }
     }
 
     /// The connectors whose ends are known, as pairs of numbers.

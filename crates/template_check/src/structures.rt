@@ -309,19 +309,6 @@ impl<'a> Structures<'a> {
         Ok(Leaves { leaves })
     }
 
-    /// The leaves of the structure of this name, with `_RC` before them.
-    pub fn output_leaves(&self, alloc: Global, name: &'a NameAt) -> Result<Leaves, AllocError> {
-        let mut steps = List::new(alloc);
-        steps.push(Step::Rc)?;
-        let mut leaves = List::new(alloc);
-        leaves.push(Leaf {
-            name: LeafName { steps },
-            kind: Kind::Long,
-        })?;
-        self.add_leaves(alloc, name, &mut leaves)?;
-        Ok(Leaves { leaves })
-    }
-
     /// The place of the first array count outside 1 to 512.
     pub fn count_fault(&self) -> Option<u32> {
         let mut least = None;

@@ -2,7 +2,7 @@
 use Rattle.std.specs.Prelude.{◌≡◌, ℕ, ◌==◌, ◌^◌, ◌≤◌, ◌&&◌, Bool, true, false, Result, Ok, Err, Option, List, ◌++◌, length, position, bytes_eq}
 use Rattle.flow_model.specs.declared.graphs.Library.{Library}
 use Rattle.flow_model.specs.declared.graphs.Template.{Template}
-use Rattle.template_check.specs.Compiling.{IsNamedBy}
+use Rattle.template_check.specs.Compiling.{IsNamedBy, IsMeantBy}
 use Rattle.template_check.specs.Imports.{IsIndexed}
 use Rattle.template_check.specs.declared.catalog.Catalog.{Catalog}
 use Rattle.template_check.specs.declared.faults.ImportFault.{ImportFault}
@@ -17,11 +17,13 @@ version_place library name version = position (λ t. t.version == version && byt
 abbrev pub with_compiled : Library → Compiled → Library
 with_compiled library added = record { templates = library.templates ++ added.templates; people = library.people ++ added.people }
 
--- a library gets templates that are named as the processes of a text, behind those that it has
-pub record AddsProcessesOf (text : List ℕ) (old new : Library) : Type 0 where
+-- a library gets the templates of the processes of a text behind those that it has: they are named as these processes, and
+-- their graphs are what the text means, where its names are looked up in it and then in the library before
+pub record AddsProcessesOf (text : List ℕ) (old : Catalog) (new : Library) : Type 0 where
   pub added : List Template
   pub named : IsNamedBy text added
-  pub behind : new.templates ≡ old.templates ++ added
+  pub meant : IsMeantBy text old added
+  pub behind : new.templates ≡ old.library.templates ++ added
 
 -- a text is refused for a rule that it breaks
 abbrev pub is_refusal : {X : Type 0} → Result X ImportFault → Bool

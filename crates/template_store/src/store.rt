@@ -1,7 +1,7 @@
 //! The imports so far.
 ghost use Rattle.std.specs.Prelude.{◌≡◌, ◌-◌, ◌^◌, ◌<◌, ◌≤◌, ◌+◌, [], ◌++◌, min, length, slice_get, option_copied, Some, OnOk, IfOk, IfSome, ◌==◌, ◌&&◌, position, bytes_eq, true};
 ghost use Rattle.template_check.specs.Built.{AreSound, AreSoundBehind};
-ghost use Rattle.template_check.specs.Compiling.{IsNamedBy};
+ghost use Rattle.template_check.specs.Compiling.{IsNamedBy, IsMeantBy};
 ghost use Rattle.template_check.specs.Imports.{IsIndexed, newest_place, latest_person};
 ghost use Rattle.template_check.specs.declared.compiling.Compiled.{Compiled as Added};
 ghost use Rattle.template_store.specs.Store.{version_place, with_compiled, is_refusal, AddsProcessesOf, KeepsIndex};
@@ -32,6 +32,7 @@ impl TemplateStore {
     pub fn check(&self, alloc: Global, text: &[u8]) -> Result<Compiled, ImportFault>
         ensures sound { IfOk result (λ compiled. AreSoundBehind (length self.now.catalog.library.templates) compiled.templates) }
         ensures named { IfOk result (λ compiled. IsNamedBy text.now compiled.templates) }
+        ensures meant { IfOk result (λ compiled. IsMeantBy text.now self.now.catalog compiled.templates) }
     {
         compile(alloc, text, &self.catalog)
     }
@@ -40,7 +41,7 @@ impl TemplateStore {
     /// Without memory a part of them may have been added, the last one with no name that leads to it.
     pub fn import(&mut self, alloc: Global, text: &[u8]) -> Result<u32, ImportFault>
         ensures added { IfOk result (λ count. (added : Added) × (count ≡ min (length added.templates) (2 ^ 32 - 1)) × (self.new.catalog.library ≡ with_compiled self.old.catalog.library added)) }
-        ensures named { OnOk result (AddsProcessesOf text.now self.old.catalog.library self.new.catalog.library) }
+        ensures of_text { OnOk result (AddsProcessesOf text.now self.old.catalog self.new.catalog.library) }
         ensures indexed { OnOk result (KeepsIndex self.old.catalog self.new.catalog) }
         ensures refused { is_refusal result ≡ true → self.new ≡ self.old }
         ensures sound { OnOk result (AreSound self.old.catalog.library.templates → AreSound self.new.catalog.library.templates) }

@@ -1,6 +1,7 @@
 -- How the answers of the parts of `fate` are answers of the whole.
-use Rattle.std.proofs.Common.{◌≡◌, ℕ, ◌-◌, Option, Some, List, [], ◌∷◌, ◌++◌, Result, IfOk, codes, length, slice_get, unwrap_or, inl, inr, ap, sym, subst, ◌∙◌}
+use Rattle.std.proofs.Common.{◌≡◌, ℕ, ◌-◌, ◌+◌, Option, Some, None, List, [], ◌∷◌, ◌++◌, Result, IfOk, codes, length, slice_get, unwrap_or, inl, inr, ap, sym, subst, ◌∙◌, arith}
 use Rattle.std.specs.List.{All}
+use Rattle.std.specs.Option.{option_map}
 use Rattle.std.proofs.lemmas.Option.{get_or_from_slice_get, slice_get_within}
 use Rattle.std.proofs.lemmas.Result.{IfOk-weaker}
 use Rattle.fate_eval.specs.Passing.{AreFates}
@@ -18,12 +19,18 @@ use Rattle.flow_model.specs.declared.graphs.Library.{Library}
 use Rattle.flow_model.specs.declared.graphs.Template.{Template}
 use Rattle.flow_model.specs.declared.instances.Fact.{Fact}
 use Rattle.flow_model.specs.declared.instances.FateRow.{FateRow}
+use Rattle.flow_model.specs.declared.trees.ProcessTree.{ProcessTree}
 use Rattle.template_check.specs.Built.{AreSound}
+use Rattle.template_check.specs.Calling.{place_among, text_or}
 use Rattle.template_check.specs.Compiling.{IsNamedBy}
+use Rattle.template_check.specs.Imports.{IsIndexed}
+use Rattle.template_check.specs.Knowing.{place_named, stored_named}
+use Rattle.template_check.specs.Texts.{processes_in}
+use Rattle.template_check.specs.declared.catalog.Catalog.{Catalog}
 use Rattle.template_store.specs.Store.{AddsProcessesOf}
 use Rattle.template_check.proofs.Together.{laid_together, well_together}
 use Rattle.text_words.specs.Answers.{Refuses}
-use Rattle.text_words.specs.FateAnswers.{fates_text, fates_by, TellsFates, IsOfLast}
+use Rattle.text_words.specs.FateAnswers.{fates_text, fates_by, number_named, TellsFates, IsMeantAlone, IsOfLast}
 use Rattle.text_words.specs.declared.check.Answer.{Answer}
 use Rattle.text_words.specs.declared.completions.Read.{Read}
 
@@ -101,5 +108,33 @@ module _ {E : Type 0} (r : Result Answer E) (ts : List Template) (t : Template) 
       }) h
 
 -- what an import adds to a library that is empty is all of it
-pub named_alone : (text : List ℕ) (old new : Library) → old ≡ record { templates = []; people = [] } → AddsProcessesOf text old new → IsNamedBy text new.templates
-named_alone text old new empty adds = subst (IsNamedBy text) (sym (adds.behind ∙ ap (λ (l : Library). l.templates ++ adds.added) empty)) adds.named
+all_added : (text : List ℕ) (old : Catalog) (new : Library) → old.library ≡ record { templates = []; people = [] } → (adds : AddsProcessesOf text old new) → new.templates ≡ adds.added
+all_added text old new empty adds = adds.behind ∙ ap (λ (l : Library). l.templates ++ adds.added) empty
+
+-- and so they are the processes of the text
+pub named_alone : (text : List ℕ) (old : Catalog) (new : Library) → old.library ≡ record { templates = []; people = [] } → AddsProcessesOf text old new → IsNamedBy text new.templates
+named_alone text old new empty adds = subst (IsNamedBy text) (sym (all_added text old new empty adds)) adds.named
+
+-- behind an empty library a process that is named is one of the text, and stands at the place of its number
+place_alone : (earlier : Catalog) (processes : List ProcessTree) (number : ℕ) (name : List ℕ) → earlier.library ≡ record { templates = []; people = [] }
+    → place_named earlier processes number name ≡ number_named processes number name
+place_alone earlier processes number name empty = by (number_named processes number name)
+  where
+    by : (found : Option ℕ) → option_map (place_among earlier) (text_or found (stored_named earlier.library name)) ≡ found
+    by None = ap (λ (l : Library). option_map (place_among earlier) (stored_named l name)) empty
+    by (Some before) =
+        let behind_none : 0 + before ≡ before = omega arith in
+        ap (λ (l : Library). Some (length l.templates + before)) empty ∙ ap (λ (n : ℕ). Some n) behind_none
+
+-- and their graphs are what the text means
+pub meant_alone : (text : List ℕ) (old : Catalog) (new : Library) → IsIndexed old → old.library ≡ record { templates = []; people = [] } → AddsProcessesOf text old new → IsMeantAlone text new.templates
+meant_alone text old new indexed empty adds =
+    let meant = adds.meant in
+    subst (IsMeantAlone text) (sym (all_added text old new empty adds))
+    (record {
+      tree = meant.tree;
+      has = meant.has;
+      reading = meant.reading;
+      places = λ number name. meant.read.places indexed number name ∙ place_alone old (processes_in meant.tree.items) number name empty;
+      meant = meant.meant;
+    })

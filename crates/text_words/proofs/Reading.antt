@@ -48,7 +48,7 @@ of_same a b same all = subst (λ (s : Said). AreOfOne s.facts) (sym same) all
 -- an item that is named is of root 1
 of_item : (facts : List Fact) (t : TargetOf) (path : Path) → NamesItem facts t (Some path) → path.root ≡ 1
 of_item facts (target.Activity name) path h = let e : path ≡ next_of name facts = cc in ap (λ (p : Path). p.root) e
-of_item facts (target.Item token) path h = h.spelled.of_one
+of_item facts (target.Item token) path h = h.of_one
 
 of_settings : (number : ℕ) (item : Path) (output : Container) (made : Result (List Setting) ℕ) (old : Said) → item.root ≡ 1 → AreOfOne old.facts → AreOfOne (with_settings number item output made old).facts
 of_settings number item output (Ok settings) old is all = All-push (λ (fact : Fact). fact.item.root ≡ 1) old.facts (record { item = item; output = filled settings output }) all is

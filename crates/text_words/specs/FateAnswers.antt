@@ -1,5 +1,5 @@
 -- What the word `fate` answers.
-use Rattle.std.specs.Prelude.{◌≡◌, ℕ, ◌<◌, ◌-◌, ◌⊎◌, Option, Some, None, List, [], ◌∷◌, ◌++◌, codes, length, slice_get, unwrap_or}
+use Rattle.std.specs.Prelude.{◌≡◌, ℕ, ◌<◌, ◌-◌, ◌⊎◌, Option, Some, None, List, [], ◌∷◌, ◌++◌, bytes_eq, codes, length, slice_get, unwrap_or}
 use Rattle.std.specs.List.{flat_map}
 use Rattle.std.specs.Fmt.{decimal}
 use Rattle.flow_model.specs.Containers.{fresh}
@@ -10,12 +10,18 @@ use Rattle.flow_model.specs.declared.graphs.Leaves.{Leaves}
 use Rattle.flow_model.specs.declared.graphs.Template.{Template}
 use Rattle.flow_model.specs.declared.instances.Fact.{Fact}
 use Rattle.flow_model.specs.declared.instances.FateRow.{FateRow}
+use Rattle.flow_model.specs.declared.trees.ProcessTree.{ProcessTree}
+use Rattle.flow_model.specs.declared.trees.Tree.{Tree}
 use Rattle.reply_text.specs.Leaves.{container_text}
 use Rattle.reply_text.specs.Replies.{row_text}
 use Rattle.text_words.specs.Answers.{Tells, Refuses, RefusesRule}
 use Rattle.template_check.specs.declared.faults.RuleFault.{RuleFault}
 use Rattle.template_check.specs.Built.{AreSound}
-use Rattle.template_check.specs.Compiling.{IsNamedBy}
+use Rattle.template_check.specs.Calling.{before_this}
+use Rattle.template_check.specs.Compiling.{HasTree, IsNamedBy}
+use Rattle.template_check.specs.Imports.{last_place}
+use Rattle.template_check.specs.Meant.{Reading, AreMeantFrom}
+use Rattle.template_check.specs.Texts.{processes_in}
 use Rattle.text_words.specs.declared.check.Answer.{Answer}
 use Rattle.text_words.specs.declared.completions.LineFault.{LineFault}
 use Rattle.text_words.specs.declared.completions.LineFault.TheVariants.{Word, Target, Value}
@@ -87,9 +93,23 @@ pub record IsOfLast (answer : Answer) (ts : List Template) (last : Template) (re
 abbrev pub AnswersLibrary : Answer → List Template → List Numbered → Type 0
 AnswersLibrary answer ts behind = ((ts ≡ []) × Refuses answer (codes "PROCESS") []) ⊎ (last : Template) × (read : Read) × IsOfLast answer ts last read × IsRead ts last.graph behind read
 
--- the processes of a text, in order and by their names, each of them sound
+-- the number of the process that an activity in the process of this number runs by a name: it stands before in the text
+abbrev pub number_named : List ProcessTree → ℕ → List ℕ → Option ℕ
+number_named processes number name = before_this number (last_place (λ p. bytes_eq p.name.name name) processes)
+
+-- the graphs of these templates are what a text means behind an empty library: there is one reading of its names, the same
+-- for all its processes, by which each is meant, and a process stands at the place of its number
+pub record IsMeantAlone (text : List ℕ) (ts : List Template) : Type 0 where
+  pub tree : Tree
+  pub has : HasTree text tree
+  pub reading : Reading
+  pub places : (number : ℕ) (name : List ℕ) → reading.place number name ≡ number_named (processes_in tree.items) number name
+  pub meant : AreMeantFrom reading 0 (processes_in tree.items) ts
+
+-- the processes of a text, in order, by their names and with the graphs that the text means, each of them sound
 pub record IsAnsweredBy (text : List ℕ) (answer : Answer) (ts : List Template) (behind : List Numbered) : Type 0 where
   pub named : IsNamedBy text ts
+  pub meant : IsMeantAlone text ts
   pub sound : AreSound ts
   pub answers : AnswersLibrary answer ts behind
 

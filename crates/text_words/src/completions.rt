@@ -8,6 +8,7 @@ use crate::paths::written_item;
 use blocks_subprocs::graph_of;
 use command_lang::{CommandFault, read_completion};
 use containers::{fresh, settings_of, with_settings};
+use flow_io::MAX_LINE;
 use flow_model::{
     Activity, Completion, Fact, Graph, Library, List, Name, Outcome, Part, Path, Target, Work,
 };
@@ -213,8 +214,8 @@ impl Read {
         ensures { OnOk result (SaysLine library.now.templates graph.now numbered.now (said self.old) (said self.new)) }
     {
         let line = numbered.line.as_slice();
-        if line.len() > 65_536 {
-            self.stop(numbered.number, LineFault::Word(65_537));
+        if line.len() > MAX_LINE {
+            self.stop(numbered.number, LineFault::Word(MAX_LINE as u32 + 1));
             return Ok(());
         }
         match read_completion(alloc, line) {

@@ -1,5 +1,4 @@
 use Rattle.std.proofs.Common.{◌≡◌, ◌++◌, drop}
-use Rattle.std.specs.Prelude.{decimal}
 use Rattle.flow_model.specs.Paths.{parts_spelling}
 use Rattle.flow_model.proofs.paths.write_path.Given as goal
 

@@ -1,21 +1,54 @@
 use Rattle.std.proofs.Common.{◌≡◌, inr, rules}
 use Rattle.flow_core.specs.Summaries.{summary}
 use Rattle.flow_session.proofs.Runs.{opened, served}
+use Rattle.flow_words.proofs.Serving.{stood_there}
 use Rattle.flow_words.proofs.stored.run_script.Goals as goal
 
-pub returns-in-Ok-default : goal.returns-in-Ok-default
-returns-in-Ok-default g c told only =
+pub returns-in-Ok-default-clause-store : goal.returns-in-Ok-default-clause-store
+returns-in-Ok-default-clause-store g c told only =
     let f = c.serve_store.ensures.makes in
     inr (served g.D.Disk.tells g.D.Disk.moment g.D.Disk.left_since g.D.Disk.seen g.D.Disk.images c.args.disk c.reopen.new.disk c.serve_store.result.1 (summary c.in-Ok.session.core) _
     (opened g.D.Disk.tells g.D.Disk.moment g.D.Disk.left_since g.D.Disk.seen g.D.Disk.images c.args.disk c.reopen.new.disk only c.reopen.ensures.any_moment)
     c.in-Ok.ensures.seen (c.in-Ok.ensures.open told).holds
     (record { transactions = f.transactions; any_moment = f.any_moment; ended = λ done image left. f.ended (search rules) told image left }))
 
-pub returns-in-Err-default : goal.returns-in-Err-default
-returns-in-Err-default g c told only =
+pub returns-in-Err-default-clause-store : goal.returns-in-Err-default-clause-store
+returns-in-Err-default-clause-store g c told only =
     let f = c.serve_store.ensures.makes in
     let fails = rw c.in-Err-default.is-0 at c.serve_store.ensures.fails in
     inr (served g.D.Disk.tells g.D.Disk.moment g.D.Disk.left_since g.D.Disk.seen g.D.Disk.images c.args.disk c.reopen.new.disk c.serve_store.result.1 (summary c.in-Ok.session.core) _
     (opened g.D.Disk.tells g.D.Disk.moment g.D.Disk.left_since g.D.Disk.seen g.D.Disk.images c.args.disk c.reopen.new.disk only c.reopen.ensures.any_moment)
     c.in-Ok.ensures.seen (c.in-Ok.ensures.open told).holds
     (record { transactions = f.transactions; any_moment = f.any_moment; ended = λ done image left. absurd (fails done) }))
+
+pub returns-in-Ok-default-clause-runs : goal.returns-in-Ok-default-clause-runs
+returns-in-Ok-default-clause-runs g c = inr (
+  _,
+  record {
+    s = c.in-Ok.session;
+    log = c.in-Ok.log;
+    opened = c.reopen.new.disk;
+    keeps = λ only. opened g.D.Disk.tells g.D.Disk.moment g.D.Disk.left_since g.D.Disk.seen g.D.Disk.images c.args.disk c.reopen.new.disk only c.reopen.ensures.any_moment;
+    stood = λ told. stood_there g.D.Disk.seen c.args.disk c.reopen.new.disk (summary c.in-Ok.session.core) c.in-Ok.ensures.seen (c.in-Ok.ensures.open told).holds;
+    outside = c.in-Ok.ensures.outside;
+    right = c.in-Ok.ensures.right;
+    serves = c.serve_store.ensures.serves;
+  },
+  search rules,
+)
+
+pub returns-in-Err-default-clause-runs : goal.returns-in-Err-default-clause-runs
+returns-in-Err-default-clause-runs g c = inr (
+  _,
+  record {
+    s = c.in-Ok.session;
+    log = c.in-Ok.log;
+    opened = c.reopen.new.disk;
+    keeps = λ only. opened g.D.Disk.tells g.D.Disk.moment g.D.Disk.left_since g.D.Disk.seen g.D.Disk.images c.args.disk c.reopen.new.disk only c.reopen.ensures.any_moment;
+    stood = λ told. stood_there g.D.Disk.seen c.args.disk c.reopen.new.disk (summary c.in-Ok.session.core) c.in-Ok.ensures.seen (c.in-Ok.ensures.open told).holds;
+    outside = c.in-Ok.ensures.outside;
+    right = c.in-Ok.ensures.right;
+    serves = c.serve_store.ensures.serves;
+  },
+  search rules,
+)

@@ -1,8 +1,10 @@
-use Rattle.std.proofs.Common.{◌≡◌, ℕ, ◌+◌, length, Some, None, ap, subst, ◌∙◌}
+use Rattle.std.proofs.Common.{◌≡◌, ℕ, ◌+◌, List, take, length, Some, None, sym, ap, subst, ◌∙◌}
 use Rattle.flow_model.specs.declared.trees.ProcessTree.{ProcessTree}
 use Rattle.template_check.specs.Built.{IsSound}
 use Rattle.template_check.specs.Calling.{IsCalling}
-use Rattle.template_check.specs.Texts.{process_of}
+use Rattle.template_check.specs.Meant.{AreMeantFrom, reading_of}
+use Rattle.template_check.specs.Texts.{process_of, processes_in}
+use Rattle.template_check.proofs.Meaning.{kind_next, kind_past, meant_next}
 use Rattle.template_check.proofs.Calling.{sound_push}
 use Rattle.template_check.proofs.ProcessNames.{named_next, named_past}
 use Rattle.template_check.proofs.Judging.{all_kept}
@@ -13,7 +15,7 @@ pub template-requires : goal.template-requires
 template-requires c =
     let less = rw c.as_slice-item-items.ensures at c.loop-item-test.true in
     let is = rw c.as_slice-item-items.ensures at c.item-item.is in
-    all_kept process_of (λ (p : ProcessTree). IsSound p.elements) c.args.tree.now.items c.loop-item.item-index c.item-item.result c.in-Process.process c.requires less is (ap process_of c.in-Process.is)
+    all_kept process_of (λ (p : ProcessTree). IsSound p.elements) c.args.tree.now.items c.loop-item.item-index c.item-item.result c.in-Process.process c.requires.sound less is (ap process_of c.in-Process.is)
 
 pub loop-item-preserved : goal.loop-item-preserved
 loop-item-preserved c =
@@ -24,16 +26,21 @@ loop-item-preserved c =
     let is = rw c.as_slice-item-items.ensures at c.item-item.is in
     let so_far = c.loop-item.invariant in
     let past = λ (none : process_of x ≡ None). named_past items i x less is c.loop-item.templates none so_far.named in
+    let r = reading_of c.args.builder.now in
+    let not_meant = λ (none : process_of x ≡ None). subst (λ (ps : List ProcessTree). AreMeantFrom r 0 ps c.loop-item.templates) (sym (kind_past process_of items i x less is none)) so_far.meant in
     elim c.match-item.branch [
-      | in-Structure w ↦ rw w.templates-is (record { sound = so_far.sound; named = past (ap process_of w.in-Structure.is) })
-      | in-Person+in_ok-person-in-Person+in_ok-push-in-Person w ↦ rw w.templates-is (record { sound = so_far.sound; named = past (ap process_of w.in-Person.is) })
+      | in-Structure w ↦ rw w.templates-is (record { sound = so_far.sound; named = past (ap process_of w.in-Structure.is); meant = not_meant (ap process_of w.in-Structure.is) })
+      | in-Person+in_ok-person-in-Person+in_ok-push-in-Person w ↦ rw w.templates-is (record { sound = so_far.sound; named = past (ap process_of w.in-Person.is); meant = not_meant (ap process_of w.in-Person.is) })
       | in-Process+in_ok-narrow-in-Process+in_ok-template-in-Process+in_ok-push-in-Process w ↦
           let before = length c.args.builder.now.known.catalog.now.library.templates in
           let built = w.in_ok-template-in-Process in
           let calls = subst (λ (k : ℕ). IsCalling (before + k) built.template.graph) (w.in_ok-narrow-in-Process.ensures ∙ w.len-number.ensures) built.ensures.calls in
+          let number : w.in_ok-narrow-in-Process.field-0 ≡ length c.loop-item.templates = w.in_ok-narrow-in-Process.ensures ∙ w.len-number.ensures in
           let some : process_of x ≡ Some w.in-Process.process = ap process_of w.in-Process.is in
           rw w.templates-is (record {
             sound = rw w.in_ok-push-in-Process.ensures.ok (sound_push before c.loop-item.templates built.template so_far.sound built.ensures.sound calls);
             named = named_next items i x less is c.loop-item.templates w.push-in-Process.new.self built.template w.in-Process.process some w.in_ok-push-in-Process.ensures.ok built.ensures.named so_far.named;
+            meant = subst (λ (ps : List ProcessTree). AreMeantFrom r 0 ps w.push-in-Process.new.self) (sym (kind_next process_of items i x w.in-Process.process less is some))
+                (meant_next r (processes_in (take i items)) c.loop-item.templates w.push-in-Process.new.self w.in-Process.process built.template w.in_ok-narrow-in-Process.field-0 number w.in_ok-push-in-Process.ensures.ok so_far.meant built.ensures.meant);
           })
     ]

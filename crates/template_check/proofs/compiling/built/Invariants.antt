@@ -1,10 +1,13 @@
 use Rattle.std.proofs.Common.{◌≡◌, length, take}
 use Rattle.template_check.specs.Built.{AreSoundBehind}
 use Rattle.template_check.specs.Compiling.{process_names, template_names}
+use Rattle.template_check.specs.Meant.{AreMeantFrom, reading_of}
+use Rattle.template_check.specs.Texts.{processes_in}
 use Rattle.template_check.proofs.compiling.built.Given as goal
 
 abbrev pub invariant-loop-item : goal.invariant-loop-item
 invariant-loop-item l = record {
   sound : AreSoundBehind (length l.builder.known.catalog.now.library.templates) l.templates;
   named : template_names l.templates ≡ process_names (take l.item-index l.tree.items);
+  meant : AreMeantFrom (reading_of l.builder) 0 (processes_in (take l.item-index l.tree.items)) l.templates;
 }

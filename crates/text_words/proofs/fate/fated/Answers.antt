@@ -3,9 +3,9 @@ use Rattle.std.proofs.lemmas.Result.{IfOk-weaker}
 use Rattle.flow_model.specs.declared.graphs.Library.{Library}
 use Rattle.template_check.specs.Built.{AreSound}
 use Rattle.template_check.specs.Compiling.{IsNamedBy}
-use Rattle.text_words.specs.FateAnswers.{AnswersLibrary, AnswersText}
+use Rattle.text_words.specs.FateAnswers.{IsMeantAlone, AnswersLibrary, AnswersText}
 use Rattle.text_words.specs.declared.check.Answer.{Answer}
-use Rattle.text_words.proofs.Answering.{named_alone}
+use Rattle.text_words.proofs.Answering.{named_alone, meant_alone}
 use Rattle.text_words.proofs.fate.fated.Goals as goal
 
 pub returns-clause-judged : goal.returns-clause-judged
@@ -17,7 +17,11 @@ returns-clause-judged c = λ none ended.
     let named : IsNamedBy text ts
     = subst (λ (l : Library). IsNamedBy text l.templates) (sym c.library.ensures)
     (subst (λ (t : List ℕ). IsNamedBy t new.templates) c.deref.ensures.value
-    (named_alone c.deref.result.now c.new-store.result.catalog.library new c.new-store.ensures.empty c.in-Ok.ensures.named)) in
+    (named_alone c.deref.result.now c.new-store.result.catalog new c.new-store.ensures.empty c.in-Ok.ensures.of_text)) in
+    let meant : IsMeantAlone text ts
+    = subst (λ (l : Library). IsMeantAlone text l.templates) (sym c.library.ensures)
+    (subst (λ (t : List ℕ). IsMeantAlone t new.templates) c.deref.ensures.value
+    (meant_alone c.deref.result.now c.new-store.result.catalog new c.new-store.ensures.indexed c.new-store.ensures.empty c.in-Ok.ensures.of_text)) in
     let sound : AreSound ts = subst (λ (l : Library). AreSound l.templates) (sym c.library.ensures) (c.in-Ok.ensures.sound c.new-store.ensures.sound) in
     IfOk-weaker c.over_library.result (λ (answer : Answer). AnswersLibrary answer ts behind) (λ (answer : Answer). AnswersText text answer behind)
-    (λ (answer : Answer) h. inr (ts, record { named = named; sound = sound; answers = h })) c.over_library.ensures
+    (λ (answer : Answer) h. inr (ts, record { named = named; meant = meant; sound = sound; answers = h })) c.over_library.ensures

@@ -1,16 +1,29 @@
 use Rattle.std.proofs.Common.{rules}
 use Rattle.flow_core.specs.Summaries.{summary}
 use Rattle.flow_session.proofs.Calls.{makes_nothing}
+use Rattle.flow_session.proofs.Inputs.{says_command, says_none}
+use Rattle.flow_session.specs.Inputs.{unended}
 use Rattle.flow_session.proofs.serving.Session.line.Goals as goal
 
 pub returns-then-line-gt-MOST_LINE-clause-makes : goal.returns-then-line-gt-MOST_LINE-clause-makes
-returns-then-line-gt-MOST_LINE-clause-makes g c = makes_nothing g.J.Journal.tells g.J.Journal.moment g.J.Journal.left_since g.J.Journal.holds g.met.J.Journal.at_rest c.args.journal.now (summary c.args.self.now.core) _ c.requires (search rules)
+returns-then-line-gt-MOST_LINE-clause-makes g c = makes_nothing g.J.Journal.tells g.J.Journal.moment g.J.Journal.left_since g.J.Journal.holds g.met.J.Journal.at_rest c.args.journal.now (summary c.args.self.now.core) _ c.requires.open (search rules)
 
 pub returns-in-Ok-None-clause-makes : goal.returns-in-Ok-None-clause-makes
-returns-in-Ok-None-clause-makes g c = makes_nothing g.J.Journal.tells g.J.Journal.moment g.J.Journal.left_since g.J.Journal.holds g.met.J.Journal.at_rest c.args.journal.now (summary c.args.self.now.core) _ c.requires (search rules)
+returns-in-Ok-None-clause-makes g c = makes_nothing g.J.Journal.tells g.J.Journal.moment g.J.Journal.left_since g.J.Journal.holds g.met.J.Journal.at_rest c.args.journal.now (summary c.args.self.now.core) _ c.requires.open (search rules)
 
 pub returns-in-Err-Word-clause-makes : goal.returns-in-Err-Word-clause-makes
-returns-in-Err-Word-clause-makes g c = makes_nothing g.J.Journal.tells g.J.Journal.moment g.J.Journal.left_since g.J.Journal.holds g.met.J.Journal.at_rest c.args.journal.now (summary c.args.self.now.core) _ c.requires (search rules)
+returns-in-Err-Word-clause-makes g c = makes_nothing g.J.Journal.tells g.J.Journal.moment g.J.Journal.left_since g.J.Journal.holds g.met.J.Journal.at_rest c.args.journal.now (summary c.args.self.now.core) _ c.requires.open (search rules)
 
 pub returns-in-Err-NoMemory-clause-makes : goal.returns-in-Err-NoMemory-clause-makes
-returns-in-Err-NoMemory-clause-makes g c = makes_nothing g.J.Journal.tells g.J.Journal.moment g.J.Journal.left_since g.J.Journal.holds g.met.J.Journal.at_rest c.args.journal.now (summary c.args.self.now.core) _ c.requires (search rules)
+returns-in-Err-NoMemory-clause-makes g c = makes_nothing g.J.Journal.tells g.J.Journal.moment g.J.Journal.left_since g.J.Journal.holds g.met.J.Journal.at_rest c.args.journal.now (summary c.args.self.now.core) _ c.requires.open (search rules)
+
+pub returns-in-Ok-Some-clause-served : goal.returns-in-Ok-Some-clause-served
+returns-in-Ok-Some-clause-served g c =
+    let says = rw c.in-Ok-Some.field-0-is at c.in-Ok-Some.ensures.says in
+    let one = rw c.in-Ok-Some.field-0-is at c.in-Ok-Some.ensures.one in
+    says_command c.args.self.now.core c.command.new.self.core (unended c.command.new.self) c.args.line.now c.in-Ok-Some.command c.command.result says one c.command.ensures.served
+
+pub returns-in-Err-Word-clause-served : goal.returns-in-Err-Word-clause-served
+returns-in-Err-Word-clause-served g c =
+    let refused = rw c.in-Err-Word.field-0-is at c.in-Err-Word.ensures.refused in
+    says_none c.args.self.now c.args.line.now c.in-Err-Word.place c.numbered.result refused c.requires.outside (search rules)

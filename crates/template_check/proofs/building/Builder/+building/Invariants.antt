@@ -1,8 +1,10 @@
-use Rattle.std.proofs.Common.{◌≡◌, map, take}
+use Rattle.std.proofs.Common.{◌≡◌, ℕ, map, take}
 use Rattle.std.specs.List.{All}
 use Rattle.template_check.specs.Built.{IsSoundWork}
 use Rattle.template_check.specs.Calling.{place_behind, IsCallingWork}
-use Rattle.template_check.specs.Texts.{names_in}
+use Rattle.template_check.specs.Texts.{names_in, activities_in}
+use Rattle.template_check.specs.GraphTexts.{text_of}
+use Rattle.template_check.specs.Meant.{AreParts, IsOne, IsActivity, MeantTo, reading_of}
 use Rattle.template_check.proofs.building.Builder.+building.Given as goal
 
 abbrev pub invariant-activities-loop-element : goal.invariant-activities-loop-element
@@ -10,4 +12,5 @@ invariant-activities-loop-element l = record {
   named : map (λ a. a.name) l.activities ≡ names_in (take l.element-index l.elements);
   sound : All (λ x. IsSoundWork x.work) l.activities;
   calls : All (λ x. IsCallingWork (place_behind l.self.known.catalog.now l.scope.process) x.work) l.activities;
+  meant : (depth : ℕ) → AreParts (IsOne (IsActivity (MeantTo (reading_of l.self) depth) (reading_of l.self) (text_of l.scope))) (activities_in (take l.element-index l.elements)) l.activities;
 }

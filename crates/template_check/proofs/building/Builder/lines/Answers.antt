@@ -1,7 +1,13 @@
+use Rattle.std.proofs.Common.{Option, arith, subst}
 use Rattle.std.proofs.lemmas.List.Elements.{All-push}
+use Rattle.flow_model.specs.declared.graphs.DataLine.{DataLine}
 use Rattle.template_check.specs.Built.{IsDrawn}
+use Rattle.template_check.specs.GraphTexts.{text_of}
+use Rattle.template_check.specs.Leaves.{table_leaves}
+use Rattle.template_check.specs.Meant.{NoneLeft, IsDataLine}
 use Rattle.template_check.specs.Texts.{lines_in, IsLineAlong}
 use Rattle.template_check.proofs.Judging.{read_behind}
+use Rattle.template_check.proofs.Meaning.{parts_next, parts_past, parts_all, seen_more, seen_all}
 use Rattle.template_check.proofs.building.Builder.lines.Goals as goal
 use Rattle.template_check.proofs.building.Builder.lines.Goals.{in-None, in-Some+in_ok-push-in-Some}
 
@@ -12,12 +18,35 @@ data_line-requires c =
     let is = rw c.deref-line-items.ensures.value at c.line-item.is in
     read_behind (IsLineAlong scope.elements.now) scope.lines.items (lines_in scope.elements.now) c.loop-line.line-index c.line-item.result scope.with_lines c.requires less is
 
+pub loop-line-init : goal.loop-line-init
+loop-line-init c = rw c.new-lines.ensures (record { drawn = λ k d less. absurd (omega (arith, less)); meant = NoneLeft })
+
 pub loop-line-preserved : goal.loop-line-preserved
 loop-line-preserved c =
     let P = IsDrawn c.args.scope.now.elements.now in
+    let R = IsDataLine (table_leaves c.args.self.now.table) (text_of c.args.scope.now) in
+    let items = c.args.scope.now.lines.items in
+    let x = c.line-item.result in
+    let less = rw c.deref-line-items.ensures.value at c.loop-line-test.true in
+    let is = rw c.deref-line-items.ensures.value at c.line-item.is in
+    let more = seen_more items c.loop-line.line-index x less is in
+    let so_far = c.loop-line.invariant in
+    let meant = c.in_ok-data_line.ensures.meant in
     elim c.match-branch-2.branch [
-      | in-None w ↦ rw w.lines-is c.loop-line.invariant
+      | in-None w ↦
+          let here = subst (λ (o : Option DataLine). R x.now o) w.in-None.is meant in
+          rw w.lines-is (record { drawn = so_far.drawn; meant = parts_past R _ _ x.now c.loop-line.lines more here so_far.meant })
       | in-Some+in_ok-push-in-Some w ↦
-          let here = rw w.in-Some.is at c.in_ok-data_line.ensures in
-          rw (w.lines-is, w.in_ok-push-in-Some.ensures.ok) (All-push P c.loop-line.lines w.in-Some.line c.loop-line.invariant here)
+          let drawn = rw w.in-Some.is at c.in_ok-data_line.ensures.drawn in
+          let here = subst (λ (o : Option DataLine). R x.now o) w.in-Some.is meant in
+          rw w.lines-is (record {
+            drawn = rw w.in_ok-push-in-Some.ensures.ok (All-push P c.loop-line.lines w.in-Some.line so_far.drawn drawn);
+            meant = parts_next R _ _ x.now c.loop-line.lines w.push.new.self w.in-Some.line more w.in_ok-push-in-Some.ensures.ok here so_far.meant;
+          })
     ]
+
+pub returns-clause-meant : goal.returns-clause-meant
+returns-clause-meant c =
+    let scope = c.args.scope.now in
+    let past = rw c.deref-line-items.ensures.value at c.loop-line-test.false in
+    parts_all (IsDataLine (table_leaves c.args.self.now.table) (text_of scope)) _ (lines_in scope.elements.now) c.loop-line.lines (seen_all scope.lines.items c.loop-line.line-index (lines_in scope.elements.now) past scope.with_lines) c.loop-line.invariant.meant

@@ -1,5 +1,10 @@
-use Rattle.std.proofs.Common.{◌≡◌}
+use Rattle.std.proofs.Common.{◌≡◌, take}
+use Rattle.template_check.specs.Knowing.{IsKnowing}
+use Rattle.template_check.specs.Texts.{processes_in}
 use Rattle.template_check.proofs.people.Known.new.Given as goal
 
 abbrev pub invariant-loop-item : goal.invariant-loop-item
-invariant-loop-item l = l.known.catalog.now ≡ l.catalog
+invariant-loop-item l = record {
+  catalog : l.known.catalog.now ≡ l.catalog;
+  knowing : IsKnowing l.known (processes_in (take l.item-index l.item-items));
+}

@@ -9,9 +9,10 @@ returns-clause-sound c = λ sound.
     subst (λ (library : Library). AreSound library.templates) (sym c.in_ok-count.ensures.added.1)
     (sound_added c.args.self.now.catalog.library.templates c.in_ok-compiled.compiled.templates sound c.in_ok-compiled.ensures.sound)
 
-pub returns-clause-named : goal.returns-clause-named
-returns-clause-named c = record {
+pub returns-clause-of_text : goal.returns-clause-of_text
+returns-clause-of_text c = record {
   added = c.in_ok-compiled.compiled.templates;
   named = c.in_ok-compiled.ensures.named;
+  meant = c.in_ok-compiled.ensures.meant;
   behind = ap (λ (library : Library). library.templates) c.in_ok-count.ensures.added.1;
 }

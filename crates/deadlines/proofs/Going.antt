@@ -1,0 +1,40 @@
+-- What is open and what is overdue go by the clock, the live roots and the library alone.
+use Rattle.std.proofs.Common.{◌≡◌, ℕ, Bool, true, false, List, [], ◌∷◌, sym, ap, subst, ◌∙◌, map}
+use Rattle.std.specs.List.{filter_map}
+use Rattle.std.specs.BTreeMap.{BTreeMap}
+use Rattle.flow_model.specs.declared.graphs.Library.{Library}
+use Rattle.flow_model.specs.declared.instances.FateRow.{FateRow}
+use Rattle.flow_core.specs.Allowing.{mode_in}
+use Rattle.flow_core.specs.Answers.{AreRowsOf}
+use Rattle.flow_core.specs.OpenItems.{Open, told_of, open_in, AreOpenIf, AreOpenIn}
+use Rattle.flow_core.specs.Refusals.{is_going}
+use Rattle.flow_core.specs.declared.state.Core.{Core}
+use Rattle.flow_core.specs.declared.state.Root.{Root}
+use Rattle.deadlines.specs.Lateness.{AreDeclared, late_of, GoesByTheState}
+
+-- a state with these live roots and this library
+abbrev with_these : Core → BTreeMap ℕ Root → Library → Core
+with_these c roots library = record c { live_roots = roots; store = record c.store { catalog = record c.store.catalog { library = library } } }
+
+module _ (c c' : Core) (roots : c'.live_roots ≡ c.live_roots) (library : c'.store.catalog.library ≡ c.store.catalog.library) where
+  same_rows : (rows : List FateRow) → filter_map (open_in c) rows ≡ filter_map (open_in c') rows
+  same_rows rows =
+      ap (λ rs. filter_map (open_in (with_these c rs c.store.catalog.library)) rows) (sym roots)
+      ∙ ap (λ l. filter_map (open_in (with_these c c'.live_roots l)) rows) (sym library)
+
+  in_root : (r : Root) (going : Bool) (opens : List Open) → AreOpenIf c r.instance going opens → AreOpenIf c' r.instance going opens
+  in_root r false opens is = is
+  in_root r true opens is = (is.0, subst (λ l. AreRowsOf l r.instance is.0) (sym library) is.1, is.2 ∙ same_rows is.0)
+
+  in_roots : (rs : List (ℕ × Root)) (opens : List Open) → AreOpenIn c rs opens → AreOpenIn c' rs opens
+  in_roots [] opens is = is
+  in_roots (r ∷ rs) opens is = (is.0, is.1, in_root r.1 (is_going (mode_in r.1.instance)) is.0 is.2, in_roots rs is.1 is.3, is.4)
+
+pub goes_by_the_state : GoesByTheState
+goes_by_the_state c c' lates clock roots library is = (
+  is.0,
+  subst (λ l. AreDeclared l is.0) (sym library) is.1,
+  is.2,
+  in_roots c c' roots library c'.live_roots.entries (map told_of is.2) (subst (λ (m : BTreeMap ℕ Root). AreOpenIn c m.entries (map told_of is.2)) (sym roots) is.3),
+  is.4 ∙ ap (λ t. filter_map (late_of t is.0) is.2) (sym clock),
+)

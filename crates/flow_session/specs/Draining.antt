@@ -1,0 +1,49 @@
+-- A DRAIN: messages are taken one after another, from the queues in turn.
+use Rattle.std.specs.Prelude.{◌≡◌, ℕ, ◌+◌, ◌-◌, ◌^◌, ◌≤◌, nat_le, nat_lt, min, true, false, if◌then◌else◌, List, [], ◌∷◌, ◌++◌, length, codes}
+use Rattle.std.specs.Fmt.{decimal}
+use Rattle.recover_queue.specs.Queues.{is_quiet}
+use Rattle.flow_model.specs.declared.instances.Message.{Message}
+use Rattle.flow_model.specs.declared.transactions.Transaction.TheVariants.{Turn}
+use Rattle.flow_core.specs.Answers.{has_message}
+use Rattle.flow_core.specs.Summaries.{summary, next}
+use Rattle.flow_core.specs.Verdicts.{IsFront}
+use Rattle.flow_core.specs.declared.state.Core.{Core}
+
+-- how many queues come before this one, in turn from another one on
+abbrev pub queues_before : ℕ → ℕ → ℕ → ℕ
+queues_before count from queue = if nat_le from queue then queue - from else queue + count - from
+
+-- of the queues that have a message, it is the first in turn from another one on
+pub record IsNextQueue (c : Core) (from queue : ℕ) : Type 0 where
+  pub has : has_message c queue ≡ true
+  pub first : (other : ℕ) → has_message c other ≡ true → queues_before (length c.queues) from queue ≤ queues_before (length c.queues) from other
+
+-- the queue behind it, in turn
+abbrev pub queue_behind : ℕ → ℕ → ℕ
+queue_behind count queue = if nat_lt queue count then queue + 1 else 1
+
+-- the message at the front of a queue is taken
+pub record TakesFront (old new : Core) (queue : ℕ) : Type 0 where
+  pub message : Message
+  pub front : IsFront old queue message
+  pub came : summary new ≡ next (Turn queue message) (summary old)
+
+-- so many messages are taken, one after another; then the turn is at this queue
+pub data TakesInTurn (c : Core) : ℕ → ℕ → Core → Type 0 where
+  NoTurn : TakesInTurn c 0 1 c
+  OneTurn : {n from queue : ℕ} {c' c'' : Core} → TakesInTurn c n from c' → IsNextQueue c' from queue → TakesFront c' c'' queue → TakesInTurn c (n + 1) (queue_behind (length c'.queues) queue) c''
+
+-- the reply of a DRAIN that took so many messages: all, or until the limit was met
+abbrev pub turns_text : ℕ → List ℕ
+turns_text turns = codes "ok TURNS " ++ decimal turns ++ 10 ∷ []
+
+abbrev pub full_text : ℕ → ℕ → List ℕ
+full_text limit turns = codes "no FULL " ++ decimal limit ++ codes " TURNS " ++ decimal turns ++ 10 ∷ []
+
+-- messages are taken in turn until no queue has one, or the limit is met; the reply says which, and how many were taken
+pub record IsDrained (old new : Core) (reply : List ℕ) : Type 0 where
+  pub turns : ℕ
+  pub turn : ℕ
+  pub taken : TakesInTurn old turns turn new
+  pub ended : is_quiet new.queues ≡ false → new.limit ≤ new.number
+  pub told : reply ≡ (if is_quiet new.queues then turns_text (min turns (2 ^ 64 - 1)) else full_text new.limit (min turns (2 ^ 64 - 1)))

@@ -1,0 +1,139 @@
+-- A script that is served: its inputs, and what is printed.
+use Rattle.std.specs.Prelude.{◌≡◌, ◌⊎◌, ℕ, ◌≤◌, Option, None, Some, IfSome, List, [], ◌++◌, map, codes, Result, Ok, Err}
+use Rattle.std.specs.List.{flat_map}
+use Rattle.std.specs.Io.KnownBytes.{Appends, Keeps}
+use Rattle.flow_disk.specs.Images.{Image}
+use Rattle.flow_disk.specs.Moments.{Only}
+use Rattle.txn_log.specs.declared.log.Log.{Log}
+use Rattle.flow_io.specs.Inputs.{Input as LineInput, Served, PassedOver, AtEnd, inputs}
+use Rattle.flow_core.specs.Summaries.{Summary, summary}
+use Rattle.flow_session.specs.Scripts.{ServesOne, ServesAll}
+use Rattle.flow_session.specs.Serving.{Makes}
+use Rattle.flow_session.specs.declared.serving.Session.{Session}
+use Rattle.flow_session.specs.Histories.{StandsFor}
+use Rattle.flow_session.specs.Inputs.{Given, Line, Long, End, unended}
+use Rattle.flow_session.specs.Keeping.{IsOpen}
+use Rattle.flow_session.specs.Runs.{KeepsStore}
+use Rattle.flow_session.specs.declared.store.Stored.{Stored}
+use Rattle.flow_session.specs.declared.journal.NoJournal.{NoJournal}
+use Rattle.core_laws.specs.RightStates.{IsRightCore}
+use Rattle.flow_words.specs.Crashes.{empty_history}
+use Rattle.flow_words.specs.Numbers.{AreSettings, NamesSome}
+use Rattle.flow_words.specs.Printed.{PrintsPart, Prints}
+use Rattle.flow_words.specs.declared.pure.Word.{Word}
+use Rattle.flow_words.specs.declared.pure.Word.TheVariants.{Check, Fate, Try, Load}
+use Rattle.flow_words.specs.declared.status.Status.{Status}
+use Rattle.flow_words.specs.declared.status.Status.TheVariants.{Done, Usage, Store, StoreFault, ReadFault, WriteFault, NoMemory, ScriptTooLong, Refused}
+
+-- what a session is given of a line
+abbrev pub input_of : LineInput → Given
+input_of (Served line) = Line line
+input_of PassedOver = Long
+input_of AtEnd = End
+
+-- the inputs in the bytes of a script
+abbrev pub script_inputs : List ℕ → List Given
+script_inputs bytes = map input_of (inputs bytes 268435456)
+
+-- these are the first inputs of a source that tells its bytes, and those are the others
+abbrev pub AreFirst : Option (List ℕ) → List Given → List Given → Type 0
+AreFirst left first others = IfSome left (λ bytes. script_inputs bytes ≡ first ++ others)
+
+-- the replies one behind the other
+abbrev pub all_replies : List (List ℕ) → List ℕ
+all_replies replies = flat_map (λ reply. reply) replies
+
+-- An input is served and its reply printed; or the call fails before it replies, and nothing is printed; or the sink fails behind a front part of the reply.
+abbrev pub ServesAndPrints : {J : Type 0} → Type 0 → (J → Summary → Type 0) → (J → ℕ) → (J → ℕ → Image → Type 0) → Option (List ℕ) → Option (List ℕ) → Given → Session → Session → J → J → Result (Unit {0}) Status → Type 0
+ServesAndPrints tells holds moment left_since held held' input s s' j j' (Ok done) =
+    (reply : List ℕ) × ServesOne tells holds moment left_since input reply s s' j j' × Appends held held' reply
+ServesAndPrints tells holds moment left_since held held' input s s' j j' (Err status) =
+    (Keeps held held' × Makes tells moment left_since j j' (summary s.core) (λ _. Unit {0}))
+    ⊎ ((reply : List ℕ) × ServesOne tells holds moment left_since input reply s s' j j' × PrintsPart held held' reply)
+
+-- The first inputs of a script are served one after the other, each reply printed before the next input is read; then the run ends, within the call under way where it fails.
+pub record ServesScript {J : Type 0} (tells : Type 0) (holds : J → Summary → Type 0) (moment : J → ℕ) (left_since : J → ℕ → Image → Type 0) (left held held' : Option (List ℕ)) (s s' : Session) (j j' : J) (ended : Result (Unit {0}) Status) : Type 0 where
+  pub first : List Given
+  pub others : List Given
+  pub replies : List (List ℕ)
+  pub last : Session
+  pub journal : J
+  pub inputs : AreFirst left first others
+  pub served : ServesAll tells holds moment left_since s j first replies last journal
+  pub under_way : Makes tells moment left_since journal j' (summary last.core) (λ _. Unit {0})
+  pub printed : PrintsPart held held' (all_replies replies)
+  pub whole : ended ≡ Ok tt → (others ≡ []) × (s' ≡ last) × (j' ≡ journal) × Appends held held' (all_replies replies)
+
+-- a session over the empty history of a store with so many queues and this limit
+pub record IsFresh (queues limit : ℕ) (s : Session) : Type 0 where
+  pub empty : summary s.core ≡ empty_history queues limit
+  pub outside : unended s ≡ None
+  pub right : 1 ≤ queues → IsRightCore s.core
+
+-- `try`: a session over the empty history serves the script, in memory alone; without memory for the session nothing is printed
+abbrev pub IsTried : ℕ → ℕ → Option (List ℕ) → Option (List ℕ) → Option (List ℕ) → Result (Unit {0}) Status → Type 0
+IsTried queues limit left held held' ended =
+    ((ended ≡ Err NoMemory) × Keeps held held')
+    ⊎ ((s : Session) × (s' : Session) × (j : NoJournal) × (j' : NoJournal) × IsFresh queues limit s × ServesScript ⊥ (λ _ _. ⊥) (λ _. 0) (λ _ _ _. ⊥) left held held' s s' j j' ended)
+
+-- A session serves the script over the log of an opened store, and gives the disk back.
+pub record ServesOver {D : Type 0} (tells : Type 0) (moment : D → ℕ) (left_since : D → ℕ → Image → Type 0) (seen : D → Image) (images : D → Image → Type 0) (left held held' : Option (List ℕ)) (s : Session) (log : Log) (disk disk' : D) (ended : Result (Unit {0}) Status) : Type 0 where
+  pub s' : Session
+  pub journal : Stored D
+  pub journal' : Stored D
+  pub script : ServesScript tells (λ j. IsOpen seen images j.log j.disk) (λ j. moment j.disk) (λ j. left_since j.disk) left held held' s s' journal journal' ended
+  pub over : (journal.log ≡ log) × (journal.disk ≡ disk)
+  pub given_back : disk' ≡ journal'.disk
+
+-- A store is opened, which leaves what was there, and a session over the state that it stands for serves the script.
+pub record ServesStoreScript {D : Type 0} (tells : Type 0) (moment : D → ℕ) (left_since : D → ℕ → Image → Type 0) (seen : D → Image) (images : D → Image → Type 0) (left held held' : Option (List ℕ)) (disk disk' : D) (ended : Result (Unit {0}) Status) : Type 0 where
+  pub s : Session
+  pub log : Log
+  pub opened : D
+  pub keeps : Only (seen disk) (images disk) → KeepsStore moment left_since seen disk opened
+  pub stood : tells → StandsFor (summary s.core) (seen disk)
+  pub outside : unended s ≡ None
+  pub right : 1 ≤ (summary s.core).queues → IsRightCore s.core
+  pub serves : ServesOver tells moment left_since seen images left held held' s log opened disk' ended
+
+-- how a script that is served ends the program
+abbrev pub status_after : Result (Unit {0}) Status → Status
+status_after (Ok done) = Done
+status_after (Err status) = status
+
+-- how a word over a store ends the program
+abbrev pub status_of_word : Result Status Status → Status
+status_of_word (Ok status) = status
+status_of_word (Err status) = status
+
+-- a run over a store ends without having served an input
+abbrev pub IsUnserved : Status → Type 0
+IsUnserved Done = ⊥
+IsUnserved Usage = ⊥
+IsUnserved Store = Unit {0}
+IsUnserved StoreFault = Unit {0}
+IsUnserved ReadFault = ⊥
+IsUnserved WriteFault = Unit {0}
+IsUnserved NoMemory = Unit {0}
+IsUnserved ScriptTooLong = ⊥
+IsUnserved Refused = ⊥
+
+-- `run`: the store isn't opened, or it is, and serves the script
+abbrev pub RunsStore : {D : Type 0} → Type 0 → (D → ℕ) → (D → ℕ → Image → Type 0) → (D → Image) → (D → Image → Type 0) → Option (List ℕ) → Option (List ℕ) → Option (List ℕ) → D → D → Status → Type 0
+RunsStore tells moment left_since seen images left held held' disk disk' ended =
+    IsUnserved ended
+    ⊎ ((served : Result (Unit {0}) Status) × ServesStoreScript tells moment left_since seen images left held held' disk disk' served × (ended ≡ status_after served))
+
+-- the word `try` with these words behind it, which name its settings
+abbrev pub IsTryWord : List (List ℕ) → Option Word → Type 0
+IsTryWord words None = NamesSome words
+IsTryWord words (Some Check) = ⊥
+IsTryWord words (Some Fate) = ⊥
+IsTryWord words (Some (Try settings)) = AreSettings words settings.queues settings.limit
+IsTryWord words (Some (Load seed roots)) = ⊥
+
+-- `try` with these words behind it: they don't name settings, and that is printed; or a script is served over the empty history of such a store
+abbrev pub PrintsTry : List (List ℕ) → Option (List ℕ) → Option (List ℕ) → Option (List ℕ) → Status → Type 0
+PrintsTry words left held held' ended =
+    (NamesSome words × Prints (codes "no USAGE\n") Usage held held' ended)
+    ⊎ ((queues : ℕ) × (limit : ℕ) × AreSettings words queues limit × ((served : Result (Unit {0}) Status) × IsTried queues limit left held held' served × (ended ≡ status_after served)))

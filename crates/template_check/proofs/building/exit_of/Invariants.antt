@@ -1,0 +1,6 @@
+use Rattle.std.proofs.Common.{◌≡◌, drop}
+use Rattle.template_check.specs.Attributes.{first_said, exit_said}
+use Rattle.template_check.proofs.building.exit_of.Given as goal
+
+abbrev pub invariant-loop-attribute : goal.invariant-loop-attribute
+invariant-loop-attribute l = first_said exit_said (drop l.attribute-index l.attribute-items) ≡ first_said exit_said l.activity.attrs
