@@ -2,13 +2,12 @@
 use Rattle.std.proofs.Common.{◌≡◌, ℕ, Bool, true, false, List, Option, Some, None, Result, Ok, Err, IfOk, OnOk, refl, ap, subst, ◌∙◌}
 use Rattle.std.specs.Global.{Vec}
 use Rattle.std.specs.Option.{option_map}
-use Rattle.command_lang.specs.Reading.{SaysCommand, IsOnlyCommand, IsRefusal}
-use Rattle.command_lang.specs.declared.reading.CommandFault.TheVariants.{Word}
+use Rattle.command_lang.specs.Reading.{SaysCommand, IsOnlyCommand}
 use Rattle.flow_model.specs.declared.commands.Command.{Command}
 use Rattle.flow_model.specs.declared.commands.Command.TheVariants.{Import, Start, Turn, Drain, Claim, Release, Transfer, Take, Done, Force, Restart, Suspend, Resume, Terminate, Delete, Clock, Checkpoint, Ask}
 use Rattle.flow_model.specs.declared.commands.Query.{Query}
 use Rattle.flow_core.specs.declared.state.Core.{Core}
-use Rattle.flow_session.specs.Inputs.{Unended, Answers, IsCommanded, ServesLine, CommandLine, WrongLine, ServesText, unended, unended_in, word_text}
+use Rattle.flow_session.specs.Inputs.{Unended, Answers, IsCommanded, ServesLine, IsWrongAt, CommandLine, WrongLine, ServesText, unended, unended_in, word_text}
 use Rattle.flow_session.specs.Replying.{IsObeyed}
 use Rattle.flow_session.specs.declared.serving.Session.{Session}
 
@@ -54,7 +53,7 @@ module _ {E : Type 0} where
   says_command old new after line command (Err e) says one is = tt
 
   -- a line that can't be read
-  pub says_none : (s : Session) (line : List ℕ) (place : ℕ) (r : Result (Vec ℕ) E) → IsRefusal line (Word place) → s.gathered ≡ None → IfOk r (λ reply. reply.items ≡ word_text place) → IfOk r (λ reply. ServesLine line s.core s.core (unended s) reply.items)
+  pub says_none : (s : Session) (line : List ℕ) (place : ℕ) (r : Result (Vec ℕ) E) → IsWrongAt line place → s.gathered ≡ None → IfOk r (λ reply. reply.items ≡ word_text place) → IfOk r (λ reply. ServesLine line s.core s.core (unended s) reply.items)
   says_none s line place (Ok reply) refused outside is = WrongLine refused (record { same = refl; gathers = none_gathered s outside; replies = is })
   says_none s line place (Err e) refused outside is = tt
 

@@ -1,7 +1,8 @@
 -- What one input of a session does: to the state, to the text of an IMPORT that isn't ended yet, and what is replied.
 use Rattle.std.specs.Prelude.{◌≡◌, ℕ, ◌<◌, ◌≤◌, nat_le, Bool, true, false, ◌||◌, if◌then◌else◌, Option, Some, None, option_map, List, [], ◌∷◌, ◌++◌, length, codes, bytes_eq}
 use Rattle.std.specs.Fmt.{decimal}
-use Rattle.command_lang.specs.Reading.{AreLineTokens, SaysCommand, IsOnlyCommand, IsRefusal}
+use Rattle.command_lang.specs.Reading.{AreLineTokens, SaysCommand, IsOnlyCommand, IsRefusal, RefusesFirst}
+use Rattle.command_lang.specs.Refusing.{SomeCommand}
 use Rattle.command_lang.specs.declared.reading.CommandFault.TheVariants.{Word}
 use Rattle.flow_model.specs.declared.commands.Command.{Command}
 use Rattle.flow_model.specs.declared.commands.Command.TheVariants.{Import, Drain, Checkpoint, Ask}
@@ -70,6 +71,12 @@ IsCommanded old new command after reply = IsObeyed old new command reply × (aft
 abbrev pub Says : List ℕ → Command → Type 0
 Says line command = SaysCommand line (Some command) × IsOnlyCommand line (Some command)
 
+-- the line says no command, and this is the place: of its first wrong byte, or of the first token that can't stand there
+pub record IsWrongAt (line : List ℕ) (place : ℕ) : Type 0 where
+  pub refused : IsRefusal line (Word place)
+  pub none : IsOnlyCommand line None
+  pub first : RefusesFirst SomeCommand line (Word place)
+
 abbrev pub long_text : List ℕ
 long_text = codes "no LINE\n"
 
@@ -84,7 +91,7 @@ pub data ServesLine (line : List ℕ) (old new : Core) (after : Option Unended) 
   LongLine : 65536 < length line → Answers old new None after long_text reply → ServesLine line old new after reply
   BlankLine : AreLineTokens line [] → Answers old new None after [] reply → ServesLine line old new after reply
   CommandLine : {command : Command} → Says line command → IsCommanded old new command after reply → ServesLine line old new after reply
-  WrongLine : {place : ℕ} → IsRefusal line (Word place) → Answers old new None after (word_text place) reply → ServesLine line old new after reply
+  WrongLine : {place : ℕ} → IsWrongAt line place → Answers old new None after (word_text place) reply → ServesLine line old new after reply
 
 -- an input outside an IMPORT: a line, or one that was passed over, or the end
 abbrev pub ServesOutside : Given → Core → Core → Option Unended → List ℕ → Type 0

@@ -1,7 +1,8 @@
 -- How what is read line by line is what all lines say, and that it is of root 1.
 use Rattle.std.proofs.Common.{◌≡◌, ℕ, ◌+◌, ◌<◌, Option, Some, None, Result, Ok, Err, List, [], ◌∷◌, length, get_or, drop, drop-cons, add-one, refl, sym, subst, ap, inl, inr}
 use Rattle.std.proofs.lemmas.List.Elements.{All-nil, All-push}
-use Rattle.command_lang.specs.Reading.{SaysCompletion, IsOnlyCompletion, IsRefusal}
+use Rattle.command_lang.specs.Reading.{SaysCompletion, IsOnlyCompletion, IsRefusal, RefusesNoCompletion, RefusesFirst}
+use Rattle.command_lang.specs.Refusing.{SomeCompletion}
 use Rattle.command_lang.specs.declared.reading.CommandFault.{CommandFault}
 use Rattle.command_lang.specs.declared.reading.CommandFault.TheVariants.{Word as WordAt}
 use Rattle.containers.specs.Settings.{filled}
@@ -17,7 +18,7 @@ use Rattle.flow_model.specs.declared.graphs.Template.{Template}
 use Rattle.flow_model.specs.declared.instances.Fact.{Fact}
 use Rattle.flow_model.specs.declared.instances.Path.{Path}
 use Rattle.flow_model.specs.declared.transactions.Setting.{Setting}
-use Rattle.text_words.specs.Completions.{Said, unsaid, said, with_fault, with_settings, next_of, NamesItem, program_at, SaysOf, SaysItem, SaysLine, SaysBehind, AreRead, IsRead, AreOfOne}
+use Rattle.text_words.specs.Completions.{IsWrongAt, Said, unsaid, said, with_fault, with_settings, next_of, NamesItem, program_at, SaysOf, SaysItem, SaysLine, SaysBehind, AreRead, IsRead, AreOfOne}
 use Rattle.text_words.specs.declared.completions.LineFault.{LineFault}
 use Rattle.text_words.specs.declared.completions.LineFault.TheVariants.{Word, Target}
 use Rattle.text_words.specs.declared.completions.Read.{Read}
@@ -38,8 +39,12 @@ spoken_line bytes line o c same is h = subst (λ (l : List ℕ). SaysCompletion 
 pub only_line : (bytes line : List ℕ) (o : Option Completion) (c : Completion) → bytes ≡ line → o ≡ Some c → IsOnlyCompletion bytes o → IsOnlyCompletion line (Some c)
 only_line bytes line o c same is h = subst (λ (l : List ℕ). IsOnlyCompletion l (Some c)) same (subst (λ (s : Option Completion). IsOnlyCompletion bytes s) is h)
 
-pub refused_line : (bytes line : List ℕ) (e : CommandFault) (place : ℕ) → bytes ≡ line → e ≡ WordAt place → IsRefusal bytes e → IsRefusal line (WordAt place)
-refused_line bytes line e place same is h = subst (λ (l : List ℕ). IsRefusal l (WordAt place)) same (subst (λ (f : CommandFault). IsRefusal bytes f) is h)
+pub refused_line : (bytes line : List ℕ) (e : CommandFault) (place : ℕ) → bytes ≡ line → e ≡ WordAt place → IsRefusal bytes e → RefusesNoCompletion bytes e → RefusesFirst SomeCompletion bytes e → IsWrongAt line place
+refused_line bytes line e place same is h none first = record {
+  refused = subst (λ (l : List ℕ). IsRefusal l (WordAt place)) same (subst (λ (f : CommandFault). IsRefusal bytes f) is h);
+  none = subst (λ (l : List ℕ). RefusesNoCompletion l (WordAt place)) same (subst (λ (f : CommandFault). RefusesNoCompletion bytes f) is none);
+  first = subst (λ (l : List ℕ). RefusesFirst SomeCompletion l (WordAt place)) same (subst (λ (f : CommandFault). RefusesFirst SomeCompletion bytes f) is first);
+}
 
 -- what is said is so where it is something of which that holds
 of_same : (a b : Said) → a ≡ b → AreOfOne b.facts → AreOfOne a.facts

@@ -2,7 +2,8 @@
 use Rattle.std.specs.Prelude.{◌≡◌, ◌⊎◌, ℕ, ◌+◌, ◌-◌, ◌^◌, ◌≤◌, ◌<◌, min, Bool, false, Option, Some, None, Result, Ok, Err, List, [], ◌∷◌, ◌++◌, length, bytes_eq}
 use Rattle.std.specs.List.{All, filter, find}
 use Rattle.std.specs.Option.{option_and_then}
-use Rattle.command_lang.specs.Reading.{AreLineTokens, SaysCompletion, IsOnlyCompletion, IsRefusal}
+use Rattle.command_lang.specs.Reading.{AreLineTokens, SaysCompletion, IsOnlyCompletion, IsRefusal, RefusesFirst}
+use Rattle.command_lang.specs.Refusing.{SomeCompletion}
 use Rattle.command_lang.specs.declared.reading.CommandFault.TheVariants.{Word as WordAt}
 use Rattle.containers.specs.Settings.{filled, outcome_by}
 use Rattle.flow_model.specs.Containers.{fresh}
@@ -141,9 +142,15 @@ pub record IsCompletionLine (ts : List Template) (g : Graph) (line : Numbered) (
   pub one : IsOnlyCompletion line.line.items (Some completion)
   pub says : SaysIt ts g line.number completion old new
 
--- the place for which a line is refused: behind the longest line that can be served, or where its bytes or its tokens are wrong
+-- the line says no completion, and this is the place: of its first wrong byte, or of the first token that can't stand there
+pub record IsWrongAt (line : List ℕ) (place : ℕ) : Type 0 where
+  pub refused : IsRefusal line (WordAt place)
+  pub none : IsOnlyCompletion line None
+  pub first : RefusesFirst SomeCompletion line (WordAt place)
+
+-- the place for which a line is refused: behind the longest line that can be served, or where it is wrong
 abbrev pub IsWordPlace : List ℕ → ℕ → Type 0
-IsWordPlace line place = (65536 < length line) × (place ≡ 65537) ⊎ (length line ≤ 65536) × IsRefusal line (WordAt place)
+IsWordPlace line place = (65536 < length line) × (place ≡ 65537) ⊎ (length line ≤ 65536) × IsWrongAt line place
 
 -- a line that is refused
 pub record IsRefusedLine (line : Numbered) (old new : Said) : Type 0 where

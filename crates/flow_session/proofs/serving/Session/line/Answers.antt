@@ -26,4 +26,6 @@ returns-in-Ok-Some-clause-served g c =
 pub returns-in-Err-Word-clause-served : goal.returns-in-Err-Word-clause-served
 returns-in-Err-Word-clause-served g c =
     let refused = rw c.in-Err-Word.field-0-is at c.in-Err-Word.ensures.refused in
-    says_none c.args.self.now c.args.line.now c.in-Err-Word.place c.numbered.result refused c.requires.outside (search rules)
+    let none = rw c.in-Err-Word.field-0-is at c.in-Err-Word.ensures.none in
+    let first = rw c.in-Err-Word.field-0-is at c.in-Err-Word.ensures.first in
+    says_none c.args.self.now c.args.line.now c.in-Err-Word.place c.numbered.result (record { refused = refused; none = none; first = first }) c.requires.outside (search rules)

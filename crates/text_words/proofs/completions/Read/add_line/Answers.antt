@@ -24,6 +24,6 @@ returns-in-Err-Word c =
     let line = c.args.numbered.now in
     let same : c.as_slice-line.result.now ≡ line.line.items = c.as_slice-line.ensures.value in
     let short : length line.line.items ≤ 65536 = omega (arith, ap length same) in
-    let refused = refused_line c.as_slice-line.result.now line.line.items c.in-Err-Word.field-0 c.in-Err-Word.place same c.in-Err-Word.field-0-is c.in-Err-Word.ensures.refused in
+    let refused = refused_line c.as_slice-line.result.now line.line.items c.in-Err-Word.field-0 c.in-Err-Word.place same c.in-Err-Word.field-0-is c.in-Err-Word.ensures.refused c.in-Err-Word.ensures.none c.in-Err-Word.ensures.first in
     let stops = c.stop-in-Err-Word.ensures ∙ ap (λ (p : ℕ). with_fault line.number (Word p) (said c.args.self.now)) c.in-Err-Word.place-is in
     inr (inr (record { place = c.in-Err-Word.place; there = inr (short, refused); stops = stops }))
