@@ -1,13 +1,17 @@
 //! Settings: what is written for the leaves of a new container.
-ghost use Rattle.std.specs.Prelude.{◌≡◌, ◌≤◌, ◌^◌, length, IfOk, slice_get, option_copied};
+ghost use Rattle.std.specs.Prelude.{◌≡◌, IfOk, slice_get, option_copied};
+ghost use Rattle.containers.specs.Named.{leaf_place};
 ghost use Rattle.containers.specs.Settings.{filled, written_number, number_place as first_token, value_place as value_token, value_for, setting_by, outcome_by};
 
 use crate::fill::set_if_there;
 use crate::find::find_leaf;
 use flow_model::{
-    Container, Kind, Leaf, Leaves, List, NumberAt, RawSetting, RawValue, Setting, Value,
+    Container, Kind, Leaf, LeafAt, Leaves, List, NumberAt, RawSetting, RawValue, Setting, Value,
 };
 use std::alloc::{AllocError, Global};
+
+/// Places of 16 bits tell so many leaves apart. No structure has as many.
+const MOST_LEAVES: usize = 65_536;
 
 /// The value of a written number; None exactly where it has no 64 bits.
 pub fn number_value(number: &NumberAt) -> Option<i64>
@@ -57,26 +61,40 @@ fn leaf_at(leaves: &Leaves, place: u32) -> Option<&Leaf>
     leaves.leaves.as_slice().get(place as usize)
 }
 
+/// The place of the leaf that is written so, if it is there; an error where it needs more than 16 bits,
+/// since no container has room for so many leaves.
+fn place_of(leaves: &Leaves, leaf: &LeafAt) -> Result<Option<u16>, AllocError>
+    ensures { IfOk result (λ place. place ≡ leaf_place leaves.now.leaves leaf.now.steps) }
+{
+    if leaves.leaves.len() > MOST_LEAVES {
+        return Err(AllocError);
+    }
+    let Some(place) = find_leaf(leaves, leaf) else {
+        return Ok(None);
+    };
+    match u16::try_from(place) {
+        Ok(place) => Ok(Some(place)),
+        Err(_) => Err(AllocError),
+    }
+}
+
 /// One setting; else the place of its leaf or of its value.
 fn setting_of(
     alloc: Global,
     leaves: &Leaves,
     setting: &RawSetting,
 ) -> Result<Result<Setting, u32>, AllocError>
-    ensures { length leaves.now.leaves ≤ 2 ^ 16 → IfOk result (λ made. made ≡ setting_by leaves.now setting.now) }
+    ensures { IfOk result (λ made. made ≡ setting_by leaves.now setting.now) }
 {
-    let Some(place) = find_leaf(leaves, &setting.leaf) else {
+    let Some(place) = place_of(leaves, &setting.leaf)? else {
         return Ok(Err(setting.leaf.place));
     };
-    let (Some(leaf), Ok(number)) = (leaf_at(leaves, place), u16::try_from(place)) else {
+    let Some(leaf) = leaf_at(leaves, u32::from(place)) else {
         return Ok(Err(setting.leaf.place));
     };
     match value_of(alloc, leaf.kind, &setting.value)? {
         None => Ok(Err(value_place(&setting.value))),
-        Some(value) => Ok(Ok(Setting {
-            leaf: number,
-            value,
-        })),
+        Some(value) => Ok(Ok(Setting { leaf: place, value })),
     }
 }
 
@@ -90,7 +108,7 @@ pub fn settings_of(
     rc: Option<&NumberAt>,
     written: &[RawSetting],
 ) -> Result<Result<List<Setting>, u32>, AllocError>
-    ensures { length leaves.now.leaves ≤ 2 ^ 16 → IfOk result (λ made. made ≡ outcome_by leaves.now (option_copied rc.entry) written.now) }
+    ensures { IfOk result (λ made. made ≡ outcome_by leaves.now (option_copied rc.entry) written.now) }
 {
     let mut settings = List::new(alloc);
     if let Some(number) = rc {

@@ -1,6 +1,6 @@
 -- The scope one step down, and the item of a path.
 use Rattle.std.specs.Prelude.{ℕ, ◌-◌, ◌==◌, nat_le, ◌&&◌, if◌then◌else◌, Option, Some, None, List, [], ◌∷◌, slice_get, option_and_then}
-use Rattle.activity_states.specs.States.{State, fate_of, output_of}
+use Rattle.activity_states.specs.States.{State, fate_of, output_of, performer_of}
 use Rattle.blocks_subprocs.specs.Ends.{ends_of}
 use Rattle.flow_model.specs.ScopeContainers.{graph_in, base_of, looped}
 use Rattle.flow_model.specs.declared.graphs.Activity.{Activity}
@@ -12,6 +12,8 @@ use Rattle.flow_model.specs.declared.instances.Fate.TheVariants as fates
 use Rattle.flow_model.specs.declared.instances.Part.{Part}
 use Rattle.flow_model.specs.declared.instances.Phase.{Phase}
 use Rattle.flow_model.specs.declared.instances.Phase.TheVariants.{Ready, Running, Ended}
+use Rattle.flow_model.specs.declared.instances.SourceEnd.{SourceEnd}
+use Rattle.flow_model.specs.declared.instances.SourceEnd.TheVariants as end
 use Rattle.navigator.specs.Reading.{place_of, inner_of}
 use Rattle.navigator.specs.declared.scopes.ActivityState.{ActivityState, Program, Nested}
 use Rattle.navigator.specs.declared.scopes.ScopeState.{ScopeState, out-ScopeState}
@@ -105,3 +107,23 @@ looped_from g a base (Some last) = looped (out-Graph g).loops a last base
 -- the input of an attempt: the base input, with the LOOP maps from the output of the attempt before it
 abbrev pub item_input : Graph → ScopeState → ℕ → State → ℕ → Container
 item_input g s a state j = looped_from g a (base_at g s a (slice_get (out-Graph g).activities a)) (output_of state (j - 1))
+
+-- ---- who did it
+
+-- the person whose completion was the last one of a program activity
+abbrev pub performer_in : Option ActivityState → Option (List ℕ)
+performer_in None = None
+performer_in (Some (Program p)) = performer_of p
+performer_in (Some (Nested n)) = None
+
+-- so it is where the activity is finished
+abbrev pub performer_if : Option SourceEnd → Option ActivityState → Option (List ℕ)
+performer_if None state = None
+performer_if (Some end.Unsettled) state = None
+performer_if (Some end.Dead) state = None
+performer_if (Some (end.Finished output)) state = performer_in state
+
+-- the person whose completion gave the final output of the activity at a place of a scope; none where it was an agent's or
+-- an administrator's, or the activity isn't finished
+abbrev pub performer_at : ScopeState → ℕ → Option (List ℕ)
+performer_at s a = performer_if (slice_get (out-ScopeState s).ends.items a) (slice_get (out-ScopeState s).states.items a)

@@ -1,5 +1,5 @@
 //! What an instance shows: its rows, and the containers of items and of the root.
-ghost use Rattle.std.specs.Prelude.{◌≡◌, ◌∷◌, ◌++◌, ◌+◌, ◌<◌, ◌^◌, ℕ, [], Some, List as Seq, true, IfOk, OnOk};
+ghost use Rattle.std.specs.Prelude.{◌≡◌, ◌∷◌, ◌++◌, ◌+◌, ◌<◌, ◌^◌, ℕ, [], Some, List as Seq, true, IfOk, OnOk, option_copied};
 ghost use Rattle.activity_states.specs.States.{fate_of};
 ghost use Rattle.blocks_subprocs.specs.Ends.{ends_of};
 ghost use Rattle.flow_model.specs.Containers.{fresh as fresh_container};
@@ -12,7 +12,7 @@ ghost use Rattle.flow_model.specs.declared.instances.Fate.{Fate as Stands};
 ghost use Rattle.flow_model.specs.declared.graphs.MapEnd.TheVariants.{Border};
 ghost use Rattle.flow_model.specs.declared.graphs.Template.{Template};
 ghost use Rattle.navigator.specs.ItemInputs.{ReadsAttempt};
-ghost use Rattle.navigator.specs.Items.{item_input};
+ghost use Rattle.navigator.specs.Items.{item_input, performer_in, performer_at};
 ghost use Rattle.navigator.specs.Reading.{state_fate};
 ghost use Rattle.navigator.specs.ViewRows.{AreNumbered, attempt_rows, inner_rows, rows_within, view_rows};
 ghost use Rattle.navigator.specs.Views.{Shows, ShowsWithin, ShowsNested, ShowsWork, shows_attempt};
@@ -154,6 +154,16 @@ impl Instance {
     }
 }
 
+/// The person whose completion of a program activity was the last one.
+fn last_performer(state: &ActivityState) -> Option<&Name>
+    ensures { option_copied result ≡ performer_in (Some state.now) }
+{
+    match state {
+        ActivityState::Program(program) => program.performer(),
+        ActivityState::Nested(_) => None,
+    }
+}
+
 impl<'a> Item<'a> {
     /// The base input, with the LOOP maps from the output of the attempt before.
     fn looped_input(&self, alloc: Global) -> Result<Container, AllocError>
@@ -183,16 +193,16 @@ impl<'a> Item<'a> {
         self.state.fate()
     }
 
-    /// The person whose DONE gave the final output of the activity at a place of the item's scope.
-    pub fn performer_of(&self, place: u32) -> Option<&'a Name> {
+    /// The person whose DONE gave the final output of the activity at a place of the item's scope; None where
+    /// it was an agent's or an administrator's, or the activity isn't finished.
+    pub fn performer_of(&self, place: u32) -> Option<&'a Name>
+        ensures { option_copied result ≡ performer_at self.now.place.scope.now place }
+    {
         let scope = self.place.scope;
         match scope.ends.get(place as usize)? {
-            SourceEnd::Finished(_) => {}
-            _ => return None,
-        }
-        match scope.states.get(place as usize)? {
-            ActivityState::Program(state) => state.performer(),
-            ActivityState::Nested(_) => None,
+            SourceEnd::Finished(_) => last_performer(scope.states.get(place as usize)?),
+            SourceEnd::Dead => None,
+            SourceEnd::Unsettled => None,
         }
     }
 }

@@ -4,7 +4,7 @@ ghost use Rattle.template_check.specs.Built.{AreSound, AreSoundBehind};
 ghost use Rattle.template_check.specs.Compiling.{IsNamedBy, IsMeantBy};
 ghost use Rattle.template_check.specs.Imports.{IsIndexed, newest_place, latest_person};
 ghost use Rattle.template_check.specs.declared.compiling.Compiled.{Compiled as Added};
-ghost use Rattle.template_store.specs.Store.{version_place, with_compiled, is_refusal, AddsProcessesOf, KeepsIndex};
+ghost use Rattle.template_store.specs.Store.{version_place, with_compiled, is_refusal, AddsProcessesOf, IsSmall, KeepsIndex};
 
 use flow_model::{Library, Name, PersonDef, Template};
 use std::alloc::{AllocError, Global};
@@ -38,17 +38,31 @@ impl TemplateStore {
     }
 
     /// Adds the processes and people of a text; answers the number of processes. A refusal changes nothing.
-    /// Without memory a part of them may have been added, the last one with no name that leads to it.
+    /// Without memory, or where the library gets more elements than 32 bits tell apart, a part of them may have
+    /// been added, the last one with no name that leads to it.
     pub fn import(&mut self, alloc: Global, text: &[u8]) -> Result<u32, ImportFault>
         ensures added { IfOk result (λ count. (added : Added) × (count ≡ min (length added.templates) (2 ^ 32 - 1)) × (self.new.catalog.library ≡ with_compiled self.old.catalog.library added)) }
         ensures of_text { OnOk result (AddsProcessesOf text.now self.old.catalog self.new.catalog.library) }
-        ensures indexed { OnOk result (KeepsIndex self.old.catalog self.new.catalog) }
+        ensures indexed { OnOk result (IsIndexed self.old.catalog → IsIndexed self.new.catalog) }
         ensures refused { is_refusal result ≡ true → self.new ≡ self.old }
         ensures sound { OnOk result (AreSound self.old.catalog.library.templates → AreSound self.new.catalog.library.templates) }
     {
         let compiled = self.check(alloc, text)?;
         let count = self.add(alloc, compiled)?;
+        self.needs_room()?;
         Ok(count)
+    }
+
+    /// An error where places of 32 bits don't tell all elements of the library apart, since nothing that large has room.
+    fn needs_room(&self) -> Result<(), AllocError>
+        ensures { OnOk result (IsSmall self.now.catalog.library) }
+    {
+        let library = self.catalog.library();
+        let (templates, people) = (library.templates.len(), library.people.len());
+        if templates > u32::MAX as usize || people > u32::MAX as usize {
+            return Err(AllocError);
+        }
+        Ok(())
     }
 
     /// Adds what a text compiled to; answers the number of processes.
