@@ -1,14 +1,11 @@
 -- Where a line is refused: at the first token with which its tokens begin no command.
-use Rattle.std.specs.Prelude.{◌≡◌, ◌≢◌, ℕ, ◌==◌, nat_le, Bool, ◌||◌, ◌&&◌, Some, ◌++◌}
+use Rattle.std.specs.Prelude.{◌≡◌, ◌≢◌, ℕ, ◌==◌, nat_le, Bool, ◌||◌, ◌&&◌, Some}
 use Rattle.flow_table.specs.declared.keyword.TheConstants as keyword
 use Rattle.flow_model.specs.declared.commands.Command.{Command}
 use Rattle.flow_model.specs.declared.commands.Completion.{Completion}
 use Rattle.fdl_lexer.specs.declared.kinds.What.TheVariants as what
-use Rattle.fdl_parser.specs.Lexed.{AreQuoted}
-use Rattle.fdl_parser.specs.Stops.{first_and}
+pub use Rattle.fdl_parser.specs.Refusing.{IsFirstFault, Refuses}
 use Rattle.fdl_parser.specs.Tokens.{Tokens, first_kind}
-use Rattle.fdl_parser.specs.declared.cursor.SyntaxFault.{SyntaxFault}
-use Rattle.fdl_parser.specs.declared.cursor.SyntaxFault.TheVariants.{At}
 use Rattle.command_lang.specs.Grammar.{IsCommand, IsCompletion}
 
 -- a command that only asks begins with this word
@@ -40,17 +37,3 @@ SomeCommand row = (command : Command) × IsCommand command row
 -- or a completion
 abbrev pub SomeCompletion : Tokens → Type 0
 SomeCompletion row = (completion : Completion) × IsCompletion completion row
-
--- this is the first place where a row can't go on: what stands before it begins something that is said so, but not with
--- the token that stands there, whatever follows; where none stands there, it says none
-pub record IsFirstFault (says : Tokens → Type 0) (all rest : Tokens) : Type 0 where
-  pub front : Tokens
-  pub cut : all ≡ front ++ rest
-  pub more : Tokens
-  pub lexed : AreQuoted more
-  pub begins : says (front ++ more)
-  pub blocked : (others : Tokens) → says (front ++ first_and rest others) → ⊥
-
--- where the fault names a place, it is the first of tokens of the lexer
-pub record Refuses (says : Tokens → Type 0) (all rest : Tokens) (e : SyntaxFault) : Type 0 where
-  pub first : (place : ℕ) → e ≡ At place → AreQuoted all → IsFirstFault says all rest

@@ -1,8 +1,6 @@
 -- Two readings of the same tokens are the same: what is compared, and the parts of one or two tokens.
-use Rattle.std.proofs.Common.{◌≡◌, ℕ, ◌<◌, ◌≤◌, ◌+◌, ◌==◌, ◌||◌, true, false, List, [], ◌∷◌, ◌++◌, Option, Some, refl, ap, sym, ◌∙◌, subst, arith}
-use Rattle.std.specs.Prelude.{if◌then◌else◌}
+use Rattle.std.proofs.Common.{◌≡◌, ℕ, ◌<◌, ◌≤◌, ◌+◌, ◌==◌, true, false, List, [], ◌∷◌, ◌++◌, Option, Some, refl, ap, sym, ◌∙◌, subst, arith}
 use Rattle.std.proofs.lemmas.Bool.{eq-eqb}
-use Rattle.flow_table.specs.declared.keyword.TheConstants as word
 use Rattle.fdl_lexer.specs.declared.kinds.What.{What}
 use Rattle.fdl_lexer.specs.declared.kinds.What.TheVariants.{Word, Name, Rc, Item, Number, Text, Mark}
 use Rattle.flow_model.specs.declared.trees.NameAt.{NameAt}
@@ -10,40 +8,10 @@ use Rattle.flow_model.specs.declared.trees.NumberAt.{NumberAt}
 use Rattle.flow_model.specs.declared.trees.StepTree.{StepTree}
 use Rattle.flow_model.specs.declared.trees.StepTree.TheVariants as step
 use Rattle.flow_model.specs.declared.trees.LeafAt.{LeafAt}
-use Rattle.fdl_parser.specs.declared.cursor.mark.TheConstants as mark
 use Rattle.fdl_parser.specs.Tokens.{Spelled, Tokens, IsToken, IsName, IsQuote, IsNumber, IsSigned, Unsigned, Negative, IsFirstStep, RcFirst, NameFirst, IsNextStep, MemberNext, PlaceNext, IsLeaf, FirstStep, MoreSteps}
 use Rattle.fdl_parser.specs.Lexed.{IsQuoted, AreQuoted}
+pub use Rattle.fdl_parser.specs.Tiers.{word_tier, mark_tier, kind_tier, tier}
 use Rattle.fdl_parser.specs.Alike.{Each, NoneLeft, OneMore}
-
--- how tightly a word goes on with what stands before it
-abbrev pub word_tier : ℕ → ℕ
-word_tier w =
-    if w == word.AND then 7
-    else (if w == word.OR then 6
-    else (if w == word.WHEN || w == word.OTHERWISE || w == word.EXIT || w == word.START || w == word.EXPIRES || w == word.DONE_BY || w == word.ROLES then 4
-    else (if w == word.PROGRAM_ACTIVITY || w == word.PROCESS_ACTIVITY || w == word.BLOCK || w == word.CONTROL || w == word.DATA then 3
-    else (if w == word.STRUCTURE || w == word.PERSON || w == word.PROCESS then 1
-    else 0))))
-
--- how tightly a mark does
-abbrev pub mark_tier : ℕ → ℕ
-mark_tier m =
-    if m == mark.DOT || m == mark.OPEN_BRACKET then 9
-    else (if m == mark.PLUS || m == mark.MINUS then 8
-    else (if m == mark.COMMA then 5
-    else (if m == mark.OPEN then 1
-    else 0)))
-
-abbrev pub kind_tier : What → ℕ
-kind_tier (Word w) = word_tier w
-kind_tier (Mark m) = mark_tier m
-kind_tier Name = 2
-kind_tier _ = 0
-
--- how tightly the first token does
-abbrev pub tier : Tokens → ℕ
-tier [] = 0
-tier (t ∷ ts) = kind_tier t.kind
 
 -- a number that tells words, marks and kinds of tokens apart
 abbrev pub kind_lead : What → ℕ

@@ -231,13 +231,16 @@ pub record Through (P : Tokens → Type 0) (F G : Tokens → Tokens → Type 0) 
   pub reads : (rest : Tokens) → Seq F (Star G) (front ++ rest) rest
   pub goes : (rest other : Tokens) → first_kind rest ≡ first_kind b → P other → Seq F (Star G) (front ++ rest) other → Star G rest other
 
-pub through_first : {P : Tokens → Type 0} {F G : Tokens → Tokens → Type 0} {a b : Tokens} → IsTaken Anything F a b → Through P F G a b
-through_first {P} {F} {G} f = record {
+pub through_before : {P Q : Tokens → Type 0} {F G : Tokens → Tokens → Type 0} {a b : Tokens} → Follows Q P (Star G) → IsTaken Q F a b → Through P F G a b
+through_before {P} {Q} {F} {G} follows f = record {
   front = f.front;
   cut = f.cut;
   reads = λ rest. (rest, f.reads rest, None);
-  goes = λ rest other same p h. subst (λ (x : Tokens). Star G x other) (f.only rest h.0 same tt h.1) h.2;
+  goes = λ rest other same p h. subst (λ (x : Tokens). Star G x other) (f.only rest h.0 same (follows h.0 other p h.2) h.1) h.2;
 }
+
+pub through_first : {P : Tokens → Type 0} {F G : Tokens → Tokens → Type 0} {a b : Tokens} → IsTaken Anything F a b → Through P F G a b
+through_first f = through_before (λ b c p s. tt) f
 
 -- a row that begins so goes on
 went_on : {K : Option What → Type 0} {P : Tokens → Type 0} {G : Tokens → Tokens → Type 0} {a b : Tokens} → Opens K P G → P b → K (first_kind a) → Star G a b → Seq G (Star G) a b
@@ -249,8 +252,8 @@ ended : {K : Option What → Type 0} {P : Tokens → Type 0} {G : Tokens → Tok
 ended opens not None = refl
 ended opens not (More g s) = absurd (not (opens.begins _ _ g))
 
-pub through_more : {K : Option What → Type 0} {P : Tokens → Type 0} {F G : Tokens → Tokens → Type 0} {a b c : Tokens} → Opens K P G → Through P F G a b → IsTaken Anything G b c → Through P F G a c
-through_more {K} {P} {F} {G} {a} {b} {c} opens f g = record {
+pub through_on : {K : Option What → Type 0} {P Q : Tokens → Type 0} {F G : Tokens → Tokens → Type 0} {a b c : Tokens} → Opens K P G → Follows Q P (Star G) → Through P F G a b → IsTaken Q G b c → Through P F G a c
+through_on {K} {P} {Q} {F} {G} {a} {b} {c} opens follows f g = record {
   front = f.front ++ g.front;
   cut = f.cut ∙ ap (λ (x : Tokens). f.front ++ x) g.cut ∙ sym (append_assoc f.front g.front c);
   reads = λ rest.
@@ -260,8 +263,11 @@ through_more {K} {P} {F} {G} {a} {b} {c} opens f g = record {
       let begins : first_kind (g.front ++ rest) ≡ first_kind b = first_of g.front rest c same ∙ ap first_kind (sym g.cut) in
       let s = f.goes (g.front ++ rest) other begins p (subst (λ (x : Tokens). Seq F (Star G) x other) (append_assoc f.front g.front rest) h) in
       let t = went_on opens p (opens.begins (g.front ++ rest) rest (g.reads rest)) s in
-      subst (λ (x : Tokens). Star G x other) (g.only rest t.0 same tt t.1) t.2;
+      subst (λ (x : Tokens). Star G x other) (g.only rest t.0 same (follows t.0 other p t.2) t.1) t.2;
 }
+
+pub through_more : {K : Option What → Type 0} {P : Tokens → Type 0} {F G : Tokens → Tokens → Type 0} {a b c : Tokens} → Opens K P G → Through P F G a b → IsTaken Anything G b c → Through P F G a c
+through_more opens f g = through_on opens (λ b c p s. tt) f g
 
 pub taken_loop : {K : Option What → Type 0} {P : Tokens → Type 0} {F G : Tokens → Tokens → Type 0} {a b : Tokens} → Opens K P G → Through P F G a b → (K (first_kind b) → ⊥) → IsTaken P (Seq F (Star G)) a b
 taken_loop {K} opens f not = record {
@@ -271,28 +277,57 @@ taken_loop {K} opens f not = record {
   only = λ rest other same p h. ended opens (λ k. not (subst K same k)) (f.goes rest other same p h);
 }
 
-pub stop_loop : {K : Option What → Type 0} {P : Tokens → Type 0} {F G : Tokens → Tokens → Type 0} {a b r : Tokens} → Opens K P G → Through P F G a b → K (first_kind b) → IsStop Anything G b r → IsStop P (Seq F (Star G)) a r
-stop_loop {K} {P} {F} {G} {a} {b} {r} opens f here g = record {
+pub stop_loop_on : {K : Option What → Type 0} {P Q : Tokens → Type 0} {F G : Tokens → Tokens → Type 0} {a b r : Tokens} → Opens K P G → Follows Q P (Star G) → Through P F G a b → K (first_kind b) → IsStop Q G b r
+    → IsStop P (Seq F (Star G)) a r
+stop_loop_on {K} {P} {Q} {F} {G} {a} {b} {r} opens follows f here g = record {
   front = f.front ++ g.front;
   cut = f.cut ∙ ap (λ (x : Tokens). f.front ++ x) g.cut ∙ sym (append_assoc f.front g.front r);
   more = g.more;
   lexed = g.lexed;
   goes_on = λ rest p.
       let h = f.reads (g.front ++ (g.more ++ rest)) in
-      (h.0, subst (λ (x : Tokens). F x h.0) (sym (append_assoc f.front g.front (g.more ++ rest))) h.1, star_snoc h.2 (g.goes_on rest tt));
+      (h.0, subst (λ (x : Tokens). F x h.0) (sym (append_assoc f.front g.front (g.more ++ rest))) h.1, star_snoc h.2 (g.goes_on rest (follows rest rest p None)));
   blocked = λ others rest p h.
       let w = first_and r others in
       let begins : first_kind (g.front ++ w) ≡ first_kind b = same_first b g.front r others g.cut in
       let s = f.goes (g.front ++ w) rest begins p (subst (λ (x : Tokens). Seq F (Star G) x rest) (append_assoc f.front g.front w) h) in
       let t = went_on opens p (subst K (sym begins) here) s in
-      g.blocked others t.0 tt t.1;
+      g.blocked others t.0 (follows t.0 rest p t.2) t.1;
 }
 
+pub stops_loop_on : {K : Option What → Type 0} {P Q : Tokens → Type 0} {F G : Tokens → Tokens → Type 0} {a b r : Tokens} {e : SyntaxFault} → Opens K P G → Follows Q P (Star G) → Through P F G a b → K (first_kind b) → Stops Q G b r e
+    → Stops P (Seq F (Star G)) a r e
+stops_loop_on {K} {P} {Q} {F} {G} {a} {b} opens follows f here g = stops_as (λ q. quoted_rest f.front b (subst AreQuoted f.cut q)) (λ h. stop_loop_on opens follows f here h) g
+
 pub stops_loop : {K : Option What → Type 0} {P : Tokens → Type 0} {F G : Tokens → Tokens → Type 0} {a b r : Tokens} {e : SyntaxFault} → Opens K P G → Through P F G a b → K (first_kind b) → Stops Anything G b r e → Stops P (Seq F (Star G)) a r e
-stops_loop {K} {P} {F} {G} {a} {b} opens f here g = stops_as (λ q. quoted_rest f.front b (subst AreQuoted f.cut q)) (λ h. stop_loop opens f here h) g
+stops_loop opens f here g = stops_loop_on opens (λ b c p s. tt) f here g
 
 pub can_loop : {P : Tokens → Type 0} {F G : Tokens → Tokens → Type 0} → CanRead P F → CanRead P (Seq F (Star G))
 can_loop f = record { more = f.more; lexed = f.lexed; reads = λ rest p. (rest, f.reads rest p, None) }
+
+-- nothing is read
+abbrev pub Empty : Tokens → Tokens → Type 0
+Empty a b = b ≡ a
+
+pub through_none : {P : Tokens → Type 0} {G : Tokens → Tokens → Type 0} {a : Tokens} → Through P Empty G a a
+through_none {P} {G} = record {
+  front = [];
+  cut = refl;
+  reads = λ rest. (rest, refl, None);
+  goes = λ rest other same p h. subst (λ (x : Tokens). Star G x other) h.1 h.2;
+}
+
+many_into : {G : Tokens → Tokens → Type 0} (a b : Tokens) → Seq Empty (Star G) a b → Star G a b
+many_into {G} a b h = subst (λ (x : Tokens). Star G x b) h.1 h.2
+
+many_out : {G : Tokens → Tokens → Type 0} (a b : Tokens) → Star G a b → Seq Empty (Star G) a b
+many_out a b s = (a, refl, s)
+
+pub taken_many : {P : Tokens → Type 0} {G : Tokens → Tokens → Type 0} {a b : Tokens} → IsTaken P (Seq Empty (Star G)) a b → IsTaken P (Star G) a b
+taken_many h = taken_as many_into many_out h
+
+pub stops_many : {P : Tokens → Type 0} {G : Tokens → Tokens → Type 0} {a r : Tokens} {e : SyntaxFault} → Stops P (Seq Empty (Star G)) a r e → Stops P (Star G) a r e
+stops_many h = stops_form many_into many_out h
 
 -- ---- two forms that begin with different tokens
 

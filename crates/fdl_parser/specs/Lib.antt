@@ -6,4 +6,6 @@ pub mod Lines
 pub mod Activities
 pub mod Items
 pub mod Alike
+pub mod Tiers
 pub mod Stops
+pub mod Refusing

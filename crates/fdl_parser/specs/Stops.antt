@@ -3,9 +3,13 @@ use Rattle.std.specs.Prelude.{◌≡◌, ◌≢◌, ◌⊎◌, ℕ, List, [], �
 use Rattle.fdl_parser.specs.declared.cursor.SyntaxFault.{SyntaxFault}
 use Rattle.fdl_parser.specs.declared.cursor.SyntaxFault.TheVariants.{At}
 use Rattle.fdl_parser.specs.Lexed.{AreQuoted}
+use Rattle.fdl_lexer.specs.declared.kinds.What.{What}
 use Rattle.fdl_lexer.specs.declared.kinds.What.TheVariants as what
 use Rattle.flow_model.specs.declared.trees.StepTree.{StepTree}
 use Rattle.fdl_parser.specs.declared.cursor.mark.TheConstants as mark
+use Rattle.flow_table.specs.declared.keyword.TheConstants as word
+use Rattle.flow_model.specs.declared.trees.NameAt.{NameAt}
+use Rattle.fdl_parser.specs.Activities.{AreStructures}
 use Rattle.fdl_parser.specs.Tokens.{Tokens, first_kind, IsQuote, IsFirstStep}
 
 -- something is read so from the first row, and the second is left
@@ -19,6 +23,32 @@ Quotes before after = (value : List ℕ) × (place : ℕ) × IsQuote value place
 -- the first step of a leaf is read, at some place
 abbrev pub FirstSteps : Tokens → Tokens → Type 0
 FirstSteps before after = (step : StepTree) × (place : ℕ) × IsFirstStep step place before after
+
+-- the structures of a container are read
+abbrev pub Structures : Tokens → Tokens → Type 0
+Structures before after = (input : NameAt) × (output : NameAt) × AreStructures input output before after
+
+-- the words with which an attribute of any activity begins
+abbrev pub common_kinds : List What
+common_kinds = what.Word word.WHEN ∷ what.Word word.EXIT ∷ []
+
+-- an attribute of a program activity
+abbrev pub attribute_kinds : List What
+attribute_kinds = what.Word word.WHEN ∷ what.Word word.EXIT ∷ what.Word word.START ∷ what.Word word.EXPIRES ∷ what.Word word.DONE_BY ∷ []
+
+-- an element
+abbrev pub element_kinds : List What
+element_kinds = what.Word word.BLOCK ∷ what.Word word.CONTROL ∷ what.Word word.DATA ∷ what.Word word.PROCESS_ACTIVITY ∷ what.Word word.PROGRAM_ACTIVITY ∷ []
+
+-- a token of one of these kinds comes next
+abbrev pub OneComes : List What → Tokens → Type 0
+OneComes [] rest = ⊥
+OneComes (k ∷ ks) rest = (first_kind rest ≡ Some k) ⊎ OneComes ks rest
+
+-- none of these does
+abbrev pub NoneComes : List What → Tokens → Type 0
+NoneComes [] rest = Unit {0}
+NoneComes (k ∷ ks) rest = (first_kind rest ≢ Some k) × NoneComes ks rest
 
 -- a further step of a leaf begins here
 abbrev pub StepComes : Tokens → Type 0

@@ -1,6 +1,8 @@
 //! Activities with their attributes, and the elements of a process or a block.
-ghost use Rattle.std.specs.Prelude.{◌≡◌, ◌<◌, ◌≤◌, length, IfOk, IfErr};
+ghost use Rattle.std.specs.Prelude.{◌≡◌, ◌<◌, ◌≤◌, length, IfOk, IfErr, true, false};
 ghost use Rattle.fdl_parser.specs.Faults.{Names};
+ghost use Rattle.fdl_parser.specs.Stops.{Reads, Structures, Anything, common_kinds, attribute_kinds, element_kinds, OneComes, NoneComes, IsTaken, Stops};
+ghost use Rattle.fdl_parser.specs.Tiers.{Looser};
 ghost use Rattle.fdl_parser.specs.Tokens.{StaysWithin};
 ghost use Rattle.fdl_parser.specs.Activities.{AreStructures, IsClosing, IsJoin, ConnectorsTrue, IsCommonAttribute, AreCommonAttributes, IsDoneBy, IsStart, IsAttribute, AreAttributes, IsProgramActivity, IsProcessActivity, IsBlock, IsElement, AreElements};
 
@@ -18,6 +20,7 @@ impl<'a> Cursor<'a> {
         ensures within { StaysWithin self.old self.new }
         ensures read { IfOk result (λ both. AreStructures both.0 both.1 self.old.left self.new.left) }
         ensures names { IfErr result (Names self.new) }
+        ensures stops { IfErr result (Stops Anything Structures self.old.left self.new.left) }
     {
         self.mark(mark::OPEN)?;
         let input = self.name()?;
@@ -33,6 +36,7 @@ impl<'a> Cursor<'a> {
         ensures within { StaysWithin self.old self.new }
         ensures read { IfOk result (λ name. IsClosing name self.old.left self.new.left) }
         ensures names { IfErr result (Names self.new) }
+        ensures stops { IfErr result (Stops Anything (Reads IsClosing) self.old.left self.new.left) }
     {
         self.word(keyword::END)?;
         let name = self.name()?;
@@ -45,6 +49,7 @@ impl<'a> Cursor<'a> {
         ensures within { StaysWithin self.old self.new }
         ensures read { IfOk result (λ join. IsJoin join self.old.left self.new.left) }
         ensures names { IfErr result (Names self.new) }
+        ensures stops { IfErr result (Stops Anything (Reads IsJoin) self.old.left self.new.left) }
     {
         if self.is_word(keyword::AT_LEAST_ONE) {
             self.word(keyword::AT_LEAST_ONE)?;
@@ -68,6 +73,7 @@ impl<'a> Cursor<'a> {
         ensures within { StaysWithin self.old self.new }
         ensures read { IfOk result (λ _. ConnectorsTrue self.old.left self.new.left) }
         ensures names { IfErr result (Names self.new) }
+        ensures stops { IfErr result (Stops Anything ConnectorsTrue self.old.left self.new.left) }
     {
         self.word(keyword::CONNECTORS)?;
         self.word(keyword::TRUE)?;
@@ -75,7 +81,10 @@ impl<'a> Cursor<'a> {
     }
 
     /// Whether an attribute that any activity may have stands next.
-    fn is_common_attribute(&self) -> bool {
+    fn is_common_attribute(&self) -> bool
+        ensures yes { result ≡ true → OneComes common_kinds self.now.left }
+        ensures no { result ≡ false → NoneComes common_kinds self.now.left }
+    {
         self.is_word(keyword::WHEN) || self.is_word(keyword::EXIT)
     }
 
@@ -85,6 +94,7 @@ impl<'a> Cursor<'a> {
         ensures within { StaysWithin self.old self.new }
         ensures read { IfOk result (λ attribute. IsCommonAttribute attribute self.old.left self.new.left) }
         ensures names { IfErr result (Names self.new) }
+        ensures stops { IfErr result (Stops Anything (Reads IsCommonAttribute) self.old.left self.new.left) }
     {
         if self.is_word(keyword::WHEN) {
             let place = self.word(keyword::WHEN)?;
@@ -104,6 +114,8 @@ impl<'a> Cursor<'a> {
         ensures within { StaysWithin self.old self.new }
         ensures read { IfOk result (λ attributes. AreCommonAttributes attributes self.old.left self.new.left) }
         ensures names { IfErr result (Names self.new) }
+        ensures taken { IfOk result (λ _. IsTaken (Looser 4) (Reads AreCommonAttributes) self.old.left self.new.left) }
+        ensures stops { IfErr result (Stops (Looser 4) (Reads AreCommonAttributes) self.old.left self.new.left) }
     {
         let mut attributes = List::new(self.alloc());
         while self.is_common_attribute() {
@@ -118,6 +130,7 @@ impl<'a> Cursor<'a> {
         ensures within { StaysWithin self.old self.new }
         ensures read { IfOk result (λ attribute. IsDoneBy attribute self.old.left self.new.left) }
         ensures names { IfErr result (Names self.new) }
+        ensures stops { IfErr result (Stops Anything (Reads IsDoneBy) self.old.left self.new.left) }
     {
         if self.is_word(keyword::ROLE) {
             self.word(keyword::ROLE)?;
@@ -145,6 +158,7 @@ impl<'a> Cursor<'a> {
         ensures within { StaysWithin self.old self.new }
         ensures read { IfOk result (λ attribute. IsStart attribute self.old.left self.new.left) }
         ensures names { IfErr result (Names self.new) }
+        ensures stops { IfErr result (Stops Anything (Reads IsStart) self.old.left self.new.left) }
     {
         if self.is_word(keyword::MANUAL) {
             self.word(keyword::MANUAL)?;
@@ -155,8 +169,12 @@ impl<'a> Cursor<'a> {
     }
 
     /// Whether an attribute that a program activity may have stands next.
-    fn is_attribute(&self) -> bool {
-        self.is_common_attribute()
+    fn is_attribute(&self) -> bool
+        ensures yes { result ≡ true → OneComes attribute_kinds self.now.left }
+        ensures no { result ≡ false → NoneComes attribute_kinds self.now.left }
+    {
+        self.is_word(keyword::WHEN)
+            || self.is_word(keyword::EXIT)
             || self.is_word(keyword::START)
             || self.is_word(keyword::EXPIRES)
             || self.is_word(keyword::DONE_BY)
@@ -167,6 +185,7 @@ impl<'a> Cursor<'a> {
         ensures within { StaysWithin self.old self.new }
         ensures read { IfOk result (λ attribute. IsAttribute attribute self.old.left self.new.left) }
         ensures names { IfErr result (Names self.new) }
+        ensures stops { IfErr result (Stops Anything (Reads IsAttribute) self.old.left self.new.left) }
     {
         if self.is_common_attribute() {
             let attribute = self.common_attribute()?;
@@ -193,6 +212,8 @@ impl<'a> Cursor<'a> {
         ensures within { StaysWithin self.old self.new }
         ensures read { IfOk result (λ attributes. AreAttributes attributes self.old.left self.new.left) }
         ensures names { IfErr result (Names self.new) }
+        ensures taken { IfOk result (λ _. IsTaken (Looser 4) (Reads AreAttributes) self.old.left self.new.left) }
+        ensures stops { IfErr result (Stops (Looser 4) (Reads AreAttributes) self.old.left self.new.left) }
     {
         let mut attributes = List::new(self.alloc());
         while self.is_attribute() {
@@ -206,6 +227,7 @@ impl<'a> Cursor<'a> {
         ensures within { StaysWithin self.old self.new }
         ensures read { IfOk result (λ activity. IsProgramActivity activity self.old.left self.new.left) }
         ensures names { IfErr result (Names self.new) }
+        ensures stops { IfErr result (Stops Anything (Reads IsProgramActivity) self.old.left self.new.left) }
     {
         let place = self.word(keyword::PROGRAM_ACTIVITY)?;
         let name = self.name()?;
@@ -228,6 +250,7 @@ impl<'a> Cursor<'a> {
         ensures within { StaysWithin self.old self.new }
         ensures read { IfOk result (λ activity. IsProcessActivity activity self.old.left self.new.left) }
         ensures names { IfErr result (Names self.new) }
+        ensures stops { IfErr result (Stops Anything (Reads IsProcessActivity) self.old.left self.new.left) }
     {
         let place = self.word(keyword::PROCESS_ACTIVITY)?;
         let name = self.name()?;
@@ -253,6 +276,8 @@ impl<'a> Cursor<'a> {
         ensures within { StaysWithin self.old self.new }
         ensures read { IfOk result (λ activity. IsBlock levels activity self.old.left self.new.left) }
         ensures names { IfErr result (Names self.new) }
+        ensures level { levels ≡ 0 → self.new ≡ self.old }
+        ensures stops { 0 < levels → IfErr result (Stops Anything (Reads (IsBlock levels)) self.old.left self.new.left) }
     {
         if levels == 0 {
             return Err(self.fault());
@@ -275,12 +300,15 @@ impl<'a> Cursor<'a> {
     }
 
     /// Whether an element stands next.
-    fn is_element(&self) -> bool {
-        self.is_word(keyword::PROGRAM_ACTIVITY)
-            || self.is_word(keyword::PROCESS_ACTIVITY)
-            || self.is_word(keyword::BLOCK)
+    fn is_element(&self) -> bool
+        ensures yes { result ≡ true → OneComes element_kinds self.now.left }
+        ensures no { result ≡ false → NoneComes element_kinds self.now.left }
+    {
+        self.is_word(keyword::BLOCK)
             || self.is_word(keyword::CONTROL)
             || self.is_word(keyword::DATA)
+            || self.is_word(keyword::PROCESS_ACTIVITY)
+            || self.is_word(keyword::PROGRAM_ACTIVITY)
     }
 
     #[cycle(elements)]
@@ -289,6 +317,8 @@ impl<'a> Cursor<'a> {
         ensures within { StaysWithin self.old self.new }
         ensures read { IfOk result (λ element. IsElement levels element self.old.left self.new.left) }
         ensures names { IfErr result (Names self.new) }
+        ensures taken { IfOk result (λ _. IsTaken (Looser 4) (Reads (IsElement levels)) self.old.left self.new.left) }
+        ensures stops { IfErr result (Stops (Looser 4) (Reads (IsElement levels)) self.old.left self.new.left) }
     {
         if self.is_word(keyword::BLOCK) {
             let block = self.block(levels)?;
@@ -317,6 +347,8 @@ impl<'a> Cursor<'a> {
         ensures within { StaysWithin self.old self.new }
         ensures read { IfOk result (λ elements. AreElements levels elements self.old.left self.new.left) }
         ensures names { IfErr result (Names self.new) }
+        ensures taken { IfOk result (λ _. IsTaken (Looser 3) (Reads (AreElements levels)) self.old.left self.new.left) }
+        ensures stops { IfErr result (Stops (Looser 3) (Reads (AreElements levels)) self.old.left self.new.left) }
     {
         let mut elements = List::new(self.alloc());
         while self.is_element() {

@@ -1,6 +1,9 @@
 //! Conditions.
-ghost use Rattle.std.specs.Prelude.{◌≡◌, ◌<◌, length, IfOk, IfErr};
+ghost use Rattle.std.specs.Prelude.{◌≡◌, ◌≢◌, ◌<◌, length, IfOk, IfErr, IfSome, Some, None, true, false, [], ◌∷◌};
+ghost use Rattle.fdl_parser.specs.declared.cursor.mark.TheConstants as sign;
 ghost use Rattle.fdl_parser.specs.Faults.{Names};
+ghost use Rattle.fdl_parser.specs.Stops.{Reads, Anything, OneComes, NoneComes, IsTaken, Stops};
+ghost use Rattle.fdl_parser.specs.Tiers.{Looser};
 ghost use Rattle.fdl_parser.specs.Tokens.{StaysWithin};
 ghost use Rattle.fdl_parser.specs.Conditions.{mark_of, Denies, IsOperand, IsNextTerm, IsSide, IsComparison, IsNegation, IsConjunction, IsDisjunction, IsCondition};
 
@@ -14,7 +17,10 @@ use std::alloc::Global;
 const LEVELS: u32 = 64;
 
 /// The comparison of a mark.
-fn operator_of(what: Option<What>) -> Option<Operator> {
+fn operator_of(what: Option<What>) -> Option<Operator>
+    ensures some { IfSome result (λ operator. what ≡ Some (What.Mark (mark_of operator))) }
+    ensures none { result ≡ None → (operator : Operator) → what ≢ Some (What.Mark (mark_of operator)) }
+{
     match what {
         Some(What::Mark(mark::EQUAL)) => Some(Operator::Eq),
         Some(What::Mark(mark::NOT_EQUAL)) => Some(Operator::Ne),
@@ -41,13 +47,23 @@ fn mark_of(operator: Operator) -> u8
 }
 
 impl<'a> Cursor<'a> {
+    /// Whether a leaf comes next.
+    fn is_leaf_next(&self) -> bool
+        ensures yes { result ≡ true → OneComes (What.Name ∷ What.Rc ∷ []) self.now.left }
+        ensures no { result ≡ false → NoneComes (What.Name ∷ What.Rc ∷ []) self.now.left }
+    {
+        self.is_next(What::Name) || self.is_next(What::Rc)
+    }
+
     fn operand(&mut self) -> Result<OperandTree, SyntaxFault>
         ensures shorter { IfOk result (λ _. length self.new.left < length self.old.left) }
         ensures within { StaysWithin self.old self.new }
         ensures read { IfOk result (λ operand. IsOperand operand self.old.left self.new.left) }
         ensures names { IfErr result (Names self.new) }
+        ensures taken { IfOk result (λ _. IsTaken (Looser 9) (Reads IsOperand) self.old.left self.new.left) }
+        ensures stops { IfErr result (Stops (Looser 9) (Reads IsOperand) self.old.left self.new.left) }
     {
-        if self.is_next(What::Name) || self.is_next(What::Rc) {
+        if self.is_leaf_next() {
             let leaf = self.leaf()?;
             return Ok(OperandTree::Leaf(leaf));
         }
@@ -61,6 +77,8 @@ impl<'a> Cursor<'a> {
         ensures within { StaysWithin self.old self.new }
         ensures read { IfOk result (λ term. IsNextTerm term self.old.left self.new.left) }
         ensures names { IfErr result (Names self.new) }
+        ensures taken { IfOk result (λ _. IsTaken (Looser 9) (Reads IsNextTerm) self.old.left self.new.left) }
+        ensures stops { IfErr result (Stops (Looser 9) (Reads IsNextTerm) self.old.left self.new.left) }
     {
         if self.is_mark(mark::MINUS) {
             self.mark(mark::MINUS)?;
@@ -78,11 +96,21 @@ impl<'a> Cursor<'a> {
         })
     }
 
+    /// Whether a further operand of a sum comes next.
+    fn is_term_next(&self) -> bool
+        ensures yes { result ≡ true → OneComes (What.Mark sign.MINUS ∷ What.Mark sign.PLUS ∷ []) self.now.left }
+        ensures no { result ≡ false → NoneComes (What.Mark sign.MINUS ∷ What.Mark sign.PLUS ∷ []) self.now.left }
+    {
+        self.is_mark(mark::MINUS) || self.is_mark(mark::PLUS)
+    }
+
     fn side(&mut self) -> Result<Side, SyntaxFault>
         ensures shorter { IfOk result (λ _. length self.new.left < length self.old.left) }
         ensures within { StaysWithin self.old self.new }
         ensures read { IfOk result (λ side. IsSide side self.old.left self.new.left) }
         ensures names { IfErr result (Names self.new) }
+        ensures taken { IfOk result (λ _. IsTaken (Looser 8) (Reads IsSide) self.old.left self.new.left) }
+        ensures stops { IfErr result (Stops (Looser 8) (Reads IsSide) self.old.left self.new.left) }
     {
         if self.is_next(What::Text) {
             let (text, place) = self.text()?;
@@ -94,7 +122,7 @@ impl<'a> Cursor<'a> {
             minus: false,
             operand,
         })?;
-        while self.is_mark(mark::PLUS) || self.is_mark(mark::MINUS) {
+        while self.is_term_next() {
             terms.push(self.next_term()?)?;
         }
         Ok(Side::Sum(terms))
@@ -105,6 +133,8 @@ impl<'a> Cursor<'a> {
         ensures within { StaysWithin self.old self.new }
         ensures read { IfOk result (λ cond. IsComparison cond self.old.left self.new.left) }
         ensures names { IfErr result (Names self.new) }
+        ensures taken { IfOk result (λ _. IsTaken (Looser 8) (Reads IsComparison) self.old.left self.new.left) }
+        ensures stops { IfErr result (Stops (Looser 8) (Reads IsComparison) self.old.left self.new.left) }
     {
         let left = self.side()?;
         let Some(operator) = operator_of(self.peek()) else {
@@ -122,6 +152,8 @@ impl<'a> Cursor<'a> {
         ensures within { StaysWithin self.old self.new }
         ensures read { IfOk result (λ cond. IsNegation levels cond self.old.left self.new.left) }
         ensures names { IfErr result (Names self.new) }
+        ensures taken { IfOk result (λ _. IsTaken (Looser 8) (Reads (IsNegation levels)) self.old.left self.new.left) }
+        ensures stops { IfErr result (Stops (Looser 8) (Reads (IsNegation levels)) self.old.left self.new.left) }
     {
         let denies = self.is_word(keyword::NOT);
         if !denies && !self.is_mark(mark::OPEN) {
@@ -149,6 +181,8 @@ impl<'a> Cursor<'a> {
         ensures within { StaysWithin self.old self.new }
         ensures read { IfOk result (λ cond. IsConjunction levels cond self.old.left self.new.left) }
         ensures names { IfErr result (Names self.new) }
+        ensures taken { IfOk result (λ _. IsTaken (Looser 7) (Reads (IsConjunction levels)) self.old.left self.new.left) }
+        ensures stops { IfErr result (Stops (Looser 7) (Reads (IsConjunction levels)) self.old.left self.new.left) }
     {
         let first = self.negation(levels)?;
         if !self.is_word(keyword::AND) {
@@ -171,6 +205,8 @@ impl<'a> Cursor<'a> {
         ensures within { StaysWithin self.old self.new }
         ensures read { IfOk result (λ cond. IsDisjunction levels cond self.old.left self.new.left) }
         ensures names { IfErr result (Names self.new) }
+        ensures taken { IfOk result (λ _. IsTaken (Looser 6) (Reads (IsDisjunction levels)) self.old.left self.new.left) }
+        ensures stops { IfErr result (Stops (Looser 6) (Reads (IsDisjunction levels)) self.old.left self.new.left) }
     {
         let first = self.conjunction(levels)?;
         if !self.is_word(keyword::OR) {
@@ -193,6 +229,7 @@ impl<'a> Cursor<'a> {
         ensures within { StaysWithin self.old self.new }
         ensures read { IfOk result (λ cond. IsCondition cond self.old.left self.new.left) }
         ensures names { IfErr result (Names self.new) }
+        ensures stops { IfErr result (Stops Anything (Reads IsCondition) self.old.left self.new.left) }
     {
         let place = self.mark(mark::OPEN)?;
         let cond = self.disjunction(LEVELS)?;

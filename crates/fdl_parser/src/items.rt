@@ -2,6 +2,9 @@
 ghost use Rattle.std.specs.Prelude.{◌≡◌, ◌<◌, ◌≤◌, length, IfOk, IfErr};
 ghost use Rattle.fdl_lexer.specs.Tokens.{AreTokens};
 ghost use Rattle.fdl_parser.specs.Faults.{Names, NamesOne};
+ghost use Rattle.fdl_parser.specs.Refusing.{RefusesFirst, HaveNoTree};
+ghost use Rattle.fdl_parser.specs.Stops.{Reads, Anything, IsTaken, Stops};
+ghost use Rattle.fdl_parser.specs.Tiers.{Looser};
 ghost use Rattle.fdl_parser.specs.Tokens.{spell, reading, StaysWithin};
 ghost use Rattle.fdl_parser.specs.Items.{IsKind, IsCount, IsMember, IsStructure, AreRoles, IsPerson, IsProcess, IsItem, IsTree};
 ghost use Rattle.fdl_parser.specs.Alike.{AlikeTree};
@@ -21,6 +24,7 @@ impl<'a> Cursor<'a> {
         ensures within { StaysWithin self.old self.new }
         ensures read { IfOk result (λ kind. IsKind kind self.old.left self.new.left) }
         ensures names { IfErr result (Names self.new) }
+        ensures stops { IfErr result (Stops Anything (Reads IsKind) self.old.left self.new.left) }
     {
         if self.is_word(keyword::LONG) {
             self.word(keyword::LONG)?;
@@ -40,6 +44,8 @@ impl<'a> Cursor<'a> {
         ensures within { StaysWithin self.old self.new }
         ensures read { IfOk result (λ count. IsCount count self.old.left self.new.left) }
         ensures names { IfErr result (Names self.new) }
+        ensures taken { IfOk result (λ _. IsTaken (Looser 1) (Reads IsCount) self.old.left self.new.left) }
+        ensures stops { IfErr result (Stops (Looser 1) (Reads IsCount) self.old.left self.new.left) }
     {
         if !self.is_mark(mark::OPEN) {
             return Ok(None);
@@ -55,6 +61,7 @@ impl<'a> Cursor<'a> {
         ensures within { StaysWithin self.old self.new }
         ensures read { IfOk result (λ member. IsMember member self.old.left self.new.left) }
         ensures names { IfErr result (Names self.new) }
+        ensures stops { IfErr result (Stops Anything (Reads IsMember) self.old.left self.new.left) }
     {
         let name = self.name()?;
         self.mark(mark::COLON)?;
@@ -69,6 +76,7 @@ impl<'a> Cursor<'a> {
         ensures within { StaysWithin self.old self.new }
         ensures read { IfOk result (λ structure. IsStructure structure self.old.left self.new.left) }
         ensures names { IfErr result (Names self.new) }
+        ensures stops { IfErr result (Stops Anything (Reads IsStructure) self.old.left self.new.left) }
     {
         self.word(keyword::STRUCTURE)?;
         let name = self.name()?;
@@ -86,6 +94,8 @@ impl<'a> Cursor<'a> {
         ensures within { StaysWithin self.old self.new }
         ensures read { IfOk result (λ roles. AreRoles roles self.old.left self.new.left) }
         ensures names { IfErr result (Names self.new) }
+        ensures taken { IfOk result (λ _. IsTaken (Looser 4) (Reads AreRoles) self.old.left self.new.left) }
+        ensures stops { IfErr result (Stops (Looser 4) (Reads AreRoles) self.old.left self.new.left) }
     {
         let mut roles = List::new(self.alloc());
         if !self.is_word(keyword::ROLES) {
@@ -107,6 +117,7 @@ impl<'a> Cursor<'a> {
         ensures within { StaysWithin self.old self.new }
         ensures read { IfOk result (λ person. IsPerson person self.old.left self.new.left) }
         ensures names { IfErr result (Names self.new) }
+        ensures stops { IfErr result (Stops Anything (Reads IsPerson) self.old.left self.new.left) }
     {
         self.word(keyword::PERSON)?;
         let name = self.name()?;
@@ -120,6 +131,7 @@ impl<'a> Cursor<'a> {
         ensures within { StaysWithin self.old self.new }
         ensures read { IfOk result (λ process. IsProcess process self.old.left self.new.left) }
         ensures names { IfErr result (Names self.new) }
+        ensures stops { IfErr result (Stops Anything (Reads IsProcess) self.old.left self.new.left) }
     {
         let place = self.word(keyword::PROCESS)?;
         let name = self.name()?;
@@ -141,6 +153,7 @@ impl<'a> Cursor<'a> {
         ensures within { StaysWithin self.old self.new }
         ensures read { IfOk result (λ item. IsItem item self.old.left self.new.left) }
         ensures names { IfErr result (Names self.new) }
+        ensures stops { IfErr result (Stops Anything (Reads IsItem) self.old.left self.new.left) }
     {
         if self.is_word(keyword::STRUCTURE) {
             let structure = self.structure()?;
@@ -165,6 +178,8 @@ pub fn parse(alloc: Global, text: &[u8], tokens: &Tokens) -> Result<Tree, Syntax
     ensures tree { IfOk result (λ tree. IsTree tree (spell text.now tokens.now.items)) }
     ensures one { IfOk result (λ tree. AreTokens text.now tokens.now.items → (other : Tree) → IsTree other (spell text.now tokens.now.items) → AlikeTree tree other) }
     ensures names { IfErr result (NamesOne (reading text.now tokens.now.items)) }
+    ensures first { IfErr result (RefusesFirst text.now tokens.now.items) }
+    ensures none { IfErr result (HaveNoTree text.now tokens.now.items) }
 {
     let mut cursor = Cursor::new(alloc, text, tokens.items.as_slice());
     let mut items = List::new(alloc);

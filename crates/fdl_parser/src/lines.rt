@@ -1,6 +1,8 @@
 //! CONTROL and DATA lines.
 ghost use Rattle.std.specs.Prelude.{◌≡◌, ◌<◌, ◌≤◌, length, IfOk, IfErr};
 ghost use Rattle.fdl_parser.specs.Faults.{Names};
+ghost use Rattle.fdl_parser.specs.Stops.{Reads, Anything, IsTaken, Stops};
+ghost use Rattle.fdl_parser.specs.Tiers.{Looser};
 ghost use Rattle.fdl_parser.specs.Tokens.{StaysWithin};
 ghost use Rattle.fdl_parser.specs.Lines.{IsTransition, IsControl, IsEnd, AreEnds, IsMap, AreMaps, IsDataLine};
 
@@ -15,6 +17,8 @@ impl<'a> Cursor<'a> {
         ensures within { StaysWithin self.old self.new }
         ensures read { IfOk result (λ when. IsTransition when self.old.left self.new.left) }
         ensures names { IfErr result (Names self.new) }
+        ensures taken { IfOk result (λ _. IsTaken (Looser 4) (Reads IsTransition) self.old.left self.new.left) }
+        ensures stops { IfErr result (Stops (Looser 4) (Reads IsTransition) self.old.left self.new.left) }
     {
         if self.is_word(keyword::OTHERWISE) {
             self.word(keyword::OTHERWISE)?;
@@ -33,6 +37,8 @@ impl<'a> Cursor<'a> {
         ensures within { StaysWithin self.old self.new }
         ensures read { IfOk result (λ control. IsControl control self.old.left self.new.left) }
         ensures names { IfErr result (Names self.new) }
+        ensures taken { IfOk result (λ _. IsTaken (Looser 4) (Reads IsControl) self.old.left self.new.left) }
+        ensures stops { IfErr result (Stops (Looser 4) (Reads IsControl) self.old.left self.new.left) }
     {
         let place = self.word(keyword::CONTROL)?;
         self.word(keyword::FROM)?;
@@ -54,6 +60,7 @@ impl<'a> Cursor<'a> {
         ensures within { StaysWithin self.old self.new }
         ensures read { IfOk result (λ end. IsEnd border end self.old.left self.new.left) }
         ensures names { IfErr result (Names self.new) }
+        ensures stops { IfErr result (Stops Anything (Reads (IsEnd border)) self.old.left self.new.left) }
     {
         if self.is_word(border) {
             self.word(border)?;
@@ -69,6 +76,7 @@ impl<'a> Cursor<'a> {
         ensures within { StaysWithin self.old self.new }
         ensures read { IfOk result (λ ends. AreEnds ends self.old.left self.new.left) }
         ensures names { IfErr result (Names self.new) }
+        ensures stops { IfErr result (Stops Anything (Reads AreEnds) self.old.left self.new.left) }
     {
         if self.is_word(keyword::LOOP) {
             self.word(keyword::LOOP)?;
@@ -87,6 +95,8 @@ impl<'a> Cursor<'a> {
         ensures within { StaysWithin self.old self.new }
         ensures read { IfOk result (λ map. IsMap map self.old.left self.new.left) }
         ensures names { IfErr result (Names self.new) }
+        ensures taken { IfOk result (λ _. IsTaken (Looser 9) (Reads IsMap) self.old.left self.new.left) }
+        ensures stops { IfErr result (Stops (Looser 9) (Reads IsMap) self.old.left self.new.left) }
     {
         let from = self.leaf()?;
         self.word(keyword::TO)?;
@@ -99,6 +109,8 @@ impl<'a> Cursor<'a> {
         ensures within { StaysWithin self.old self.new }
         ensures read { IfOk result (λ maps. AreMaps maps self.old.left self.new.left) }
         ensures names { IfErr result (Names self.new) }
+        ensures taken { IfOk result (λ _. IsTaken (Looser 5) (Reads AreMaps) self.old.left self.new.left) }
+        ensures stops { IfErr result (Stops (Looser 5) (Reads AreMaps) self.old.left self.new.left) }
     {
         self.word(keyword::MAP)?;
         let mut maps = List::new(self.alloc());
@@ -117,6 +129,8 @@ impl<'a> Cursor<'a> {
         ensures within { StaysWithin self.old self.new }
         ensures read { IfOk result (λ line. IsDataLine line self.old.left self.new.left) }
         ensures names { IfErr result (Names self.new) }
+        ensures taken { IfOk result (λ _. IsTaken (Looser 5) (Reads IsDataLine) self.old.left self.new.left) }
+        ensures stops { IfErr result (Stops (Looser 5) (Reads IsDataLine) self.old.left self.new.left) }
     {
         let place = self.word(keyword::DATA)?;
         let ends = self.ends()?;

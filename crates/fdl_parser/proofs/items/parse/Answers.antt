@@ -4,6 +4,7 @@ use Rattle.fdl_parser.proofs.SameItems.{items_like}
 use Rattle.fdl_parser.proofs.Quoted.{tokens_quoted}
 use Rattle.fdl_parser.specs.Items.{NoItem, MoreItems}
 use Rattle.fdl_parser.proofs.Rows.{read_whole, names_one}
+use Rattle.fdl_parser.proofs.StopsItems.{refuses_item, refused_first, refused_none, some_left}
 use Rattle.fdl_parser.proofs.items.parse.Goals as goal
 
 pub loop-cursor-init : goal.loop-cursor-init
@@ -26,3 +27,13 @@ pub returns-in_err-text_item-clause-names : goal.returns-in_err-text_item-clause
 returns-in_err-text_item-clause-names c =
     let p = err_from_is_err_and c.from_residual.result c.from_residual.ensures.1 in
     rw (p.1, p.2) (names_one _ _ _ (c.text_item.ensures.within _ c.loop-cursor.invariant.within) c.in_err-text_item.ensures.names)
+
+pub returns-in_err-text_item-clause-first : goal.returns-in_err-text_item-clause-first
+returns-in_err-text_item-clause-first c =
+    let p = err_from_is_err_and c.from_residual.result c.from_residual.ensures.1 in
+    rw (p.1, p.2) (refused_first _ _ _ c.text_item.new.self (c.text_item.ensures.within _ c.loop-cursor.invariant.within) c.in_err-text_item.ensures.names (refuses_item c.loop-cursor.invariant.read (some_left _ _ c.is_at_end.ensures c.loop-cursor-test.true) c.in_err-text_item.ensures.stops))
+
+pub returns-in_err-text_item-clause-none : goal.returns-in_err-text_item-clause-none
+returns-in_err-text_item-clause-none c =
+    let p = err_from_is_err_and c.from_residual.result c.from_residual.ensures.1 in
+    rw (p.1, p.2) (refused_none _ _ _ (refused_first _ _ _ c.text_item.new.self (c.text_item.ensures.within _ c.loop-cursor.invariant.within) c.in_err-text_item.ensures.names (refuses_item c.loop-cursor.invariant.read (some_left _ _ c.is_at_end.ensures c.loop-cursor-test.true) c.in_err-text_item.ensures.stops)))

@@ -1,6 +1,7 @@
 use Rattle.fdl_parser.specs.Tokens.{StaysWithin}
 use Rattle.std.proofs.Common.{◌<◌, ◌+◌, ◌*◌, length}
 use Rattle.fdl_parser.specs.Conditions.{AreConjoined, AreDisjoined}
+use Rattle.fdl_parser.proofs.StopsConditions.{ConjunctionSoFar, DisjunctionSoFar}
 use Rattle.fdl_parser.proofs.cursor.Cursor.+condition.Given as goal
 
 abbrev pub decreases-conjunction : goal.decreases-conjunction
@@ -16,6 +17,7 @@ abbrev pub invariant-conjunction-loop-self : goal.invariant-conjunction-loop-sel
 invariant-conjunction-loop-self l = record {
   shorter : length l.self.left < length l.fn.self.left;
   within : StaysWithin l.fn.self l.self;
+  so_far : ConjunctionSoFar l.levels l.fn.self.left l.self.left;
   read : AreConjoined l.levels l.members l.fn.self.left l.self.left;
 }
 
@@ -26,6 +28,7 @@ abbrev pub invariant-disjunction-loop-self : goal.invariant-disjunction-loop-sel
 invariant-disjunction-loop-self l = record {
   shorter : length l.self.left < length l.fn.self.left;
   within : StaysWithin l.fn.self l.self;
+  so_far : DisjunctionSoFar l.levels l.fn.self.left l.self.left;
   read : AreDisjoined l.levels l.members l.fn.self.left l.self.left;
 }
 

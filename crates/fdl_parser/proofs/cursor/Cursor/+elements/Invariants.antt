@@ -1,6 +1,7 @@
 use Rattle.fdl_parser.specs.Tokens.{StaysWithin}
 use Rattle.std.proofs.Common.{◌≤◌, ◌+◌, ◌*◌, length}
 use Rattle.fdl_parser.specs.Activities.{AreElements}
+use Rattle.fdl_parser.proofs.StopsActivities.{ElementsSoFar}
 use Rattle.fdl_parser.proofs.cursor.Cursor.+elements.Given as goal
 
 abbrev pub decreases-block : goal.decreases-block
@@ -16,6 +17,7 @@ abbrev pub invariant-elements-loop-elements : goal.invariant-elements-loop-eleme
 invariant-elements-loop-elements l = record {
   shorter : length l.self.left ≤ length l.fn.self.left;
   within : StaysWithin l.fn.self l.self;
+  so_far : ElementsSoFar l.levels l.fn.self.left l.self.left;
   read : AreElements l.levels l.elements l.fn.self.left l.self.left;
 }
 

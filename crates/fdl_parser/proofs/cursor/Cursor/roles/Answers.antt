@@ -1,5 +1,7 @@
 use Rattle.std.proofs.Common.{arith}
 use Rattle.fdl_parser.specs.Items.{FirstRole, NextRole, NoRoles, SomeRoles}
+use Rattle.fdl_parser.proofs.Stops.{at_err}
+use Rattle.fdl_parser.proofs.StopsItems.{roles_none, roles_taken, stops_first_role, stops_next_role}
 use Rattle.fdl_parser.proofs.cursor.Cursor.roles.Goals as goal
 
 pub returns-then-not-is_word-clause-read : goal.returns-then-not-is_word-clause-read
@@ -21,3 +23,15 @@ loop-self-preserved c = record {
 
 pub returns-clause-read : goal.returns-clause-read
 returns-clause-read c = SomeRoles c.loop-self.invariant.read
+
+pub returns-then-not-is_word-clause-taken : goal.returns-then-not-is_word-clause-taken
+returns-then-not-is_word-clause-taken c = roles_none (c.is_word.ensures.no c.if-not-is_word.true)
+
+pub returns-clause-taken : goal.returns-clause-taken
+returns-clause-taken c = roles_taken c.loop-self.invariant.read (c.is_mark.ensures.no c.loop-self-test.false)
+
+pub returns-in_err-first-clause-stops : goal.returns-in_err-first-clause-stops
+returns-in_err-first-clause-stops c = at_err c.from_residual-in_err-first.result c.in_err-first.field-0.0 c.from_residual-in_err-first.ensures.1 (stops_first_role c.in_ok-word.ensures.read c.in_err-first.ensures.stops)
+
+pub returns-in_err-next-clause-stops : goal.returns-in_err-next-clause-stops
+returns-in_err-next-clause-stops c = at_err c.from_residual-in_err-next.result c.in_err-next.field-0.0 c.from_residual-in_err-next.ensures.1 (stops_next_role c.loop-self.invariant.read c.in_ok-mark.ensures.read c.in_err-next.ensures.stops)
