@@ -3,3 +3,5 @@ pub mod Parts
 pub mod Conditions
 pub mod Elements
 pub mod Canonical
+pub mod Same
+pub mod Laws
