@@ -1,10 +1,17 @@
 pub mod Indexing
 pub mod Rows
 pub mod Sorting
+pub mod Finding
+pub mod Again
+pub mod Meetings
 pub mod Differing
 pub mod Naming
 pub mod Judging
+pub mod Doubling
 pub mod Listing
+pub mod Graphs
+pub mod Judgements
+pub mod Passing
 pub mod Laying
 pub mod Calling
 pub mod ProcessNames

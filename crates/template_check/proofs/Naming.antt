@@ -8,8 +8,7 @@ use Rattle.std.specs.HashMap as hash
 use Rattle.std.specs.HashMap.{HashMap}
 use Rattle.std.specs.Map.{lookup, IsKeyTest, AreApart, KeepsOthers}
 use Rattle.std.proofs.lemmas.Bool.{cases_Bool, cond-true, cond-false}
-use Rattle.flow_model.specs.declared.trees.ActivityTree.{ActivityTree}
-use Rattle.template_check.specs.Texts.{first_place, AreNumbered}
+use Rattle.template_check.specs.Texts.{first_place}
 
 apart : (bs cs ks : List ℕ) → bytes_eq bs cs ≡ false → bytes_eq bs ks ≡ true → bytes_eq cs ks ≡ false
 apart bs cs ks n y = nat_list_eq_equiv.symm cs ks ∙ sym (nat_list_eq_equiv.congr bs ks cs y) ∙ n
@@ -56,20 +55,23 @@ unknown_or : (o p : Option ℕ) → is_some o ≡ false → p ≡ option_or o p
 unknown_or None p h = refl
 unknown_or (Some n) p h = cc
 
-module _ {S : Type 0} (xs : List ActivityTree) (x : ActivityTree) (bs : List ℕ) (named : bs ≡ x.name.name) (m : HashMap (Bor (List ℕ)) ℕ S) (so_far : AreNumbered xs m) where
+abbrev Numbered : {S X : Type 0} → (X → List ℕ) → List X → HashMap (Bor (List ℕ)) ℕ S → Type 0
+Numbered name_of xs numbers = (key : List ℕ) → hash.get_by (λ k. bytes_eq key k.now) numbers ≡ first_place (λ x. bytes_eq (name_of x) key) xs
+
+module _ {S X : Type 0} (name_of : X → List ℕ) (xs : List X) (x : X) (bs : List ℕ) (named : bs ≡ name_of x) (m : HashMap (Bor (List ℕ)) ℕ S) (so_far : Numbered name_of xs m) where
   abbrev got : List ℕ → Option ℕ
   got key = hash.get_by (λ k. bytes_eq key k.now) m
 
   goal_at : (key : List ℕ) (b : Bool) (o : Option ℕ) → bytes_eq bs key ≡ b → o ≡ option_or (got key) (cond b (Some (length xs)) None)
-      → o ≡ first_place (λ a. bytes_eq a.name.name key) (xs ++ x ∷ [])
+      → o ≡ first_place (λ a. bytes_eq (name_of a) key) (xs ++ x ∷ [])
   goal_at key b o tells h =
       h
       ∙ ap (λ (c : Bool). option_or (got key) (cond c (Some (length xs)) None)) (sym tells ∙ ap (λ (l : List ℕ). bytes_eq l key) named)
-      ∙ ap (λ (p : Option ℕ). option_or p (cond (bytes_eq x.name.name key) (Some (length xs)) None)) (so_far key)
-      ∙ sym (first_pushed (λ a. bytes_eq a.name.name key) xs x)
+      ∙ ap (λ (p : Option ℕ). option_or p (cond (bytes_eq (name_of x) key) (Some (length xs)) None)) (so_far key)
+      ∙ sym (first_pushed (λ a. bytes_eq (name_of a) key) xs x)
 
   -- an element whose name was met before
-  pub numbered_old : is_some (got bs) ≡ true → AreNumbered (xs ++ x ∷ []) m
+  pub numbered_old : is_some (got bs) ≡ true → Numbered name_of (xs ++ x ∷ []) m
   numbered_old known = λ key.
       ⊎_elim
       (λ y. goal_at key true (got key) y (known_or (got key) (Some (length xs)) (subst (λ l. is_some (got l) ≡ true) ((bytes_decides bs key).0 y) known)))
@@ -77,7 +79,7 @@ module _ {S : Type 0} (xs : List ActivityTree) (x : ActivityTree) (bs : List ℕ
       (cases_Bool (bytes_eq bs key))
 
   -- an element of a new name
-  pub numbered_new : is_some (got bs) ≡ false → (n : HashMap (Bor (List ℕ)) ℕ S) (place : ℕ) → place ≡ length xs → hash.UpdatesBy (λ x y. bytes_eq x.now y.now) (λ k. bytes_eq bs k.now) m n (Some place) → AreNumbered (xs ++ x ∷ []) n
+  pub numbered_new : is_some (got bs) ≡ false → (n : HashMap (Bor (List ℕ)) ℕ S) (place : ℕ) → place ≡ length xs → hash.UpdatesBy (λ x y. bytes_eq x.now y.now) (λ k. bytes_eq bs k.now) m n (Some place) → Numbered name_of (xs ++ x ∷ []) n
   numbered_new unknown n place placed h = λ key.
       updated bs m n (Some place) h key ∙
       ⊎_elim
@@ -93,15 +95,15 @@ met_more {X} items i x less is =
 met_length : {X : Type 0} (items : List (Bor X)) (i : ℕ) → i < length items → i ≡ length (map (λ (y : Bor X). y.now) (take i items))
 met_length {X} items i less = sym (length-map (take i items) (λ (y : Bor X). y.now) ∙ (let h = length-take i items in omega arith))
 
-module _ {S : Type 0} (items : List (Bor ActivityTree)) (i : ℕ) (x : Bor ActivityTree) (less : i < length items) (is : x ≡ get_or items i x) (bs : List ℕ) (named : bs ≡ x.now.name.name) (m : HashMap (Bor (List ℕ)) ℕ S)
-    (so_far : AreNumbered (map (λ a. a.now) (take i items)) m) where
-  pub met_old : is_some (hash.get_by (λ k. bytes_eq bs k.now) m) ≡ true → AreNumbered (map (λ a. a.now) (take (i + 1) items)) m
-  met_old known = subst (λ xs. AreNumbered xs m) (sym (met_more items i x less is)) (numbered_old (map (λ a. a.now) (take i items)) x.now bs named m so_far known)
+module _ {S X : Type 0} (name_of : X → List ℕ) (items : List (Bor X)) (i : ℕ) (x : Bor X) (less : i < length items) (is : x ≡ get_or items i x) (bs : List ℕ) (named : bs ≡ name_of x.now) (m : HashMap (Bor (List ℕ)) ℕ S)
+    (so_far : Numbered name_of (map (λ a. a.now) (take i items)) m) where
+  pub met_old : is_some (hash.get_by (λ k. bytes_eq bs k.now) m) ≡ true → Numbered name_of (map (λ a. a.now) (take (i + 1) items)) m
+  met_old known = subst (λ xs. Numbered name_of xs m) (sym (met_more items i x less is)) (numbered_old name_of (map (λ a. a.now) (take i items)) x.now bs named m so_far known)
 
   pub met_new : is_some (hash.get_by (λ k. bytes_eq bs k.now) m) ≡ false → (n : HashMap (Bor (List ℕ)) ℕ S) (place : ℕ) → place ≡ i → hash.UpdatesBy (λ x y. bytes_eq x.now y.now) (λ k. bytes_eq bs k.now) m n (Some place)
-      → AreNumbered (map (λ a. a.now) (take (i + 1) items)) n
+      → Numbered name_of (map (λ a. a.now) (take (i + 1) items)) n
   met_new unknown n place placed h =
-      subst (λ xs. AreNumbered xs n) (sym (met_more items i x less is)) (numbered_new (map (λ a. a.now) (take i items)) x.now bs named m so_far unknown n place (placed ∙ met_length items i less) h)
+      subst (λ xs. Numbered name_of xs n) (sym (met_more items i x less is)) (numbered_new name_of (map (λ a. a.now) (take i items)) x.now bs named m so_far unknown n place (placed ∙ met_length items i less) h)
 
 -- a first place is one of the list
 pub first_below : {X : Type 0} (test : X → Bool) (xs : List X) (n : ℕ) → first_place test xs ≡ Some n → n < length xs

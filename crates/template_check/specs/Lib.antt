@@ -5,9 +5,17 @@ pub mod GraphTexts
 pub mod Attributes
 pub mod ReturnCodes
 pub mod Leaves
+pub mod Places
 pub mod Meeting
 pub mod GraphEdges
 pub mod Blocks
+pub mod Graphs
+pub mod Names
+pub mod KindsMet
+pub mod Connectors
+pub mod EdgesMet
+pub mod Structures
+pub mod Rules
 pub mod Wires
 pub mod Calling
 pub mod Knowing
@@ -15,3 +23,4 @@ pub mod Built
 pub mod Meant
 pub mod Passed
 pub mod Compiling
+pub mod Judged

@@ -1,11 +1,17 @@
 //! The rules in their order, and what an accepted text compiles to.
-ghost use Rattle.std.specs.Prelude.{◌≡◌, None, length, IfOk};
+ghost use Rattle.std.specs.Prelude.{◌≡◌, ◌<◌, List, None, length, IfOk, IfErr};
 ghost use Rattle.std.specs.List.{All};
+ghost use Rattle.flow_model.specs.declared.trees.ItemTree.{ItemTree};
 ghost use Rattle.template_check.specs.Blocks.{lists_of, IsCovered};
 ghost use Rattle.template_check.specs.Built.{AreSoundBehind, AreSoundWithin, IsSound};
 ghost use Rattle.template_check.specs.Compiling.{AreBuilt, HasTree, IsNamedBy, IsMeantBy};
+ghost use Rattle.template_check.specs.Graphs.{graphs_in, AreGraphsOf};
+ghost use Rattle.template_check.specs.Judged.{IsFault, IsEarly, IsJudged, IsJudgedText};
 ghost use Rattle.template_check.specs.Knowing.{IsKnowing};
+ghost use Rattle.template_check.specs.Names.{structures_in};
 ghost use Rattle.template_check.specs.Passed.{IsPassed};
+ghost use Rattle.template_check.specs.Rules.{NoneTo, IsFoundTo};
+ghost use Rattle.template_check.specs.Structures.{behind};
 ghost use Rattle.template_check.specs.Texts.{lines_in, processes_in, AreNamesApart, IsConnected, IsLimited, IsLineAlong};
 
 use crate::building::{BuildFault, Builder};
@@ -43,7 +49,9 @@ pub fn line_of(text: &[u8], place: u32) -> u32 {
     small(before.iter().filter(|byte| **byte == b'\n').count()).saturating_add(1)
 }
 
-fn fault(text: &[u8], rule: u8, place: u32) -> ImportFault {
+fn fault(text: &[u8], rule: u8, place: u32) -> ImportFault
+    ensures { IsFault rule place result }
+{
     ImportFault::Rule(RuleFault {
         rule,
         line: line_of(text, place),
@@ -53,7 +61,8 @@ fn fault(text: &[u8], rule: u8, place: u32) -> ImportFault {
 
 /// The tree of a text; else the first of rules 1, 2 and 3 that is broken, or rule 24 of a text that is too long.
 pub fn syntax_tree(alloc: Global, text: &[u8]) -> Result<Tree, ImportFault>
-    ensures { IfOk result (HasTree text.now) }
+    ensures tree { IfOk result (HasTree text.now) }
+    ensures early { IfErr result (IsEarly text.now) }
 {
     if text.len() > MOST_BYTES {
         return Err(fault(text, 24, 0));
@@ -85,7 +94,10 @@ fn first_names<'a>(
     structures: &mut Structures<'a>,
     scopes: &[Scope<'a>],
 ) -> Result<Broken, AllocError>
-    ensures { IfOk result (λ fault. fault ≡ None → All (λ s. AreNamesApart s.elements.now) scopes.now) }
+    requires graphs { AreGraphsOf tree.now.items (graphs_in scopes.now) }
+    requires structures { behind structures.old.definitions.items ≡ structures_in tree.now.items }
+    ensures named { IfOk result (λ fault. fault ≡ None → All (λ s. AreNamesApart s.elements.now) scopes.now) }
+    ensures first { IfOk result (IsFoundTo tree.now.items 8) }
 {
     if let Some(place) = end_name(tree, scopes) {
         return Ok(Some((4, place)));
@@ -99,16 +111,16 @@ fn first_names<'a>(
     if let Some(place) = structures.cycle(alloc)? {
         return Ok(Some((7, place)));
     }
-    Ok(broken(8, structures.too_many_leaves()))
+    match structures.too_many_leaves() {
+        Some(place) => Ok(Some((8, place))),
+        None => Ok(None),
+    }
 }
 
 /// The least place that a rule on single graphs finds.
 #[derive(Clone, Copy, Debug, PartialEq, Eq)]
 enum GraphRule {
-    UnknownActivity,
-    DoubleConnector,
     Cycle,
-    EmptyGraph,
     Otherwise,
     UnreachableData,
     Performer,
@@ -118,10 +130,7 @@ fn graph_fault(alloc: Global, rule: GraphRule, scope: &Scope<'_>) -> Result<Opti
     ensures { IfOk result (λ place. place ≡ None → IsPassed rule scope.now.elements.now) }
 {
     match rule {
-        GraphRule::UnknownActivity => Ok(unknown_activity(scope)),
-        GraphRule::DoubleConnector => double_connector(alloc, scope),
         GraphRule::Cycle => cycle(alloc, scope),
-        GraphRule::EmptyGraph => Ok(empty_graph(scope)),
         GraphRule::Otherwise => otherwise(alloc, scope),
         GraphRule::UnreachableData => unreachable_data(alloc, scope),
         GraphRule::Performer => performer(alloc, scope),
@@ -144,18 +153,19 @@ fn over_graphs(
 
 /// Rules 9 to 12.
 fn first_connectors(alloc: Global, scopes: &[Scope<'_>]) -> Result<Broken, AllocError>
-    ensures { IfOk result (λ fault. fault ≡ None → All (λ s. IsConnected s.elements.now) scopes.now) }
+    ensures connected { IfOk result (λ fault. fault ≡ None → All (λ s. IsConnected s.elements.now) scopes.now) }
+    ensures first { IfOk result (λ fault. (items : List ItemTree) → AreGraphsOf items (graphs_in scopes.now) → NoneTo items 8 → IsFoundTo items 12 fault) }
 {
-    if let Some(place) = over_graphs(alloc, GraphRule::UnknownActivity, scopes)? {
+    if let Some(place) = unknown_activity(scopes) {
         return Ok(Some((9, place)));
     }
-    if let Some(place) = over_graphs(alloc, GraphRule::DoubleConnector, scopes)? {
+    if let Some(place) = double_connector(alloc, scopes)? {
         return Ok(Some((10, place)));
     }
     if let Some(place) = over_graphs(alloc, GraphRule::Cycle, scopes)? {
         return Ok(Some((11, place)));
     }
-    match over_graphs(alloc, GraphRule::EmptyGraph, scopes)? {
+    match empty_graph(scopes) {
         Some(place) => Ok(Some((12, place))),
         None => Ok(None),
     }
@@ -363,6 +373,13 @@ fn shape_of(shapes: &[Shape], number: usize) -> Shape {
     shape.unwrap_or(Shape { depth: 0, size: 0 })
 }
 
+/// A fault of one of the rules from 13 on, where none before them is broken.
+fn late(fault: (u8, u32)) -> (u8, u32)
+    ensures { 12 < result.0 }
+{
+    (fault.0.max(13), fault.1)
+}
+
 /// Judges rules 9 to 24, and builds what the text adds where none is broken.
 fn connected_and_built<'a>(
     alloc: Global,
@@ -373,11 +390,17 @@ fn connected_and_built<'a>(
 ) -> Result<Result<Compiled, (u8, u32)>, AllocError>
     requires covered { All (λ p. IsCovered (lists_of scopes.now) p.elements) (processes_in tree.now.items) }
     requires named { All (λ s. AreNamesApart s.elements.now) scopes.now }
-    ensures { IfOk result (λ judged. IfOk judged (λ compiled. AreBuilt earlier.now tree.now.items compiled.templates)) }
+    requires graphs { AreGraphsOf tree.now.items (graphs_in scopes.now) }
+    requires before { NoneTo tree.now.items 8 }
+    ensures built { IfOk result (λ judged. IfOk judged (λ compiled. AreBuilt earlier.now tree.now.items compiled.templates)) }
+    ensures first { IfOk result (IsJudged tree.now.items) }
 {
-    match first_connectors(alloc, scopes)? {
-        Some(fault) => Ok(Err(fault)),
-        None => judged_and_built(alloc, tree, structures, scopes, earlier),
+    if let Some(fault) = first_connectors(alloc, scopes)? {
+        return Ok(Err(fault));
+    }
+    match judged_and_built(alloc, tree, structures, scopes, earlier)? {
+        Ok(compiled) => Ok(Ok(compiled)),
+        Err(fault) => Ok(Err(late(fault))),
     }
 }
 
@@ -387,7 +410,8 @@ fn compile_tree(
     tree: &Tree,
     earlier: &Catalog,
 ) -> Result<Result<Compiled, (u8, u32)>, AllocError>
-    ensures { IfOk result (λ judged. IfOk judged (λ compiled. AreBuilt earlier.now tree.now.items compiled.templates)) }
+    ensures built { IfOk result (λ judged. IfOk judged (λ compiled. AreBuilt earlier.now tree.now.items compiled.templates)) }
+    ensures first { IfOk result (IsJudged tree.now.items) }
 {
     let scopes = text_scopes(alloc, tree)?;
     let mut structures = Structures::new(alloc, tree)?;
@@ -404,6 +428,7 @@ pub fn compile(alloc: Global, text: &[u8], earlier: &Catalog) -> Result<Compiled
     ensures sound { IfOk result (λ compiled. AreSoundBehind (length earlier.now.library.templates) compiled.templates) }
     ensures named { IfOk result (λ compiled. IsNamedBy text.now compiled.templates) }
     ensures meant { IfOk result (λ compiled. IsMeantBy text.now earlier.now compiled.templates) }
+    ensures judged { IsJudgedText text.now result }
 {
     let tree = syntax_tree(alloc, text)?;
     match compile_tree(alloc, &tree, earlier)? {

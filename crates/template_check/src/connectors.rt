@@ -1,10 +1,15 @@
 //! Rules 9 to 12, 15 and 16: connectors and data lines as edges of their graph.
-ghost use Rattle.std.specs.Prelude.{ℕ, ◌≡◌, ◌<◌, false, true, None, IfOk, OnOk, length};
+ghost use Rattle.std.specs.Prelude.{◌≡◌, ◌<◌, ℕ, List, [], ◌∷◌, ◌++◌, None, false, true, IfOk, OnOk};
+ghost use Rattle.std.specs.List.{All};
+ghost use Rattle.flow_model.specs.declared.trees.ControlTree.{ControlTree};
+ghost use Rattle.template_check.specs.Graphs.{graph_at};
+ghost use Rattle.template_check.specs.Connectors.{IsNobody, IsLoose, IsEndNobody, AreEndsNobody, NamesNobody, IsDouble, IsEmptyGraph};
+ghost use Rattle.template_check.specs.EdgesMet.{AreEdgesMet};
+ghost use Rattle.template_check.specs.Places.{IsLeastOf, AnyAt};
 ghost use Rattle.graph_check.specs.Walks.{Reaches};
-ghost use Rattle.template_check.specs.Texts.{activities_in, edges_in, lines_in, line_edge, AllDiffer, IsNotClosing, IsLineAlong};
 ghost use Rattle.template_check.specs.ClosedWalks.{IsAcyclic};
 ghost use Rattle.template_check.specs.GraphEdges.{AreEdgesOf, AreKnown};
-ghost use Rattle.std.specs.List.{All};
+ghost use Rattle.template_check.specs.Texts.{controls_in, lines_in, edges_in, line_edge, IsNotClosing, IsLineAlong};
 
 use crate::edges::{Edges, is_marked};
 use crate::least::lesser;
@@ -14,54 +19,130 @@ use indexmap::{IndexMap, IndexSet};
 use std::alloc::{AllocError, Global};
 
 /// The place of a name that is no activity's of the graph.
-fn unknown<'a>(scope: &Scope<'a>, name: &'a NameAt) -> Option<u32> {
+fn unknown<'a>(scope: &Scope<'a>, name: &'a NameAt) -> Option<u32>
+    ensures { IsLeastOf (IsNobody scope.now.elements.now name.now) result }
+{
     match scope.number(name) {
         Some(_) => None,
         None => Some(name.place),
     }
 }
 
-fn unknown_end<'a>(scope: &Scope<'a>, end: &'a EndTree) -> Option<u32> {
+fn unknown_end<'a>(scope: &Scope<'a>, end: &'a EndTree) -> Option<u32>
+    ensures { IsLeastOf (IsEndNobody scope.now.elements.now end.now) result }
+{
     match end {
         EndTree::Border => None,
         EndTree::Activity(name) => unknown(scope, name),
     }
 }
 
-/// Rule 9: a CONTROL or DATA line names no activity of its own graph.
-pub fn unknown_activity(scope: &Scope<'_>) -> Option<u32> {
+fn unknown_ends<'a>(scope: &Scope<'a>, ends: &'a EndsTree) -> Option<u32>
+    ensures { IsLeastOf (AreEndsNobody scope.now.elements.now ends.now) result }
+{
+    match ends {
+        EndsTree::Line(from, to) => lesser(unknown_end(scope, from), unknown_end(scope, to)),
+        EndsTree::Loop(name) => unknown(scope, name),
+    }
+}
+
+fn unknown_in_control<'a>(scope: &Scope<'a>, control: &'a ControlTree) -> Option<u32>
+    ensures { IsLeastOf (IsLoose scope.now.elements.now control.now) result }
+{
+    lesser(unknown(scope, &control.from), unknown(scope, &control.to))
+}
+
+fn unknown_in_controls(scope: &Scope<'_>) -> Option<u32>
+    ensures { IsLeastOf (AnyAt (IsLoose scope.now.elements.now) (controls_in scope.now.elements.now)) result }
+{
     let mut least = None;
     for control in &scope.controls {
-        least = lesser(least, unknown(scope, &control.from));
-        least = lesser(least, unknown(scope, &control.to));
-    }
-    for line in &scope.lines {
-        let fault = match &line.ends {
-            EndsTree::Line(from, to) => lesser(unknown_end(scope, from), unknown_end(scope, to)),
-            EndsTree::Loop(name) => unknown(scope, name),
-        };
-        least = lesser(least, fault);
+        least = lesser(least, unknown_in_control(scope, control));
     }
     least
 }
 
-/// Rule 10: an earlier CONTROL of the graph has the same source and target.
-pub fn double_connector(alloc: Global, scope: &Scope<'_>) -> Result<Option<u32>, AllocError>
-    ensures { IfOk result (λ place. place ≡ None → AllDiffer (edges_in scope.now.elements.now)) }
+fn unknown_in_lines(scope: &Scope<'_>) -> Option<u32>
+    ensures { IsLeastOf (AnyAt (λ l. AreEndsNobody scope.now.elements.now l.ends) (lines_in scope.now.elements.now)) result }
 {
-    let mut met: IndexSet<(u32, u32)> = IndexSet::new(alloc);
-    for control in &scope.controls {
+    let mut least = None;
+    for line in &scope.lines {
+        least = lesser(least, unknown_ends(scope, &line.ends));
+    }
+    least
+}
+
+fn unknown_in_graph(scope: &Scope<'_>) -> Option<u32>
+    ensures { IsLeastOf (NamesNobody (graph_at scope.now)) result }
+{
+    lesser(unknown_in_controls(scope), unknown_in_lines(scope))
+}
+
+/// Rule 9: a CONTROL or DATA line names no activity of its own graph.
+pub fn unknown_activity(scopes: &[Scope<'_>]) -> Option<u32>
+    ensures { IsLeastOf (AnyAt (λ s. NamesNobody (graph_at s)) scopes.now) result }
+{
+    let mut least = None;
+    for scope in scopes {
+        least = lesser(least, unknown_in_graph(scope));
+    }
+    least
+}
+
+/// The ends of the connectors that were met, to find the least place of one that comes again.
+#[derive(Drop)]
+struct Doubles {
+    met: IndexSet<(u32, u32)>,
+    first: Option<u32>,
+}
+
+impl Doubles {
+    fn new<'a>(alloc: Global, scope: &Scope<'a>) -> Doubles
+        ensures { AreEdgesMet scope.now.elements.now result [] }
+    {
+        Doubles {
+            met: IndexSet::new(alloc),
+            first: None,
+        }
+    }
+
+    /// Meets a connector.
+    fn meet<'a>(&mut self, scope: &Scope<'a>, control: &'a ControlTree) -> Result<(), AllocError>
+        ensures { OnOk result ((controls : List ControlTree) → AreEdgesMet scope.now.elements.now self.old controls → AreEdgesMet scope.now.elements.now self.new (controls ++ control.now ∷ [])) }
+    {
         match scope.ends(&control.from, &control.to) {
-            None => {}
+            None => Ok(()),
             Some(ends) => {
-                let (_place, is_new) = met.insert_full(ends)?;
-                if !is_new {
-                    return Ok(Some(control.place));
+                let (_place, is_new) = self.met.insert_full(ends)?;
+                if is_new {
+                    return Ok(());
                 }
+                self.first = lesser(self.first, Some(control.place));
+                Ok(())
             }
         }
     }
-    Ok(None)
+}
+
+fn double_in_graph(alloc: Global, scope: &Scope<'_>) -> Result<Option<u32>, AllocError>
+    ensures { IfOk result (IsLeastOf (IsDouble (graph_at scope.now))) }
+{
+    let mut doubles = Doubles::new(alloc, scope);
+    for control in &scope.controls {
+        doubles.meet(scope, control)?;
+    }
+    Ok(doubles.first)
+}
+
+/// Rule 10: an earlier CONTROL of the graph has the same source and target.
+pub fn double_connector(alloc: Global, scopes: &[Scope<'_>]) -> Result<Option<u32>, AllocError>
+    ensures { IfOk result (IsLeastOf (AnyAt (λ s. IsDouble (graph_at s)) scopes.now)) }
+{
+    let mut least = None;
+    for scope in scopes {
+        least = lesser(least, double_in_graph(alloc, scope)?);
+    }
+    Ok(least)
 }
 
 /// Whether a connector lies on a closed walk.
@@ -99,15 +180,25 @@ pub fn cycle(alloc: Global, scope: &Scope<'_>) -> Result<Option<u32>, AllocError
     Ok(None)
 }
 
-/// Rule 12: a PROCESS or BLOCK has no activity.
-pub fn empty_graph(scope: &Scope<'_>) -> Option<u32>
-    ensures { result ≡ None → 0 < length (activities_in scope.now.elements.now) }
+fn empty(scope: &Scope<'_>) -> Option<u32>
+    ensures { IsLeastOf (IsEmptyGraph (graph_at scope.now)) result }
 {
     if scope.activities.is_empty() {
         Some(scope.place)
     } else {
         None
     }
+}
+
+/// Rule 12: a PROCESS or BLOCK has no activity.
+pub fn empty_graph(scopes: &[Scope<'_>]) -> Option<u32>
+    ensures { IsLeastOf (AnyAt (λ s. IsEmptyGraph (graph_at s)) scopes.now) result }
+{
+    let mut least = None;
+    for scope in scopes {
+        least = lesser(least, empty(scope));
+    }
+    least
 }
 
 fn is_otherwise(control: &ControlTree) -> bool {

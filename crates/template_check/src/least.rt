@@ -1,6 +1,8 @@
 //! The least of some places.
-ghost use Rattle.std.specs.Prelude.{◌≡◌, ℕ, List, [], ◌∷◌, ◌++◌, None, OnOk};
+ghost use Rattle.std.specs.Prelude.{◌≡◌, List, [], ◌∷◌, ◌++◌, None, OnOk};
+ghost use Rattle.flow_model.specs.declared.trees.NameAt.{NameAt};
 ghost use Rattle.template_check.specs.Meeting.{AreMet};
+ghost use Rattle.template_check.specs.Places.{lesser_of};
 
 use flow_model::NameAt;
 use indexmap::IndexSet;
@@ -8,7 +10,8 @@ use std::alloc::{AllocError, Global};
 
 /// The lesser of two places, where there are any.
 pub fn lesser(first: Option<u32>, second: Option<u32>) -> Option<u32>
-    ensures { result ≡ None → (first ≡ None) × (second ≡ None) }
+    ensures none { result ≡ None → (first ≡ None) × (second ≡ None) }
+    ensures least { result ≡ lesser_of first second }
 {
     match (first, second) {
         (None, _) => second,
@@ -17,7 +20,7 @@ pub fn lesser(first: Option<u32>, second: Option<u32>) -> Option<u32>
     }
 }
 
-/// The names that were met, to find the first that comes again.
+/// The names that were met, to find the least place of one that comes again.
 #[derive(Drop)]
 pub struct Repeats<'a> {
     met: IndexSet<&'a [u8]>,
@@ -34,9 +37,9 @@ impl<'a> Repeats<'a> {
         }
     }
 
-    /// Meets a name; names come in the order of their places.
+    /// Meets a name.
     pub fn meet(&mut self, name: &'a NameAt) -> Result<(), AllocError>
-        ensures { OnOk result ((names : List (List ℕ)) → AreMet self.old names → AreMet self.new (names ++ name.now.name ∷ [])) }
+        ensures { OnOk result ((names : List NameAt) → AreMet self.old names → AreMet self.new (names ++ name.now ∷ [])) }
     {
         let (_place, is_new) = self.met.insert_full(name.name.as_slice())?;
         if !is_new {
@@ -45,7 +48,7 @@ impl<'a> Repeats<'a> {
         Ok(())
     }
 
-    /// The place of the first name that came again.
+    /// The least place of a name that came again.
     pub fn first(&self) -> Option<u32>
         ensures { result ≡ self.now.first }
     {

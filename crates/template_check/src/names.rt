@@ -1,7 +1,12 @@
 //! Rules 4 and 5: the names after END, and what is declared twice.
-ghost use Rattle.std.specs.Prelude.{◌≡◌, None, IfOk};
-ghost use Rattle.std.specs.List.{All};
-ghost use Rattle.template_check.specs.Texts.{AreNamesApart};
+ghost use Rattle.std.specs.Prelude.{◌≡◌, ◌⊎◌, List, [], ◌∷◌, ◌++◌, map, IfOk};
+ghost use Rattle.flow_model.specs.declared.trees.AttrAt.{AttrAt};
+ghost use Rattle.template_check.specs.Graphs.{graph_at};
+ghost use Rattle.template_check.specs.Meeting.{IsAgainAt};
+ghost use Rattle.template_check.specs.KindsMet.{AreOfKind, IsKindMet};
+ghost use Rattle.template_check.specs.Names.{IsOtherEnd, IsItemEnd, AreActivityEnds, kind_said, IsKindAgain, AreAttributesAgain, structures_in, people_in, IsItemAgain, IsPartAgain, IsInsideAgain, IsEndWrong, IsTwice};
+ghost use Rattle.template_check.specs.Places.{IsLeastOf, AnyAt, PairAt};
+ghost use Rattle.template_check.specs.Texts.{activities_in, processes_in};
 
 use crate::least::{Repeats, lesser};
 use crate::scopes::Scope;
@@ -9,7 +14,9 @@ use flow_model::{ActivityTree, AttrAt, AttrTree, ItemTree, NameAt, PersonTree, S
 use std::alloc::{AllocError, Global};
 
 /// The place of the name after END, where it isn't the opening one.
-fn end_fault(name: &NameAt, end: &NameAt) -> Option<u32> {
+fn end_fault(name: &NameAt, end: &NameAt) -> Option<u32>
+    ensures { IsLeastOf (IsOtherEnd name.now end.now) result }
+{
     if name.name.as_slice() == end.name.as_slice() {
         None
     } else {
@@ -17,24 +24,29 @@ fn end_fault(name: &NameAt, end: &NameAt) -> Option<u32> {
     }
 }
 
-/// Rule 4: the name after END isn't the one after the opening word.
-pub fn end_name(tree: &Tree, scopes: &[Scope<'_>]) -> Option<u32> {
-    let mut least = None;
-    for item in tree.items.as_slice() {
-        let fault = match item {
-            ItemTree::Structure(structure) => end_fault(&structure.name, &structure.end),
-            ItemTree::Person(person) => end_fault(&person.name, &person.end),
-            ItemTree::Process(process) => end_fault(&process.name, &process.end),
-        };
-        least = lesser(least, fault);
+fn item_end(item: &ItemTree) -> Option<u32>
+    ensures { IsLeastOf (IsItemEnd item.now) result }
+{
+    match item {
+        ItemTree::Structure(structure) => end_fault(&structure.name, &structure.end),
+        ItemTree::Person(person) => end_fault(&person.name, &person.end),
+        ItemTree::Process(process) => end_fault(&process.name, &process.end),
     }
-    for scope in scopes {
-        least = lesser(least, activity_end(scope));
+}
+
+fn item_ends(items: &[ItemTree]) -> Option<u32>
+    ensures { IsLeastOf (AnyAt IsItemEnd items.now) result }
+{
+    let mut least = None;
+    for item in items {
+        least = lesser(least, item_end(item));
     }
     least
 }
 
-fn activity_end(scope: &Scope<'_>) -> Option<u32> {
+fn activity_ends(scope: &Scope<'_>) -> Option<u32>
+    ensures { IsLeastOf (AreActivityEnds (graph_at scope.now)) result }
+{
     let mut least = None;
     for activity in &scope.activities {
         least = lesser(least, end_fault(&activity.name, &activity.end));
@@ -42,25 +54,81 @@ fn activity_end(scope: &Scope<'_>) -> Option<u32> {
     least
 }
 
-/// A second structure, person or process of one name.
-fn second_item(alloc: Global, tree: &Tree) -> Result<Option<u32>, AllocError> {
+fn ends_in_graphs(scopes: &[Scope<'_>]) -> Option<u32>
+    ensures { IsLeastOf (AnyAt (λ s. AreActivityEnds (graph_at s)) scopes.now) result }
+{
+    let mut least = None;
+    for scope in scopes {
+        least = lesser(least, activity_ends(scope));
+    }
+    least
+}
+
+/// Rule 4: the name after END isn't the one after the opening word.
+pub fn end_name(tree: &Tree, scopes: &[Scope<'_>]) -> Option<u32>
+    ensures { IsLeastOf (IsEndWrong tree.now.items (AnyAt (λ s. AreActivityEnds (graph_at s)) scopes.now)) result }
+{
+    lesser(item_ends(tree.items.as_slice()), ends_in_graphs(scopes))
+}
+
+/// A second structure of one name.
+fn second_structure(alloc: Global, items: &[ItemTree]) -> Result<Option<u32>, AllocError>
+    ensures { IfOk result (IsLeastOf (PairAt IsAgainAt (map (λ s. s.name) (structures_in items.now)))) }
+{
     let mut structures = Repeats::new(alloc);
-    let mut people = Repeats::new(alloc);
-    let mut processes = Repeats::new(alloc);
-    for item in tree.items.as_slice() {
+    for item in items {
         match item {
             ItemTree::Structure(structure) => structures.meet(&structure.name)?,
+            ItemTree::Person(_) => {}
+            ItemTree::Process(_) => {}
+        }
+    }
+    Ok(structures.first())
+}
+
+/// A second person of one name.
+fn second_person(alloc: Global, items: &[ItemTree]) -> Result<Option<u32>, AllocError>
+    ensures { IfOk result (IsLeastOf (PairAt IsAgainAt (map (λ p. p.name) (people_in items.now)))) }
+{
+    let mut people = Repeats::new(alloc);
+    for item in items {
+        match item {
+            ItemTree::Structure(_) => {}
             ItemTree::Person(person) => people.meet(&person.name)?,
+            ItemTree::Process(_) => {}
+        }
+    }
+    Ok(people.first())
+}
+
+/// A second process of one name.
+fn second_process(alloc: Global, items: &[ItemTree]) -> Result<Option<u32>, AllocError>
+    ensures { IfOk result (IsLeastOf (PairAt IsAgainAt (map (λ p. p.name) (processes_in items.now)))) }
+{
+    let mut processes = Repeats::new(alloc);
+    for item in items {
+        match item {
+            ItemTree::Structure(_) => {}
+            ItemTree::Person(_) => {}
             ItemTree::Process(process) => processes.meet(&process.name)?,
         }
     }
-    Ok(lesser(
-        structures.first(),
-        lesser(people.first(), processes.first()),
-    ))
+    Ok(processes.first())
 }
 
-fn second_member(alloc: Global, structure: &StructDef) -> Result<Option<u32>, AllocError> {
+/// A second structure, person or process of one name.
+fn second_item(alloc: Global, items: &[ItemTree]) -> Result<Option<u32>, AllocError>
+    ensures { IfOk result (IsLeastOf (IsItemAgain items.now)) }
+{
+    let structure = second_structure(alloc, items)?;
+    let person = second_person(alloc, items)?;
+    let process = second_process(alloc, items)?;
+    Ok(lesser(structure, lesser(person, process)))
+}
+
+fn second_member(alloc: Global, structure: &StructDef) -> Result<Option<u32>, AllocError>
+    ensures { IfOk result (IsLeastOf (PairAt IsAgainAt (map (λ m. m.name) structure.now.members))) }
+{
     let mut members = Repeats::new(alloc);
     for member in structure.members.as_slice() {
         members.meet(&member.name)?;
@@ -68,7 +136,9 @@ fn second_member(alloc: Global, structure: &StructDef) -> Result<Option<u32>, Al
     Ok(members.first())
 }
 
-fn second_role(alloc: Global, person: &PersonTree) -> Result<Option<u32>, AllocError> {
+fn second_role(alloc: Global, person: &PersonTree) -> Result<Option<u32>, AllocError>
+    ensures { IfOk result (IsLeastOf (PairAt IsAgainAt person.now.roles)) }
+{
     let mut roles = Repeats::new(alloc);
     for role in person.roles.as_slice() {
         roles.meet(role)?;
@@ -76,8 +146,29 @@ fn second_role(alloc: Global, person: &PersonTree) -> Result<Option<u32>, AllocE
     Ok(roles.first())
 }
 
+/// A second member or role of one name.
+fn second_part(alloc: Global, item: &ItemTree) -> Result<Option<u32>, AllocError>
+    ensures { IfOk result (IsLeastOf (IsPartAgain item.now)) }
+{
+    match item {
+        ItemTree::Structure(structure) => second_member(alloc, structure),
+        ItemTree::Person(person) => second_role(alloc, person),
+        ItemTree::Process(_) => Ok(None),
+    }
+}
+
+fn second_parts(alloc: Global, items: &[ItemTree]) -> Result<Option<u32>, AllocError>
+    ensures { IfOk result (IsLeastOf (AnyAt IsPartAgain items.now)) }
+{
+    let mut least = None;
+    for item in items {
+        least = lesser(least, second_part(alloc, item)?);
+    }
+    Ok(least)
+}
+
 fn second_activity(alloc: Global, scope: &Scope<'_>) -> Result<Option<u32>, AllocError>
-    ensures { IfOk result (λ place. place ≡ None → AreNamesApart scope.now.elements.now) }
+    ensures { IfOk result (IsLeastOf (PairAt IsAgainAt (map (λ a. a.name) (activities_in scope.now.elements.now)))) }
 {
     let mut activities = Repeats::new(alloc);
     for activity in &scope.activities {
@@ -96,7 +187,9 @@ enum AttributeKind {
     DoneBy,
 }
 
-fn attribute_kind(what: &AttrTree) -> AttributeKind {
+fn attribute_kind(what: &AttrTree) -> AttributeKind
+    ensures { result ≡ kind_said what.now }
+{
     match what {
         AttrTree::When(_) => AttributeKind::When,
         AttrTree::Exit(_) => AttributeKind::Exit,
@@ -109,53 +202,96 @@ fn attribute_kind(what: &AttrTree) -> AttributeKind {
     }
 }
 
-fn has_kind(attributes: &[AttrAt], kind: AttributeKind) -> bool {
-    attributes
-        .iter()
-        .any(|attribute| attribute_kind(&attribute.what) == kind)
+/// The attributes of one kind that were met, to find the least place of one behind the first of them.
+#[derive(Drop)]
+struct OfKind {
+    kind: AttributeKind,
+    is_met: bool,
+    second: Option<u32>,
 }
 
-/// The first attribute of a kind that an earlier one of the activity has; among six there is one.
-fn second_attribute(activity: &ActivityTree) -> Option<u32> {
-    let attributes = activity.attrs.as_slice();
-    for (i, attribute) in attributes.iter().enumerate() {
-        if has_kind(&attributes[..i], attribute_kind(&attribute.what)) {
-            return Some(attribute.place);
+impl OfKind {
+    fn new(kind: AttributeKind) -> OfKind
+        ensures { IsKindMet result kind [] }
+    {
+        OfKind {
+            kind,
+            is_met: false,
+            second: None,
         }
     }
-    None
+
+    /// Meets an attribute.
+    fn meet(&mut self, attribute: &AttrAt)
+        ensures { (kind : AttributeKind) (attributes : List AttrAt) → IsKindMet self.old kind attributes → IsKindMet self.new kind (attributes ++ attribute.now ∷ []) }
+    {
+        if attribute_kind(&attribute.what) != self.kind {
+            return;
+        }
+        if self.is_met {
+            self.second = lesser(self.second, Some(attribute.place));
+            return;
+        }
+        self.is_met = true;
+    }
 }
 
-fn second_attribute_in(scope: &Scope<'_>) -> Option<u32> {
+/// A second attribute of this kind.
+fn second_of_kind(attributes: &[AttrAt], kind: AttributeKind) -> Option<u32>
+    ensures { IsLeastOf (PairAt (AreOfKind kind) attributes.now) result }
+{
+    let mut of_kind = OfKind::new(kind);
+    for attribute in attributes {
+        of_kind.meet(attribute);
+    }
+    of_kind.second
+}
+
+/// A second attribute of one kind.
+fn second_attribute(attributes: &[AttrAt]) -> Option<u32>
+    ensures { IsLeastOf (PairAt IsKindAgain attributes.now) result }
+{
+    let when = second_of_kind(attributes, AttributeKind::When);
+    let exit = second_of_kind(attributes, AttributeKind::Exit);
+    let start = second_of_kind(attributes, AttributeKind::Start);
+    let expires = second_of_kind(attributes, AttributeKind::Expires);
+    let done_by = second_of_kind(attributes, AttributeKind::DoneBy);
+    lesser(when, lesser(exit, lesser(start, lesser(expires, done_by))))
+}
+
+fn second_attributes(scope: &Scope<'_>) -> Option<u32>
+    ensures { IsLeastOf (AreAttributesAgain (graph_at scope.now)) result }
+{
     let mut least = None;
     for activity in &scope.activities {
-        least = lesser(least, second_attribute(activity));
+        least = lesser(least, second_attribute(activity.attrs.as_slice()));
     }
     least
 }
 
 /// A second structure, person or process of one name, or member or role.
-fn second_in_items(alloc: Global, tree: &Tree) -> Result<Option<u32>, AllocError> {
-    let mut least = second_item(alloc, tree)?;
-    for item in tree.items.as_slice() {
-        let fault = match item {
-            ItemTree::Structure(structure) => second_member(alloc, structure)?,
-            ItemTree::Person(person) => second_role(alloc, person)?,
-            ItemTree::Process(_) => None,
-        };
-        least = lesser(least, fault);
-    }
-    Ok(least)
+fn second_in_items(alloc: Global, items: &[ItemTree]) -> Result<Option<u32>, AllocError>
+    ensures { IfOk result (IsLeastOf (λ p. IsItemAgain items.now p ⊎ AnyAt IsPartAgain items.now p)) }
+{
+    let item = second_item(alloc, items)?;
+    let part = second_parts(alloc, items)?;
+    Ok(lesser(item, part))
 }
 
 /// A second activity of one name in a graph, or attribute of one kind in an activity.
+fn second_in_graph(alloc: Global, scope: &Scope<'_>) -> Result<Option<u32>, AllocError>
+    ensures { IfOk result (IsLeastOf (IsInsideAgain (graph_at scope.now))) }
+{
+    let activity = second_activity(alloc, scope)?;
+    Ok(lesser(activity, second_attributes(scope)))
+}
+
 fn second_in_graphs(alloc: Global, scopes: &[Scope<'_>]) -> Result<Option<u32>, AllocError>
-    ensures { IfOk result (λ place. place ≡ None → All (λ s. AreNamesApart s.elements.now) scopes.now) }
+    ensures { IfOk result (IsLeastOf (AnyAt (λ s. IsInsideAgain (graph_at s)) scopes.now)) }
 {
     let mut least = None;
     for scope in scopes {
-        let fault = lesser(second_activity(alloc, scope)?, second_attribute_in(scope));
-        least = lesser(least, fault);
+        least = lesser(least, second_in_graph(alloc, scope)?);
     }
     Ok(least)
 }
@@ -166,8 +302,8 @@ pub fn duplicate(
     tree: &Tree,
     scopes: &[Scope<'_>],
 ) -> Result<Option<u32>, AllocError>
-    ensures { IfOk result (λ place. place ≡ None → All (λ s. AreNamesApart s.elements.now) scopes.now) }
+    ensures { IfOk result (IsLeastOf (IsTwice tree.now.items (AnyAt (λ s. IsInsideAgain (graph_at s)) scopes.now))) }
 {
-    let outside = second_in_items(alloc, tree)?;
+    let outside = second_in_items(alloc, tree.items.as_slice())?;
     Ok(lesser(outside, second_in_graphs(alloc, scopes)?))
 }

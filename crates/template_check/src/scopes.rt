@@ -121,6 +121,7 @@ impl<'a> Scope<'a> {
         elements: &'a [ElementTree],
     ) -> Result<Scope<'a>, AllocError>
         ensures numbered { IfOk result (λ scope. scope.process ≡ process) }
+        ensures place { IfOk result (λ scope. scope.place ≡ place) }
         ensures elements { IfOk result (λ scope. scope.elements.now ≡ elements.now) }
         ensures input { IfOk result (λ scope. scope.input.now ≡ input.now) }
         ensures output { IfOk result (λ scope. scope.output.now ≡ output.now) }

@@ -1,9 +1,14 @@
 //! The structures of a text with their leaves, and rules 6, 7 and 8 on them.
-ghost use Rattle.std.specs.Prelude.{◌<◌, ◌≤◌, length};
+ghost use Rattle.std.specs.Prelude.{◌≡◌, ◌⊎◌, map, IfOk};
+ghost use Rattle.template_check.specs.Graphs.{graph_at};
+ghost use Rattle.template_check.specs.Names.{structures_in};
+ghost use Rattle.template_check.specs.Places.{IsLeastOf, AnyAt};
+ghost use Rattle.template_check.specs.Structures.{AreStructuresNumbered, behind, structure_in, IsNoStructure, IsNoKind, AreNoKinds, AreNoContainers, AreNoContainersIn, NamesNoStructure};
+ghost use Rattle.template_check.specs.Texts.{activities_in};
 
 use crate::edges::Edges;
 use crate::least::lesser;
-use crate::scopes::{Scope, small};
+use crate::scopes::{Scope, narrow, small};
 use flow_model::{
     ItemTree, Kind, KindTree, Leaf, LeafName, Leaves, List, Member, NameAt, Step, StructDef, Tree,
 };
@@ -20,6 +25,7 @@ pub struct Structures<'a> {
     numbers: IndexMap<&'a [u8], u32>,
     /// The number of leaves of each; none where structures lead back to themselves.
     counts: Vec<u64>,
+    ghost numbered: { AreStructuresNumbered (map (λ s. s.now) definitions.items) numbers },
 }
 
 /// Where a walk over the leaves stands in one structure.
@@ -39,74 +45,141 @@ fn element_count(member: &Member) -> u64 {
     }
 }
 
+/// The structures of a text, in order.
+fn structures_of<'a>(alloc: Global, items: &'a [ItemTree]) -> Result<Vec<&'a StructDef>, AllocError>
+    ensures { IfOk result (λ found. map (λ s. s.now) found.items ≡ structures_in items.now) }
+{
+    let mut structures = Vec::new(alloc);
+    for item in items {
+        match item {
+            ItemTree::Structure(structure) => structures.push(structure)?,
+            ItemTree::Person(_) => {}
+            ItemTree::Process(_) => {}
+        }
+    }
+    Ok(structures)
+}
+
+/// The number of each name; of two structures of one name the first has it.
+fn numbers_of<'a>(
+    alloc: Global,
+    structures: &[&'a StructDef],
+) -> Result<IndexMap<&'a [u8], u32>, AllocError>
+    ensures { IfOk result (λ numbers. AreStructuresNumbered (map (λ s. s.now) structures.now) numbers) }
+{
+    let mut numbers: IndexMap<&'a [u8], u32> = IndexMap::new(alloc);
+    for (i, structure) in structures.iter().enumerate() {
+        let name = structure.name.name.as_slice();
+        if !numbers.contains_key(&name) {
+            numbers.insert(name, narrow(i)?)?;
+        }
+    }
+    Ok(numbers)
+}
+
 impl<'a> Structures<'a> {
     /// The structures of a text; of two of one name the first counts.
-    pub fn new(alloc: Global, tree: &'a Tree) -> Result<Structures<'a>, AllocError> {
-        let mut structures = Structures {
-            definitions: Vec::new(alloc),
-            numbers: IndexMap::new(alloc),
+    pub fn new(alloc: Global, tree: &'a Tree) -> Result<Structures<'a>, AllocError>
+        ensures { IfOk result (λ known. behind known.definitions.items ≡ structures_in tree.now.items) }
+    {
+        let definitions = structures_of(alloc, tree.items.as_slice())?;
+        let numbers = numbers_of(alloc, &definitions)?;
+        Ok(Structures {
+            definitions,
+            numbers,
             counts: Vec::new(alloc),
-        };
-        for item in tree.items.as_slice() {
-            if let ItemTree::Structure(structure) = item {
-                structures.add(structure)?;
-            }
-        }
-        Ok(structures)
-    }
-
-    fn add(&mut self, structure: &'a StructDef) -> Result<(), AllocError> {
-        let number = small(self.definitions.len());
-        self.definitions.push(structure)?;
-        let name = structure.name.name.as_slice();
-        if !self.numbers.contains_key(&name) {
-            self.numbers.insert(name, number)?;
-        }
-        Ok(())
+        })
     }
 
     /// The number of the structure of this name.
-    pub fn number(&self, name: &'a NameAt) -> Option<u32> {
+    pub fn number(&self, name: &'a NameAt) -> Option<u32>
+        ensures { result ≡ structure_in (behind self.now.definitions.items) name.now.name }
+    {
         self.numbers.get(&name.name.as_slice()).copied()
     }
 
     /// The place of a name that names no structure.
-    fn unknown(&self, name: &'a NameAt) -> Option<u32> {
+    fn unknown(&self, name: &'a NameAt) -> Option<u32>
+        ensures { IsLeastOf (IsNoStructure (behind self.now.definitions.items) name.now) result }
+    {
         match self.number(name) {
             Some(_) => None,
             None => Some(name.place),
         }
     }
 
-    fn unknown_kind(&self, structure: &'a StructDef) -> Option<u32> {
+    fn unknown_kind(&self, kind: &'a KindTree) -> Option<u32>
+        ensures { IsLeastOf (IsNoKind (behind self.now.definitions.items) kind.now) result }
+    {
+        match kind {
+            KindTree::Long => None,
+            KindTree::Str => None,
+            KindTree::Struct(name) => self.unknown(name),
+        }
+    }
+
+    fn unknown_member(&self, structure: &'a StructDef) -> Option<u32>
+        ensures { IsLeastOf (AreNoKinds (behind self.now.definitions.items) structure.now) result }
+    {
         let mut least = None;
         for member in structure.members.as_slice() {
-            if let KindTree::Struct(name) = &member.kind {
-                least = lesser(least, self.unknown(name));
-            }
+            least = lesser(least, self.unknown_kind(&member.kind));
         }
         least
     }
 
-    fn unknown_container(&self, scope: &Scope<'a>) -> Option<u32> {
-        let mut least = lesser(self.unknown(scope.input), self.unknown(scope.output));
+    fn unknown_members(&self) -> Option<u32>
+        ensures { IsLeastOf (AnyAt (AreNoKinds (behind self.now.definitions.items)) (behind self.now.definitions.items)) result }
+    {
+        let mut least = None;
+        for structure in &self.definitions {
+            least = lesser(least, self.unknown_member(structure));
+        }
+        least
+    }
+
+    /// An input or output that names no structure.
+    fn unknown_of_two(&self, input: &'a NameAt, output: &'a NameAt) -> Option<u32>
+        ensures { IsLeastOf (λ p. IsNoStructure (behind self.now.definitions.items) input.now p ⊎ IsNoStructure (behind self.now.definitions.items) output.now p) result }
+    {
+        lesser(self.unknown(input), self.unknown(output))
+    }
+
+    fn unknown_of_activities(&self, scope: &Scope<'a>) -> Option<u32>
+        ensures { IsLeastOf (AnyAt (AreNoContainers (behind self.now.definitions.items)) (activities_in scope.now.elements.now)) result }
+    {
+        let mut least = None;
         for activity in &scope.activities {
-            least = lesser(least, self.unknown(&activity.input));
-            least = lesser(least, self.unknown(&activity.output));
+            least = lesser(
+                least,
+                self.unknown_of_two(&activity.input, &activity.output),
+            );
+        }
+        least
+    }
+
+    fn unknown_container(&self, scope: &Scope<'a>) -> Option<u32>
+        ensures { IsLeastOf (AreNoContainersIn (behind self.now.definitions.items) (graph_at scope.now)) result }
+    {
+        let own = self.unknown_of_two(scope.input, scope.output);
+        lesser(own, self.unknown_of_activities(scope))
+    }
+
+    fn unknown_containers(&self, scopes: &[Scope<'a>]) -> Option<u32>
+        ensures { IsLeastOf (AnyAt (λ s. AreNoContainersIn (behind self.now.definitions.items) (graph_at s)) scopes.now) result }
+    {
+        let mut least = None;
+        for scope in scopes {
+            least = lesser(least, self.unknown_container(scope));
         }
         least
     }
 
     /// Rule 6: a member kind or a container names no structure of the text.
-    pub fn unknown_structure(&self, scopes: &[Scope<'a>]) -> Option<u32> {
-        let mut least = None;
-        for structure in &self.definitions {
-            least = lesser(least, self.unknown_kind(structure));
-        }
-        for scope in scopes {
-            least = lesser(least, self.unknown_container(scope));
-        }
-        least
+    pub fn unknown_structure(&self, scopes: &[Scope<'a>]) -> Option<u32>
+        ensures { IsLeastOf (NamesNoStructure (behind self.now.definitions.items) (AnyAt (λ s. AreNoContainersIn (behind self.now.definitions.items) (graph_at s)) scopes.now)) result }
+    {
+        lesser(self.unknown_members(), self.unknown_containers(scopes))
     }
 
     /// An edge from each structure to the kinds of its members.
@@ -135,7 +208,9 @@ impl<'a> Structures<'a> {
     }
 
     /// Rule 7: a structure reaches itself through member kinds. Where none does, leaves are counted.
-    pub fn cycle(&mut self, alloc: Global) -> Result<Option<u32>, AllocError> {
+    pub fn cycle(&mut self, alloc: Global) -> Result<Option<u32>, AllocError>
+        ensures { behind self.new.definitions.items ≡ behind self.old.definitions.items }
+    {
         let edges = self.edges(alloc)?;
         if let Some(order) = edges.order(alloc)? {
             self.count(alloc, order.as_slice())?;
@@ -150,15 +225,24 @@ impl<'a> Structures<'a> {
     }
 
     /// Counts the leaves of all structures, in an order in which each comes before its kinds.
-    fn count(&mut self, alloc: Global, order: &[u32]) -> Result<(), AllocError> {
+    fn count(&mut self, alloc: Global, order: &[u32]) -> Result<(), AllocError>
+        ensures { behind self.new.definitions.items ≡ behind self.old.definitions.items }
+    {
         self.counts = vec![in alloc; 0; self.definitions.len()]?;
         for number in order.iter().rev() {
-            let count = self.count_of(*number);
-            if let Some(place) = self.counts.get_mut(*number as usize) {
-                *place = count;
-            }
+            self.count_one(*number);
         }
         Ok(())
+    }
+
+    /// Counts the leaves of a structure whose kinds are counted.
+    fn count_one(&mut self, number: u32)
+        ensures { behind self.new.definitions.items ≡ behind self.old.definitions.items }
+    {
+        let count = self.count_of(number);
+        if let Some(place) = self.counts.get_mut(number as usize) {
+            *place = count;
+        }
     }
 
     /// The number of leaves of a structure whose kinds are counted.

@@ -2,6 +2,7 @@
 ghost use Rattle.std.specs.Prelude.{◌≡◌, ℕ, map, IfOk, OnOk};
 ghost use Rattle.std.specs.List.{All};
 ghost use Rattle.template_check.specs.Blocks.{lists_of, HasBlocks, IsListed, IsCovered, Grows};
+ghost use Rattle.template_check.specs.Graphs.{graphs_in, AreAdded, AreGraphsOf, IsGraphIn, IsGraphInside, IsGraphOfProcess};
 ghost use Rattle.template_check.specs.Texts.{processes_in};
 
 use crate::scopes::{Scope, narrow};
@@ -18,6 +19,7 @@ fn add_block<'a>(
 ) -> Result<(), AllocError>
     ensures kept { OnOk result (Grows (lists_of scopes.old.items) (lists_of scopes.new.items)) }
     ensures listed { OnOk result (IsListed (lists_of scopes.new.items) activity.now) }
+    ensures added { OnOk result (AreAdded (graphs_in scopes.old.items) (graphs_in scopes.new.items) (λ g. IsGraphIn g activity.now)) }
 {
     match &activity.work {
         WorkTree::Program => Ok(()),
@@ -42,6 +44,7 @@ fn add_blocks<'a>(
 ) -> Result<(), AllocError>
     ensures kept { OnOk result (Grows (lists_of scopes.old.items) (lists_of scopes.new.items)) }
     ensures blocks { OnOk result ((depth : ℕ) → HasBlocks (lists_of scopes.new.items) depth elements.now) }
+    ensures added { OnOk result (AreAdded (graphs_in scopes.old.items) (graphs_in scopes.new.items) (IsGraphInside elements.now)) }
 {
     for element in elements {
         match element {
@@ -77,6 +80,7 @@ fn add_process<'a>(
 ) -> Result<(), AllocError>
     ensures kept { OnOk result (Grows (lists_of scopes.old.items) (lists_of scopes.new.items)) }
     ensures covered { OnOk result (IsCovered (lists_of scopes.new.items) process.now.elements) }
+    ensures added { OnOk result (AreAdded (graphs_in scopes.old.items) (graphs_in scopes.new.items) (IsGraphOfProcess process.now)) }
 {
     let number = narrow(number)?;
     let elements = process.elements.as_slice();
@@ -88,7 +92,8 @@ fn add_process<'a>(
 
 /// All graphs of a text, each before those inside it, in the order of the text.
 pub fn text_scopes<'a>(alloc: Global, tree: &'a Tree) -> Result<Vec<Scope<'a>>, AllocError>
-    ensures { IfOk result (λ scopes. All (λ p. IsCovered (lists_of scopes.items) p.elements) (processes_in tree.now.items)) }
+    ensures covered { IfOk result (λ scopes. All (λ p. IsCovered (lists_of scopes.items) p.elements) (processes_in tree.now.items)) }
+    ensures graphs { IfOk result (λ scopes. AreGraphsOf tree.now.items (graphs_in scopes.items)) }
 {
     let mut scopes = Vec::new(alloc);
     let processes = processes(alloc, tree)?;

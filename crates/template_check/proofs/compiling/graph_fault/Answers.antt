@@ -1,7 +1,4 @@
 use Rattle.template_check.proofs.compiling.graph_fault.Goals as goal
 
-pub returns-in-DoubleConnector : goal.returns-in-DoubleConnector
-returns-in-DoubleConnector c = rw c.in-DoubleConnector.is c.double_connector.ensures
-
 pub returns-in-Cycle : goal.returns-in-Cycle
 returns-in-Cycle c = rw c.in-Cycle.is c.cycle.ensures

@@ -1,4 +1,5 @@
 use Rattle.std.proofs.Common.{sym, ◌∙◌}
+use Rattle.flow_model.specs.declared.trees.ActivityTree.{ActivityTree}
 use Rattle.template_check.proofs.Naming.{met_old, met_new}
 use Rattle.template_check.proofs.scopes.numbers_of.Goals as goal
 use Rattle.template_check.proofs.scopes.numbers_of.Goals.{then-not-contains_key+in_ok-narrow+in_ok-insert, else-not-contains_key}
@@ -11,8 +12,8 @@ loop-i-preserved c =
     elim c.if-not-contains_key.branch [
       | then-not-contains_key+in_ok-narrow+in_ok-insert w ↦
           rw w.numbers-is
-          (met_new items c.loop-i.i x.result c.loop-i-test.true x.is name.result.now name.ensures c.loop-i.numbers c.loop-i.invariant (sym c.contains_key.ensures ∙ w.if-not-contains_key.true)
+          (met_new (λ (a : ActivityTree). a.name.name) items c.loop-i.i x.result c.loop-i-test.true x.is name.result.now name.ensures c.loop-i.numbers c.loop-i.invariant (sym c.contains_key.ensures ∙ w.if-not-contains_key.true)
           w.insert.new.self w.in_ok-narrow.field-0 w.in_ok-narrow.ensures w.in_ok-insert.ensures.updates)
       | else-not-contains_key w ↦
-          rw w.numbers-is (met_old items c.loop-i.i x.result c.loop-i-test.true x.is name.result.now name.ensures c.loop-i.numbers c.loop-i.invariant (sym c.contains_key.ensures ∙ w.if-not-contains_key.false))
+          rw w.numbers-is (met_old (λ (a : ActivityTree). a.name.name) items c.loop-i.i x.result c.loop-i-test.true x.is name.result.now name.ensures c.loop-i.numbers c.loop-i.invariant (sym c.contains_key.ensures ∙ w.if-not-contains_key.false))
     ]

@@ -1,9 +1,11 @@
-use Rattle.std.proofs.Common.{◌≡◌, ap, ◌∙◌, Some, None, take}
+use Rattle.std.proofs.Common.{◌≡◌, [], arith, ap, ◌∙◌, Some, None, take}
 use Rattle.std.proofs.lemmas.List.{take_all}
 use Rattle.std.proofs.lemmas.List.Elements.{All-weaker}
 use Rattle.template_check.specs.Texts.{activity_of, activities_in}
 use Rattle.template_check.specs.Blocks.{lists_of, IsListed}
+use Rattle.template_check.specs.Graphs.{graphs_in, IsGraphInside}
 use Rattle.template_check.proofs.Listing.{grows_pushed, has_pushed, on_ok, on_ok_both, listed_block, listed_stays, all_blocks}
+use Rattle.template_check.proofs.Graphs.{nothing_added, none_in_program, none_in_process, none_inside, same_graph, added_next, added_past, added_block}
 use Rattle.template_check.proofs.Sorting.{all_past, all_next}
 use Rattle.template_check.proofs.text_graphs.+blocks.Goals as goal
 use Rattle.template_check.proofs.text_graphs.+blocks.Goals.{add_blocks-in-Activity+in_ok-add_block-in-Activity, add_blocks-in-Control, add_blocks-in-Line}
@@ -30,6 +32,7 @@ add_blocks-loop-element-preserved t c =
     let so_far = c.loop-element.invariant in
     let past = λ (none : activity_of x ≡ None).
     all_past activity_of items c.loop-element.element-index x c.loop-element-test.true c.element-item.is (IsListed (lists_of c.loop-element.scopes.items)) none so_far.1 in
+    let unadded = λ (none : activity_of x ≡ None). added_past items c.loop-element.element-index x c.loop-element-test.true c.element-item.is _ (graphs_in c.loop-element.scopes.items) none so_far.2 in
     elim c.match-element.branch [
       | add_blocks-in-Activity+in_ok-add_block-in-Activity w ↦
           let now = lists_of w.add_block.new.scopes.items in
@@ -39,12 +42,38 @@ add_blocks-loop-element-preserved t c =
           rw w.scopes-is (
             (λ elements h. added.kept elements (so_far.0 elements h)),
             all_next activity_of items c.loop-element.element-index x c.loop-element-test.true c.element-item.is (IsListed now) w.in-Activity.activity some stay added.listed,
+            added_next items c.loop-element.element-index x c.loop-element-test.true c.element-item.is _ (graphs_in c.loop-element.scopes.items) (graphs_in w.add_block.new.scopes.items) w.in-Activity.activity some so_far.2 added.added,
           )
-      | add_blocks-in-Control w ↦ rw w.scopes-is (so_far.0, past (ap activity_of w.in-Control.is))
-      | add_blocks-in-Line w ↦ rw w.scopes-is (so_far.0, past (ap activity_of w.in-Line.is))
+      | add_blocks-in-Control w ↦ rw w.scopes-is (so_far.0, past (ap activity_of w.in-Control.is), unadded (ap activity_of w.in-Control.is))
+      | add_blocks-in-Line w ↦ rw w.scopes-is (so_far.0, past (ap activity_of w.in-Line.is), unadded (ap activity_of w.in-Line.is))
     ]
 
 pub add_blocks-returns-clause-blocks : goal.add_blocks-returns-clause-blocks
 add_blocks-returns-clause-blocks t c =
     let whole = take_all c.loop-element.element-index c.args.elements.now c.loop-element-test.false in
     all_blocks (lists_of c.loop-element.scopes.items) c.args.elements.now (rw whole at c.loop-element.invariant.1)
+
+pub add_block-returns-in-Program-clause-added : goal.add_block-returns-in-Program-clause-added
+add_block-returns-in-Program-clause-added t c = nothing_added (graphs_in c.args.scopes.now.items) _ (none_in_program c.args.activity.now c.in-Program.is)
+
+pub add_block-returns-in-Process-clause-added : goal.add_block-returns-in-Process-clause-added
+add_block-returns-in-Process-clause-added t c = nothing_added (graphs_in c.args.scopes.now.items) _ (none_in_process c.args.activity.now _ c.in-Process.is)
+
+pub add_block-returns-in_ok-push-in-Block-clause-added : goal.add_block-returns-in_ok-push-in-Block-clause-added
+add_block-returns-in_ok-push-in-Block-clause-added t c =
+    let a = c.args.activity.now in
+    let scope = c.in_ok-scope-in-Block.scope in
+    let made = c.in_ok-scope-in-Block.ensures in
+    let here = same_graph scope a.place a.input a.output c.in-Block.elements made.place made.input made.output (made.elements ∙ c.as_slice-elements.ensures) in
+    let inside = rw c.as_slice-elements.ensures at c.add_blocks.ensures.added in
+    on_ok c.add_blocks.result
+    (added_block c.args.scopes.now.items c.push.new.self.items (graphs_in c.add_blocks.new.scopes.items) scope a c.in-Block.elements c.in-Block.is here c.in_ok-push-in-Block.ensures.items)
+    inside
+
+pub add_blocks-loop-element-init : goal.add_blocks-loop-element-init
+add_blocks-loop-element-init t c = (λ elements h. h, λ k d less. absurd (omega arith), nothing_added (graphs_in c.args.scopes.now.items) (IsGraphInside []) none_inside)
+
+pub add_blocks-returns-clause-added : goal.add_blocks-returns-clause-added
+add_blocks-returns-clause-added t c =
+    let whole = take_all c.loop-element.element-index c.args.elements.now c.loop-element-test.false in
+    rw whole at c.loop-element.invariant.2

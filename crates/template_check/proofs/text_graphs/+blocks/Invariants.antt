@@ -2,7 +2,9 @@ use Rattle.std.proofs.Common.{take}
 use Rattle.std.specs.List.{All}
 use Rattle.template_check.specs.Texts.{activities_in}
 use Rattle.template_check.specs.Blocks.{lists_of, IsListed, Grows}
+use Rattle.template_check.specs.Graphs.{graphs_in, AreAdded, IsGraphInside}
 use Rattle.template_check.proofs.text_graphs.+blocks.Given as goal
 
 abbrev pub invariant-add_blocks-loop-element : goal.invariant-add_blocks-loop-element
 invariant-add_blocks-loop-element l = Grows (lists_of l.initial.scopes.items) (lists_of l.scopes.items) × All (IsListed (lists_of l.scopes.items)) (activities_in (take l.element-index l.elements))
+    × AreAdded (graphs_in l.initial.scopes.items) (graphs_in l.scopes.items) (IsGraphInside (take l.element-index l.elements))

@@ -1,0 +1,129 @@
+-- What holds of the graphs of a text where a rule finds nothing in them.
+use Rattle.std.proofs.Common.{◌≡◌, ℕ, zero, suc, ◌<◌, List, [], ◌∷◌, length, get_or, map, Option, Some, None, Err, refl, sym, ap, subst, inl, inr, ◌⊎◌, arith}
+use Rattle.std.specs.List.{All}
+use Rattle.std.proofs.lemmas.List.Elements.{Contains-get_or}
+use Rattle.flow_model.specs.declared.trees.ActivityTree.{ActivityTree}
+use Rattle.flow_model.specs.declared.trees.ItemTree.{ItemTree}
+use Rattle.flow_model.specs.declared.trees.NameAt.{NameAt}
+use Rattle.flow_model.specs.declared.trees.StructDef.{StructDef}
+use Rattle.flow_model.specs.declared.trees.Tree.{Tree}
+use Rattle.template_check.specs.ClosedWalks.{IsAcyclic}
+use Rattle.template_check.specs.Compiling.{HasTree}
+use Rattle.template_check.specs.Connectors.{NamesNobody, IsDouble, IsEmptyGraph}
+use Rattle.template_check.specs.Graphs.{graph_at, graphs_in, AreGraphsOf, InGraphs}
+use Rattle.template_check.specs.Judged.{IsFault, IsEarly, IsJudgedText}
+use Rattle.template_check.specs.Meeting.{IsAgainAt}
+use Rattle.template_check.specs.Names.{AreActivityEnds, IsItemEnd, IsEndWrong, IsInsideAgain, IsItemAgain, IsPartAgain, IsTwice, structures_in}
+use Rattle.template_check.specs.Places.{IsLeastOf, AnyAt, PairAt}
+use Rattle.template_check.specs.Rules.{NoneTo, IsFirstFault, IsFoundTo}
+use Rattle.template_check.specs.Structures.{AreNoKinds, AreNoContainersIn, NamesNoStructure}
+use Rattle.template_check.specs.Texts.{activities_in, controls_in, edges_in, AllDiffer, AreNamesApart, IsConnected}
+use Rattle.template_check.specs.declared.faults.ImportFault.{ImportFault}
+use Rattle.template_check.specs.declared.faults.ImportFault.TheVariants as fault
+use Rattle.template_check.specs.declared.scopes.Scope.{Scope}
+use Rattle.template_check.proofs.Doubling.{edges_differ}
+use Rattle.template_check.proofs.Judgements.{contained, in_text, in_both, none_below, pass_4, pass_5, pass_6, pass_9, pass_10, pass_12}
+
+-- a name at a later place comes again
+again : (n : NameAt) (ns : List NameAt) (j : ℕ) (d : List ℕ) → j < length (map (λ m. m.name) ns) → n.name ≡ get_or (map (λ m. m.name) ns) j d → (p : ℕ) × AnyAt (IsAgainAt n) ns p
+again n [] j d less same = absurd (omega arith)
+again n (m ∷ ns) zero d less same = (m.place, inl (same, refl))
+again n (m ∷ ns) (suc j) d less same = let r = again n ns j d (omega arith) same in (r.0, inr r.1)
+
+names_differ : (ns : List NameAt) → ((p : ℕ) → PairAt IsAgainAt ns p → ⊥) → AllDiffer (map (λ n. n.name) ns)
+names_differ [] none i j d less within same = absurd (omega arith)
+names_differ (n ∷ ns) none zero zero d less within same = absurd (omega arith)
+names_differ (n ∷ ns) none zero (suc j) d less within same = let r = again n ns j d (omega arith) same in none r.0 (inl r.1)
+names_differ (n ∷ ns) none (suc i) zero d less within same = absurd (omega arith)
+names_differ (n ∷ ns) none (suc i) (suc j) d less within same = names_differ ns (λ p h. none p (inr h)) i j d (omega arith) (omega arith) same
+
+names_of : (as_ : List ActivityTree) → map (λ n. n.name) (map (λ a. a.name) as_) ≡ map (λ a. a.name.name) as_
+names_of [] = refl
+names_of (a ∷ as_) = ap (λ (ns : List (List ℕ)). a.name.name ∷ ns) (names_of as_)
+
+-- rule 5 finds nothing
+pub names_apart : (items : List ItemTree) (scopes : List Scope) → IsLeastOf (IsTwice items (AnyAt (λ s. IsInsideAgain (graph_at s)) scopes)) None → All (λ s. AreNamesApart s.elements.now) scopes
+names_apart items scopes none k d less =
+    let s = get_or scopes k d in
+    subst AllDiffer (names_of (activities_in s.elements.now))
+    (names_differ (map (λ (a : ActivityTree). a.name) (activities_in s.elements.now)) (λ p h. none p (inr (contained (λ (t : Scope). IsInsideAgain (graph_at t)) scopes s p (Contains-get_or scopes k d less) (inl h)))))
+
+peopled : (as_ : List ActivityTree) → (as_ ≡ [] → ⊥) → 0 < length as_
+peopled [] none = absurd (none refl)
+peopled (a ∷ as_) none = omega arith
+
+-- rules 10 to 12 find nothing
+pub connected : (scopes : List Scope) → IsLeastOf (AnyAt (λ s. IsDouble (graph_at s)) scopes) None → All (λ s. IsAcyclic (edges_in s.elements.now)) scopes → IsLeastOf (AnyAt (λ s. IsEmptyGraph (graph_at s)) scopes) None
+    → All (λ s. IsConnected s.elements.now) scopes
+connected scopes single acyclic full k d less =
+    let s = get_or scopes k d in
+    let here = Contains-get_or scopes k d less in
+    record {
+      simple = edges_differ s.elements.now (controls_in s.elements.now) (λ p h. single p (contained (λ (t : Scope). IsDouble (graph_at t)) scopes s p here h));
+      acyclic = acyclic k d less;
+      peopled = peopled (activities_in s.elements.now) (λ none. full s.place (contained (λ (t : Scope). IsEmptyGraph (graph_at t)) scopes s s.place here (none, refl)));
+    }
+
+-- ---- the first rules, by what their searches find in the graphs that are listed
+
+module _ (items : List ItemTree) (scopes : List Scope) (graphs : AreGraphsOf items (graphs_in scopes)) where
+  pub ends_found : (found : Option ℕ) → IsLeastOf (IsEndWrong items (AnyAt (λ s. AreActivityEnds (graph_at s)) scopes)) found → IsLeastOf (IsEndWrong items (InGraphs items AreActivityEnds)) found
+  ends_found found h = in_both items scopes graphs (AnyAt IsItemEnd items) AreActivityEnds found h
+
+  pub twice_found : (found : Option ℕ) → IsLeastOf (IsTwice items (AnyAt (λ s. IsInsideAgain (graph_at s)) scopes)) found → IsLeastOf (IsTwice items (InGraphs items IsInsideAgain)) found
+  twice_found found h = in_both items scopes graphs (λ p. IsItemAgain items p ⊎ AnyAt IsPartAgain items p) IsInsideAgain found h
+
+  pub unknown_found : (structures : List StructDef) (found : Option ℕ) → structures ≡ structures_in items → IsLeastOf (NamesNoStructure structures (AnyAt (λ s. AreNoContainersIn structures (graph_at s)) scopes)) found
+      → IsLeastOf (NamesNoStructure (structures_in items) (InGraphs items (AreNoContainersIn (structures_in items)))) found
+  unknown_found structures found same h =
+      in_both items scopes graphs (AnyAt (AreNoKinds (structures_in items)) (structures_in items)) (AreNoContainersIn (structures_in items)) found
+      (subst (λ (ss : List StructDef). IsLeastOf (NamesNoStructure ss (AnyAt (λ s. AreNoContainersIn ss (graph_at s)) scopes)) found) same h)
+
+  -- rules 4, 5 and 6
+  pub none_4 : IsLeastOf (IsEndWrong items (AnyAt (λ s. AreActivityEnds (graph_at s)) scopes)) None → NoneTo items 4
+  none_4 h = pass_4 items (none_below items) (ends_found None h)
+
+  pub none_5 : NoneTo items 4 → IsLeastOf (IsTwice items (AnyAt (λ s. IsInsideAgain (graph_at s)) scopes)) None → NoneTo items 5
+  none_5 none h = pass_5 items none (twice_found None h)
+
+  pub none_6 : (structures : List StructDef) → structures ≡ structures_in items → NoneTo items 5 → IsLeastOf (NamesNoStructure structures (AnyAt (λ s. AreNoContainersIn structures (graph_at s)) scopes)) None → NoneTo items 6
+  none_6 structures same none h = pass_6 items none (unknown_found structures None same h)
+
+  -- rules 9, 10 and 12
+  pub none_9 : NoneTo items 8 → IsLeastOf (AnyAt (λ s. NamesNobody (graph_at s)) scopes) None → NoneTo items 9
+  none_9 none h = pass_9 items none (in_text items scopes graphs NamesNobody None h)
+
+  pub none_10 : NoneTo items 9 → IsLeastOf (AnyAt (λ s. IsDouble (graph_at s)) scopes) None → NoneTo items 10
+  none_10 none h = pass_10 items none (in_text items scopes graphs IsDouble None h)
+
+  pub none_12 : NoneTo items 11 → IsLeastOf (AnyAt (λ s. IsEmptyGraph (graph_at s)) scopes) None → NoneTo items 12
+  none_12 none h = pass_12 items none (in_text items scopes graphs IsEmptyGraph None h)
+
+-- ---- what is found, and what is not
+
+pub is_none : {X : Type 0} (o : Option X) → ((x : X) → o ≡ Some x → ⊥) → o ≡ None
+is_none None not_some = refl
+is_none (Some x) not_some = absurd (not_some x refl)
+
+pub none_found : (A : ℕ → Type 0) (o : Option ℕ) → ((x : ℕ) → o ≡ Some x → ⊥) → IsLeastOf A o → IsLeastOf A None
+none_found A o not_some h = subst (IsLeastOf A) (is_none o not_some) h
+
+pub some_found : (A : ℕ → Type 0) (o : Option ℕ) (x : ℕ) → o ≡ Some x → IsLeastOf A o → IsLeastOf A (Some x)
+some_found A o x some h = subst (IsLeastOf A) some h
+
+pub none_to : (items : List ItemTree) (last : ℕ) (o : Option (ℕ × ℕ)) → ((x : ℕ × ℕ) → o ≡ Some x → ⊥) → IsFoundTo items last o → NoneTo items last
+none_to items last o not_some h = subst (IsFoundTo items last) (is_none o not_some) h
+
+-- ---- a text that is refused
+
+pub early_judged : (text : List ℕ) (e : ImportFault) → IsEarly text e → IsJudgedText text (Err e)
+early_judged text (fault.Rule found) h = λ late short. absurd (h late short)
+early_judged text fault.NoMemory h = tt
+
+pub refused_judged : (text : List ℕ) (e : ImportFault) (rule place : ℕ) (tree : Tree) → HasTree text tree → IsFirstFault tree.items rule place → IsFault rule place e → IsJudgedText text (Err e)
+refused_judged text (fault.Rule found) rule place tree has first is = λ late short. record {
+  tree = tree;
+  has = has;
+  first = subst (λ (r : ℕ). IsFirstFault tree.items r found.place) (sym is.0) (subst (λ (p : ℕ). IsFirstFault tree.items rule p) (sym is.1) first);
+}
+refused_judged text fault.NoMemory rule place tree has first is = absurd is
