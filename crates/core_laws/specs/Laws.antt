@@ -2,14 +2,17 @@
 use Rattle.std.specs.Prelude.{◌≡◌, ℕ, suc, ◌<◌, ◌≤◌, false, Some, List, [], length, IsTrue}
 use Rattle.blocks_subprocs.specs.Ends.{ends_of}
 use Rattle.flow_core.specs.Allowing.{IsBlank}
-use Rattle.flow_core.specs.Answers.{instance_of}
+use Rattle.flow_core.specs.Answers.{instance_of, mode_now}
+use Rattle.flow_core.specs.Containing.{IsOutputOf}
 use Rattle.flow_core.specs.Driving.{templates}
 use Rattle.flow_core.specs.declared.state.Core.{Core}
 use Rattle.flow_model.specs.Fates.{is_settled}
 use Rattle.flow_model.specs.ScopeContainers.{graph_of}
-use Rattle.flow_model.specs.Scopes.{tree_ends}
+use Rattle.flow_model.specs.Scopes.{output, tree_ends}
+use Rattle.flow_model.specs.declared.graphs.Container.{Container}
 use Rattle.flow_model.specs.declared.graphs.Graph.{Graph}
 use Rattle.flow_model.specs.declared.graphs.Template.{Template}
+use Rattle.flow_model.specs.declared.instances.Mode.TheVariants.{Done}
 use Rattle.flow_model.specs.declared.transactions.Transaction.{Transaction}
 use Rattle.navigator.specs.Serving.{Served}
 use Rattle.navigator.specs.declared.instance.Instance.{Instance}
@@ -53,3 +56,10 @@ QuietStatesAreWhole =
     → i.terminated ≡ false → IsTrue (is_quiet c.queues)
     → ends_of (out-ScopeState i.scope).ends.items a
     ≡ tree_ends (templates c) (are root i live).right.depth (fated (runs root)) (are root i live).right.graph (are root i live).right.input a
+
+-- the container that OUTPUT shows of a root that is done is the output of the recursion by the completions alone
+abbrev pub DoneOutputsAreRight : Type 0
+DoneOutputsAreRight =
+    (c : Core) (runs : ℕ → List Event) (are : AreRight c runs) (root : ℕ) (i : Instance) (live : instance_of c root ≡ Some i) (out : Container)
+    → mode_now i ≡ Done → IsOutputOf (templates c) (are root i live).right.graph i out
+    → output (templates c) (suc (are root i live).right.depth) (fated (running (runs root))) (are root i live).right.graph (are root i live).right.input ≡ Some out

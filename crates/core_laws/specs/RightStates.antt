@@ -23,6 +23,7 @@ use Rattle.navigator.specs.declared.instance.Instance.{Instance}
 use Rattle.recover_queue.specs.Queues.{queue, root_of}
 use Rattle.root_laws.specs.RightRoots.{Queued, IsRight}
 use Rattle.template_check.specs.Built.{AreSound}
+use Rattle.template_check.specs.Imports.{IsIndexed}
 use Rattle.view_laws.specs.Messages.{Note, BeginNote, SignalNote, EndNote}
 use Rattle.view_laws.specs.Runs.{Event, Started, Turned, Completed, Held, Stopped}
 
@@ -139,7 +140,7 @@ pub record AreTold (c : Core) (runs : ℕ → List Event) : Type 0 where
 
 -- ---- states that transactions come to
 
--- a state is right: its roots are after these runs, which complete what the live transactions do, free numbers are unused, there is a queue, and the library is sound
+-- a state is right: its roots are after these runs, which complete what the live transactions do, free numbers are unused, there is a queue, the library is sound, and names lead to the newest of it
 pub record IsRightState (c : Core) (runs : ℕ → List Event) : Type 0 where
   pub are : AreRight c runs
   pub told : AreTold c runs
@@ -147,6 +148,7 @@ pub record IsRightState (c : Core) (runs : ℕ → List Event) : Type 0 where
   pub kept : c.kept ≤ c.number
   pub queued : 1 ≤ length c.queues
   pub sound : AreSound (templates c)
+  pub indexed : IsIndexed c.store.catalog
 
 -- so it is after some runs
 abbrev pub IsRightCore : Core → Type 0

@@ -10,6 +10,6 @@
 mod states;
 
 pub use states::{
-    begins_right, histories_are_right, quiet_states_are_whole, right_states_are_sound,
-    served_together, stays_right,
+    begins_right, done_outputs_are_right, histories_are_right, quiet_states_are_whole,
+    right_states_are_sound, served_together, stays_right,
 };

@@ -5,6 +5,7 @@ ghost use Rattle.core_laws.specs.Laws.{
   ServedTogether,
   RightStatesAreSound,
   QuietStatesAreWhole,
+  DoneOutputsAreRight,
 };
 
 /// A blank state is right.
@@ -35,4 +36,9 @@ pub fn right_states_are_sound()
 /// With no message queued it says all that the completions tell.
 pub fn quiet_states_are_whole()
     ensures { QuietStatesAreWhole }
+{}
+
+/// The output that is shown of a root that is done is that of the recursion by its completions alone.
+pub fn done_outputs_are_right()
+    ensures { DoneOutputsAreRight }
 {}

@@ -71,7 +71,7 @@ notified_by (Agent take) names starter = starter ∷ []
 abbrev pub late_of : ℕ → People → OpenItem → Option Late
 late_of clock people o = option_map (λ minutes. record { item = o.item; minutes = minutes; notify = notified_by o.hold.now (able people o) o.starter.now }) (minutes_late clock o.since o.program.now.expires)
 
--- exactly the late ones of the items that are open, in their order; which performer an item has isn't said
+-- exactly the late ones of the items that are open, in their order
 abbrev pub AreOverdue : Core → List Late → Type 0
 AreOverdue c lates =
     (people : People) × AreDeclared c.store.catalog.library people

@@ -1,2 +1,3 @@
 pub mod Lateness
 pub mod Rolls
+pub mod Texts

@@ -49,8 +49,3 @@ pub record IsVerdict (good total : ℕ) (text : List ℕ) (refused : Bool) : Typ
   pub within : good ≤ total
   pub printed : text ≡ verdict_printed good total
   pub judged : refused ≡ (if good == total then false else true)
-
--- a verdict on so many lines
-pub record IsSomeVerdict (total : ℕ) (text : List ℕ) (refused : Bool) : Type 0 where
-  pub good : ℕ
-  pub given : IsVerdict good total text refused

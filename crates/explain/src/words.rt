@@ -1,6 +1,9 @@
 //! The texts of the words `explain` and `verify`, with whether each is a refusal.
 ghost use Rattle.std.specs.Prelude.{◌≡◌, ◌≤◌, ◌∷◌, [], ◌++◌, length, IfOk, vec_len, decimal as digits_of};
-ghost use Rattle.explain.specs.Certificates.{certificate_printed, IsVerdict, IsSomeVerdict};
+ghost use Rattle.certificates.specs.Kept.{AreLaidTemplates};
+ghost use Rattle.flow_core.specs.Driving.{templates};
+ghost use Rattle.explain.specs.Certificates.{certificate_printed, IsVerdict};
+ghost use Rattle.explain.specs.Verified.{basis_in, AreFirst, AreGood, AreGoodIn, IsVerified};
 
 use crate::making::{ExplainFault, explain};
 use certificates::{AcceptFault, CertLine, Grounds, accept, activity_in, read_line, write_line};
@@ -64,7 +67,7 @@ pub fn explain_word(
 
 /// The lines up to the first that isn't a line of a certificate or is too long.
 fn read_lines(alloc: Global, lines: &[(Vec<u8>, bool)]) -> Result<Vec<CertLine>, AllocError>
-    ensures { IfOk result (λ read. vec_len read ≤ length lines.now) }
+    ensures { IfOk result (λ read. AreFirst read.items lines.now × (vec_len read ≤ length lines.now)) }
 {
     let mut read = Vec::new(alloc);
     for (bytes, too_long) in lines {
@@ -86,7 +89,8 @@ fn justified(
     facts: &RootFacts,
     lines: &[CertLine],
 ) -> Result<u64, AllocError>
-    ensures { IfOk result (λ count. count ≤ length lines.now) }
+    ensures good { IfOk result (λ count. AreLaidTemplates (templates core.now) → AreGood (basis_in core.now facts.now) lines.now count) }
+    ensures within { IfOk result (λ count. count ≤ length lines.now) }
 {
     let grounds = Grounds {
         library: core.library(),
@@ -99,6 +103,20 @@ fn justified(
         Ok(()) => Ok(lines.len() as u64),
         Err(AcceptFault::Line(number)) => Ok(number),
         Err(AcceptFault::NoMemory) => Err(AllocError),
+    }
+}
+
+/// How many of the lines, from the first on, are justified by the root of the first.
+fn good_lines(alloc: Global, core: &Core, lines: &[CertLine]) -> Result<u64, AllocError>
+    ensures good { IfOk result (AreGoodIn core.now lines.now) }
+    ensures within { IfOk result (λ count. count ≤ length lines.now) }
+{
+    let Some(first) = lines.first() else {
+        return Ok(0);
+    };
+    match core.root_facts(alloc, first.scope().root)? {
+        None => Ok(0),
+        Some(facts) => justified(alloc, core, &facts, lines),
     }
 }
 
@@ -122,15 +140,9 @@ pub fn verify_lines(
     core: &Core,
     lines: &[(Vec<u8>, bool)],
 ) -> Result<(Vec<u8>, bool), AllocError>
-    ensures { IfOk result (λ answer. IsSomeVerdict (length lines.now) answer.0.items answer.1) }
+    ensures { IfOk result (λ answer. IsVerified core.now lines.now answer.0.items answer.1) }
 {
     let read = read_lines(alloc, lines)?;
-    let good = match read.first() {
-        None => 0,
-        Some(first) => match core.root_facts(alloc, first.scope().root)? {
-            None => 0,
-            Some(facts) => justified(alloc, core, &facts, &read)?,
-        },
-    };
+    let good = good_lines(alloc, core, &read)?;
     verdict(alloc, good, lines.len() as u64)
 }

@@ -2,8 +2,10 @@
 pub mod Listed
 pub mod Putting
 pub mod Moved
+pub mod Counting
 pub mod OpenItems
 pub mod OpenRows
 pub mod OpenRoots
 pub mod Versions
 pub mod Refusing
+pub mod Contained

@@ -1,5 +1,5 @@
 -- What each transaction drives, from what its steps do.
-use Rattle.std.proofs.Common.{◌≡◌, ℕ, List, [], ◌∷◌, length, Option, Some, None, refl, sym, ap, subst, ◌∙◌, inl, inr, option_map, Result, Ok, Err, IfOk}
+use Rattle.std.proofs.Common.{◌≡◌, ℕ, List, [], ◌∷◌, length, Option, Some, None, refl, sym, ap, subst, ◌∙◌, inl, inr, option_map, Result, Ok, Err, IfOk, OnOk}
 use Rattle.std.proofs.lemmas.Option.{none-some}
 use Rattle.std.specs.Ordering.{nat_cmp}
 use Rattle.std.specs.BTreeMap as tree
@@ -10,6 +10,7 @@ use Rattle.flow_model.specs.declared.graphs.Graph.{Graph, out-Graph}
 use Rattle.flow_model.specs.declared.graphs.Template.{Template}
 use Rattle.flow_model.specs.declared.instances.Message.{Message}
 use Rattle.flow_model.specs.declared.instances.Message.TheVariants.{Begin}
+use Rattle.flow_model.specs.declared.instances.Path.{Path}
 use Rattle.flow_model.specs.declared.names.Name.{Name}
 use Rattle.flow_model.specs.declared.transactions.Setting.{Setting}
 use Rattle.flow_model.specs.declared.transactions.Transaction.{Transaction}
@@ -17,9 +18,11 @@ use Rattle.flow_model.specs.declared.transactions.Transaction.TheVariants.{Impor
 use Rattle.containers.specs.Settings.{filled}
 use Rattle.navigator.specs.Instances.{IsStarted, Starts}
 use Rattle.navigator.specs.declared.instance.Instance.{Instance}
+use Rattle.template_check.specs.Imports.{IsIndexed}
+use Rattle.template_store.specs.declared.store.TemplateStore.{TemplateStore}
 use Rattle.flow_core.specs.Allowing.{IsAsked}
 use Rattle.flow_core.specs.Answers.{instance_of}
-use Rattle.flow_core.specs.Driving.{templates, IsVersionAt, HasNoVersion, IsMade, StartsIn, BecomesStarted, ChangesRoot, ChangesRoots, Drives, IsFrontOf, put_in, queue_now}
+use Rattle.flow_core.specs.Driving.{templates, IsVersionAt, HasNoVersion, IsMade, StartsIn, BecomesStarted, ChangesRoot, ChangesRoots, HoldsItem, Drives, IsFrontOf, put_in, queue_now}
 use Rattle.flow_core.specs.Summaries.{root_about}
 use Rattle.flow_core.specs.declared.state.Core.{Core}
 use Rattle.flow_core.proofs.Putting.{put_length, same_queue}
@@ -70,6 +73,7 @@ starts c c1 c2 root process version starter key settings i started rest changes 
   queues = put_then c1 c2 (Begin (record { root = root; parts = [] }) ∷ []) c.queues (ap (λ (k : Core). k.live_roots) put) (ap (λ (k : Core). k.store) put) queues
       (ap (λ (k : Core). k.queues) rest);
   library = ap templates put ∙ ap templates rest;
+  indexed = subst (λ (s : TemplateStore). IsIndexed c.store.catalog → IsIndexed s.catalog) (sym (ap (λ (k : Core). k.store) put ∙ ap (λ (k : Core). k.store) rest)) (λ is. is);
 }
 
 -- no root is started where the version isn't there
@@ -80,6 +84,7 @@ starts_none c root process version starter key settings none = record {
   roots = record { here = stays (instance_of c root); others = λ other apart. refl };
   queues = refl;
   library = refl;
+  indexed = λ is. is;
 }
   where
     stays : (o : Option Instance) → BecomesStarted (templates c) root process version starter settings [] o o
@@ -103,6 +108,15 @@ starts_in (Ok (Some i)) ts ts' template g input root process version starter sta
   started = subst (λ (name : Name). IsStarted ts template root name input i) named (subst (λ (us : List Template). IsStarted us template root starter' input i) same made);
 }
 
+-- a hold that changes is what a Release and a Transfer do
+pub released : {T E : Type 0} (r : Result T E) (c c' : Core) (item : Path) (who : Name) → OnOk r (HoldsItem c item c') → OnOk r (Drives c (Release item who) c')
+released (Ok x) c c' item who h = record { given = []; roots = h.roots; queues = h.queues; library = h.library; indexed = h.indexed }
+released (Err e) c c' item who h = tt
+
+pub transferred : {T E : Type 0} (r : Result T E) (c c' : Core) (item : Path) (who to : Name) → OnOk r (HoldsItem c item c') → OnOk r (Drives c (Transfer item who to) c')
+transferred (Ok x) c c' item who to h = record { given = []; roots = h.roots; queues = h.queues; library = h.library; indexed = h.indexed }
+transferred (Err e) c c' item who to h = tt
+
 -- ---- around a transaction
 
 roots_earlier : (a n c : Core) (t : Transaction) (given : List Message) (o : Option ℕ)
@@ -112,7 +126,37 @@ roots_earlier a n c t given (Some root) h = record { here = h.here; others = h.o
 
 -- numbers don't matter
 pub drives_earlier : (a n c : Core) (t : Transaction) → Drives (record a { number = n.number; roots = n.roots; kept_number = n.kept_number; kept_root = n.kept_root }) t c → Drives a t c
-drives_earlier a n c t h = record { given = h.given; roots = roots_earlier a n c t h.given (root_about t) h.roots; queues = h.queues; library = h.library }
+drives_earlier a n c t h = record { given = h.given; roots = roots_earlier a n c t h.given (root_about t) h.roots; queues = h.queues; library = h.library; indexed = h.indexed }
+
+-- nor does the number of roots so far, nor which transactions are live
+roots_counted : (a : Core) (r : ℕ) (c : Core) (t : Transaction) (given : List Message) (o : Option ℕ) → ChangesRoots (record a { roots = r }) t given o c → ChangesRoots a t given o c
+roots_counted a r c t given None h = h
+roots_counted a r c t given (Some root) h = record { here = h.here; others = h.others }
+
+roots_kept : (a c d : Core) (t : Transaction) (given : List Message) (o : Option ℕ) → ChangesRoots a t given o c → ChangesRoots a t given o (record c { live = d.live })
+roots_kept a c d t given None h = h
+roots_kept a c d t given (Some root) h = record { here = h.here; others = h.others }
+
+drives_counted : (a : Core) (r : ℕ) (c : Core) (t : Transaction) → Drives (record a { roots = r }) t c → Drives a t c
+drives_counted a r c t h = record { given = h.given; roots = roots_counted a r c t h.given (root_about t) h.roots; queues = h.queues; library = h.library; indexed = h.indexed }
+
+drives_kept : (a c d : Core) (t : Transaction) → Drives a t c → Drives a t (record c { live = d.live })
+drives_kept a c d t h = record { given = h.given; roots = roots_kept a c d t h.given (root_about t) h.roots; queues = h.queues; library = h.library; indexed = h.indexed }
+
+pub drives_around : (a b c d : Core) (t : Transaction) → b ≡ record a { roots = b.roots } → d ≡ record c { live = d.live } → Drives b t c → Drives a t d
+drives_around a b c d t before after h =
+    subst (λ (k : Core). Drives a t k) (sym after) (drives_kept a c d t (drives_counted a b.roots c t (subst (λ (k : Core). Drives k t c) before h)))
+
+pub front_counted : (a b : Core) (t : Transaction) → b ≡ record a { roots = b.roots } → IsFrontOf a t → IsFrontOf b t
+front_counted a b t before h = subst (λ (k : Core). IsFrontOf k t) (sym before) h
+
+roots_numbered : (a : Core) (n : ℕ) (c : Core) (t : Transaction) (given : List Message) (o : Option ℕ) → ChangesRoots (record a { number = n }) t given o c → ChangesRoots a t given o c
+roots_numbered a n c t given None h = h
+roots_numbered a n c t given (Some root) h = record { here = h.here; others = h.others }
+
+pub drives_numbered : {T E : Type 0} (r : Result T E) (a : Core) (n : ℕ) (c : Core) (t : Transaction) → OnOk r (Drives (record a { number = n }) t c) → OnOk r (Drives a t c)
+drives_numbered (Ok x) a n c t h = record { given = h.given; roots = roots_numbered a n c t h.given (root_about t) h.roots; queues = h.queues; library = h.library; indexed = h.indexed }
+drives_numbered (Err e) a n c t h = tt
 
 -- the front of a queue doesn't go by numbers
 pub front_within : (a b : Core) (t : Transaction) → b ≡ record a { number = b.number; roots = b.roots; kept_number = b.kept_number; kept_root = b.kept_root } → IsFrontOf a t → IsFrontOf b t

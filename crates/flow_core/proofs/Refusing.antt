@@ -18,7 +18,7 @@ use Rattle.flow_model.specs.declared.transactions.Transaction.{Transaction}
 use Rattle.flow_model.specs.declared.transactions.Transaction.TheVariants as made
 use Rattle.flow_core.specs.Allowing.{Subject, subject_of, known_entry, IsKnown, IsOpen, IsAllowed}
 use Rattle.flow_core.specs.Driving.{item_of}
-use Rattle.flow_core.specs.Refusals.{between, first_of, full_test, item_test, on_item, tests_on_item, live_test, RefusesOnItem, newest_of, IsSmall, IsInOrder, IsNamed, IsFound, subject_in, IsRuleOf, IsFirstRefusal, StopsBy, StopsAs, IsStop}
+use Rattle.flow_core.specs.Refusals.{between, first_of, full_test, item_test, on_item, tests_on_item, live_test, RefusesOnItem, newest_of, IsInOrder, IsNamed, IsFound, subject_in, IsRuleOf, IsFirstRefusal, StopsBy, StopsAs, IsStop}
 use Rattle.flow_core.specs.declared.items.Found.{Found}
 use Rattle.flow_core.specs.declared.refusals.Refusal.{Refusal}
 use Rattle.flow_core.specs.declared.refusals.Refusal.TheVariants as refused
@@ -96,10 +96,6 @@ people_stop {T = T} c people token test o r y e is same found stops =
 there_is : (c : Core) (token : List ℕ) (o : Option Found) (f : Found) → IsFound c token o → o ≡ Some f → Spells (between token) f.path × IsKnown c f.path f.known
 there_is c token o f found there = subst (λ (o' : Option Found). IsFound c token o') there found
 
--- the containers of an item that is found are small
-pub small_there : (c : Core) (token : List ℕ) (o : Option Found) (f : Found) → IsFound c token o → o ≡ Some f → IsInOrder c → IsSmall f.known.item.activity.now.output
-small_there c token o f found there order = order.outputs f.path (known_entry f.known) (there_is c token o f found there).1.there
-
 pub take_for : {E : Type 0} (c : Core) (token : List ℕ) (o : Option Found) (f : Found) (r : Result Transaction E) → IsFound c token o → o ≡ Some f
     → IfOk r (λ t. t ≡ made.Take f.path (next_take f.known.item.state.now)) → IfOk r (IsFor c (asked.Take token))
 take_for c token o f (Ok t) found there is =
@@ -109,26 +105,26 @@ take_for c token o f (Err e) found there is = tt
 
 -- the settings of a completion are those that its outcome writes
 set_there : (c : Core) (token : List ℕ) (o : Option Found) (f : Found) (outcome : Outcome) (settings : List Setting) → IsFound c token o → o ≡ Some f
-    → (IsSmall f.known.item.activity.now.output → outcome_by f.known.item.activity.now.output outcome.rc outcome.settings ≡ Ok settings) → IsInOrder c → IsSetFor c f.path outcome settings
-set_there c token o f outcome settings found there set order = record {
+    → outcome_by f.known.item.activity.now.output outcome.rc outcome.settings ≡ Ok settings → IsSetFor c f.path outcome settings
+set_there c token o f outcome settings found there set = record {
   item = known_entry f.known;
   there = (there_is c token o f found there).1.there;
-  set = set (small_there c token o f found there order);
+  set = set;
 }
 
 -- what an inner call says of the transaction of a completion
 abbrev pub Completes : Found → Outcome → (List Setting → Transaction) → Transaction → Type 0
 Completes f outcome make t =
-    (settings : List Setting) × (IsSmall f.known.item.activity.now.output → outcome_by f.known.item.activity.now.output outcome.rc outcome.settings ≡ Ok settings) × (t ≡ make settings)
+    (settings : List Setting) × (outcome_by f.known.item.activity.now.output outcome.rc outcome.settings ≡ Ok settings) × (t ≡ make settings)
 
 pub done_for : {E : Type 0} (c : Core) (token : List ℕ) (o : Option Found) (f : Found) (by : Who) (outcome : Outcome) (r : Result Transaction E) → IsFound c token o → o ≡ Some f
     → IfOk r (Completes f outcome (λ settings. made.Done f.path by settings)) → IfOk r (IsFor c (asked.Done token by outcome))
-done_for c token o f by outcome (Ok t) found there is = (f.path, is.0, (there_is c token o f found there).0, λ order. set_there c token o f outcome is.0 found there is.1 order, is.2)
+done_for c token o f by outcome (Ok t) found there is = (f.path, is.0, (there_is c token o f found there).0, set_there c token o f outcome is.0 found there is.1, is.2)
 done_for c token o f by outcome (Err e) found there is = tt
 
 pub force_for : {E : Type 0} (c : Core) (token : List ℕ) (o : Option Found) (f : Found) (outcome : Outcome) (r : Result Transaction E) → IsFound c token o → o ≡ Some f
     → IfOk r (Completes f outcome (λ settings. made.Force f.path settings)) → IfOk r (IsFor c (asked.Force token outcome))
-force_for c token o f outcome (Ok t) found there is = (f.path, is.0, (there_is c token o f found there).0, λ order. set_there c token o f outcome is.0 found there is.1 order, is.2)
+force_for c token o f outcome (Ok t) found there is = (f.path, is.0, (there_is c token o f found there).0, set_there c token o f outcome is.0 found there is.1, is.2)
 force_for c token o f outcome (Err e) found there is = tt
 
 -- a completion of an item that is open may be
@@ -144,12 +140,12 @@ force_allowed c f outcome (Err e) is opened = tt
 
 -- a START takes the newest version of its process
 pub start_for : {E : Type 0} (c : Core) (process starter : Name) (key : Option Name) (written : List RawSetting) (template : Template) (r : Result Transaction E)
-    → (IsInOrder c → newest_of c process ≡ Some template) → (IsInOrder c → IsSmall (out-Graph template.graph).input)
-    → IfOk r (λ t. (settings : List Setting) × (IsSmall (out-Graph template.graph).input → outcome_by (out-Graph template.graph).input None written ≡ Ok settings)
+    → (IsInOrder c → newest_of c process ≡ Some template)
+    → IfOk r (λ t. (settings : List Setting) × (outcome_by (out-Graph template.graph).input None written ≡ Ok settings)
     × (t ≡ made.Start (next_root c) process template.version starter key settings)) → IfOk r (IsFor c (asked.Start process starter key written))
-start_for c process starter key written template (Ok t) newest small is =
-    (template.version, is.0, λ order. record { template = template; newest = newest order; number = refl; set = is.1 (small order) }, is.2)
-start_for c process starter key written template (Err e) newest small is = tt
+start_for c process starter key written template (Ok t) newest is =
+    (template.version, is.0, λ order. record { template = template; newest = newest order; number = refl; set = is.1 }, is.2)
+start_for c process starter key written template (Err e) newest is = tt
 
 -- ---- roots
 

@@ -1,6 +1,8 @@
 -- What a state asks of a transaction before it may be, and how the numbers of roots are counted.
 use Rattle.std.specs.Prelude.{◌≡◌, ◌⊎◌, ℕ, ◌<◌, ◌≤◌, ◌==◌, ◌&&◌, false, Result, Ok, Err, Option, Some, None, [], option_map, IfSome, IsTrue}
 use Rattle.activity_states.specs.States.{fate_of}
+use Rattle.flow_model.specs.declared.graphs.DoneBy.{DoneBy}
+use Rattle.flow_model.specs.declared.graphs.DoneBy.TheVariants as by
 use Rattle.flow_model.specs.declared.graphs.Program.{Program as ProgramOf}
 use Rattle.flow_model.specs.declared.instances.Mode.{Mode}
 use Rattle.flow_model.specs.declared.instances.Mode.TheVariants.{Active, Suspended}
@@ -8,12 +10,14 @@ use Rattle.flow_model.specs.declared.instances.Path.{Path}
 use Rattle.flow_model.specs.declared.instances.Phase.TheVariants.{Ended}
 use Rattle.flow_model.specs.declared.names.Name.{Name}
 use Rattle.flow_model.specs.declared.transactions.Transaction.{Transaction}
-use Rattle.flow_model.specs.declared.transactions.Transaction.TheVariants.{Import, Start, Turn, Claim, Release, Transfer, Take, Done, Force, Restart, Suspend, Resume, Terminate, Delete, Clock}
+use Rattle.flow_model.specs.declared.transactions.Transaction.TheVariants.{Turn, Done, Force}
 use Rattle.navigator.specs.Instances.{mode_of}
-use Rattle.navigator.specs.Items.{Entry, entry_of, phase_of}
+use Rattle.navigator.specs.Items.{Entry, entry_of, phase_of, performer_at}
 use Rattle.navigator.specs.declared.instance.Instance.{Instance}
+use Rattle.navigator.specs.declared.instance.Item.{Item}
 use Rattle.navigator.specs.declared.scopes.ScopeState.{out-ScopeState}
 use Rattle.recover_queue.specs.Queues.{is_quiet}
+use Rattle.template_check.specs.Imports.{IsIndexed}
 use Rattle.flow_core.specs.Answers.{instance_of}
 use Rattle.flow_core.specs.Driving.{templates, item_of, program_in, IsFront}
 use Rattle.flow_core.specs.Summaries.{started}
@@ -32,8 +36,11 @@ abbrev pub IsRunning : Mode → Type 0
 IsRunning mode = (mode ≡ Active) ⊎ (mode ≡ Suspended)
 
 -- the item that a test looks at
+abbrev pub seen_entry : Item → Entry
+seen_entry i = entry_of i.place.graph.now i.place.scope.now i.number i.activity.now i.state.now i.attempt
+
 abbrev pub known_entry : Known → Entry
-known_entry k = entry_of k.item.place.graph.now k.item.place.scope.now k.item.number k.item.activity.now k.item.state.now k.item.attempt
+known_entry k = seen_entry k.item
 
 -- an item with what the tests of a command ask of it: its program, the mode and the starter of its root, and the
 -- person whose DONE PERFORMER OF asks for
@@ -47,12 +54,23 @@ pub record Subject : Type 0 where
 abbrev pub subject_of : Known → Subject
 subject_of k = record { item = known_entry k; program = k.program.now; mode = k.mode; starter = k.starter.now; performer = option_map (λ name. name.now) k.performer }
 
--- it is the item of this path, as it and its root stand; which performer it has isn't said
+-- the person whose DONE gave the final output of the activity that PERFORMER OF names, in the scope of the item
+abbrev pub performer_by : Entry → DoneBy → Option Name
+performer_by e (by.Role role) = None
+performer_by e (by.Person name) = None
+performer_by e by.Starter = None
+performer_by e (by.PerformerOf place) = performer_at e.scope place
+
+abbrev pub performer_for : Entry → ProgramOf → Option Name
+performer_for e p = performer_by e p.by
+
+-- it is the item of this path, as it and its root stand
 pub record IsThere (c : Core) (path : Path) (s : Subject) : Type 0 where
   pub there : item_of c path ≡ Some s.item
   pub program : program_in s.item.activity.work ≡ Some s.program
   pub mode : option_map mode_in (instance_of c path.root) ≡ Some s.mode
   pub starter : option_map (λ i. i.starter) (instance_of c path.root) ≡ Some s.starter
+  pub performer : s.performer ≡ performer_for s.item s.program
 
 abbrev pub IsKnown : Core → Path → Known → Type 0
 IsKnown c path k = IsThere c path (subject_of k)
@@ -105,9 +123,10 @@ pub record IsAllowed (c : Core) (t : Transaction) : Type 0 where
 
 -- ---- a state before any transaction
 
--- no root and no transaction is live, no message is queued, and nothing was imported
+-- no root and no transaction is live, no message is queued, nothing was imported, and so names lead to nothing
 pub record IsBlank (c : Core) : Type 0 where
   pub roots : (root : ℕ) → instance_of c root ≡ None
   pub queues : IsTrue (is_quiet c.queues)
   pub library : templates c ≡ []
+  pub indexed : IsIndexed c.store.catalog
   pub live : c.live.items ≡ []

@@ -4,8 +4,6 @@ use Rattle.std.specs.List.{filter, flat_map}
 use Rattle.std.specs.Fmt.{decimal}
 use Rattle.std.specs.Ordering.{nat_cmp}
 use Rattle.std.specs.BTreeMap as tree
-use Rattle.flow_model.specs.declared.commands.Query.{Query}
-use Rattle.flow_model.specs.declared.commands.Query.TheVariants as ask
 use Rattle.flow_model.specs.ScopeContainers.{graph_of}
 use Rattle.flow_model.specs.Scopes.{Known}
 use Rattle.flow_model.specs.declared.graphs.Container.{Container}
@@ -27,7 +25,6 @@ use Rattle.flow_text.specs.Spelling.{name_in_quotes}
 use Rattle.reply_text.specs.Replies.{path_in_quotes, mode_text, row_text}
 use Rattle.audit_trail.specs.Lines.{message_text, audit_line}
 use Rattle.recover_queue.specs.Queues.{queue as messages_of}
-use Rattle.template_check.specs.Imports.{IsIndexed, latest_person}
 use Rattle.staff_worklists.specs.Listing.{IsWorklist}
 use Rattle.navigator.specs.Instances.{mode_of}
 use Rattle.navigator.specs.ViewRows.{view_rows}
@@ -149,13 +146,3 @@ IsShown library root (Some i) text = (rows : List FateRow) × AreRowsOf library 
 abbrev pub IsListed : Core → List ℕ → Option PersonDef → List ℕ → Type 0
 IsListed c name None text = text ≡ refusal_text (refused.Person name)
 IsListed c name (Some person) text = (lines : List WorkLine) × IsWorklist c.worklists.shelves person lines × (text ≡ worklist_text name lines)
-
--- the reply to a query in this state; nothing is said of OUTPUT and INPUT
-abbrev pub IsAnswer : Core → Query → List ℕ → Type 0
-IsAnswer c (ask.Show root) text = IsShown c.store.catalog.library root (instance_of c root) text
-IsAnswer c (ask.Output root) text = Unit {0}
-IsAnswer c (ask.Input token) text = Unit {0}
-IsAnswer c (ask.Worklist name) text = IsIndexed c.store.catalog → IsListed c name (latest_person c.store.catalog.library name) text
-IsAnswer c (ask.Queue number) text = text ≡ queue_answer c number
-IsAnswer c (ask.Audit root) text = text ≡ audit_answer c root
-IsAnswer c ask.Templates text = text ≡ templates_text c.store.catalog.library.templates

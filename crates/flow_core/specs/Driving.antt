@@ -24,6 +24,7 @@ use Rattle.navigator.specs.declared.instance.Instance.{Instance}
 use Rattle.recover_queue.specs.Queues.{root_of as root_of_message, queue, with_queue}
 use Rattle.root_laws.specs.Becoming.{TakesIn, CompletesIn, HoldsIn}
 use Rattle.template_check.specs.Built.{AreSound}
+use Rattle.template_check.specs.Imports.{IsIndexed}
 use Rattle.flow_core.specs.Answers.{instance_of}
 use Rattle.flow_core.specs.Summaries.{root_about}
 use Rattle.flow_core.specs.declared.state.Core.{Core}
@@ -230,6 +231,7 @@ pub record HoldsItem (c : Core) (item : Path) (c' : Core) : Type 0 where
   pub roots : ChangesRoot item.root (BecomesQuietly (HoldsIn (templates c)) []) c c'
   pub queues : c'.queues ≡ c.queues
   pub library : templates c' ≡ templates c
+  pub indexed : IsIndexed c.store.catalog → IsIndexed c'.store.catalog
 
 -- an item is completed with these settings in its output, and what follows is put
 pub record CompletesItem (c : Core) (item : Path) (settings : List Setting) (c' : Core) : Type 0 where
@@ -237,13 +239,16 @@ pub record CompletesItem (c : Core) (item : Path) (settings : List Setting) (c' 
   pub roots : ChangesRoot item.root (BecomesCompleted (templates c) item settings (item_of c item) given) c c'
   pub queues : c'.queues ≡ put_in (queue_now c') given c.queues
   pub library : templates c' ≡ templates c
+  pub indexed : IsIndexed c.store.catalog → IsIndexed c'.store.catalog
 
--- it changes its root alone, what it gives is put into the queues, behind what it has left there, and the library is the one after it
+-- it changes its root alone, what it gives is put into the queues, behind what it has left there, the library is the one after
+-- it, and names go on to lead to the newest of it
 pub record Drives (c : Core) (t : Transaction) (c' : Core) : Type 0 where
   pub given : List Message
   pub roots : ChangesRoots c t given (root_about t) c'
   pub queues : c'.queues ≡ put_in (queue_now c') given (taken_by t c.queues)
   pub library : LibraryAfter t (templates c) (templates c')
+  pub indexed : IsIndexed c.store.catalog → IsIndexed c'.store.catalog
 
 -- the message that a Turn takes, with its queue
 abbrev pub turn_of : Transaction → Option (ℕ × Message)

@@ -2,8 +2,11 @@ pub mod Summaries
 pub mod Verdicts
 pub mod Replies
 pub mod Answers
+pub mod Containing
+pub mod Queries
 pub mod Driving
 pub mod Allowing
 pub mod Refusals
 pub mod Judgements
 pub mod OpenItems
+pub mod Facts

@@ -11,7 +11,7 @@ use Rattle.flow_model.specs.declared.instances.Path.{Path}
 use Rattle.flow_model.specs.declared.names.Name.{Name}
 use Rattle.navigator.specs.Items.{Entry}
 use Rattle.navigator.specs.declared.instance.Instance.{Instance}
-use Rattle.flow_core.specs.Allowing.{mode_in}
+use Rattle.flow_core.specs.Allowing.{mode_in, performer_for}
 use Rattle.flow_core.specs.Answers.{instance_of, AreRowsOf}
 use Rattle.flow_core.specs.Driving.{item_of, program_in}
 use Rattle.flow_core.specs.Refusals.{is_going}
@@ -21,24 +21,26 @@ use Rattle.flow_core.specs.declared.state.Root.{Root}
 
 -- ---- one item
 
--- an open item: its path, the clock when it came to be, its program, who holds it, and who started its root
+-- an open item: its path, the clock when it came to be, its program, who holds it, who started its root, and the person whose
+-- DONE PERFORMER OF asks for
 pub record Open : Type 0 where
   pub item : Path
   pub since : ℕ
   pub program : ProgramOf
   pub hold : Hold
   pub starter : Name
+  pub performer : Option Name
 
--- what an item that is given tells; which performer it has isn't said
+-- what an item that is given tells
 abbrev pub told_of : OpenItem → Open
-told_of o = record { item = o.item; since = o.since; program = o.program.now; hold = o.hold.now; starter = o.starter.now }
+told_of o = record { item = o.item; since = o.since; program = o.program.now; hold = o.hold.now; starter = o.starter.now; performer = option_map (λ name. name.now) o.performer }
 
 -- who started a live root
 abbrev pub starter_of : Core → ℕ → Option Name
 starter_of c root = option_map (λ i. i.starter) (instance_of c root)
 
 abbrev pub open_by : Path → Entry → ProgramOf → Name → Open
-open_by path e p starter = record { item = path; since = since_of e.state; program = p; hold = hold_of e.state; starter = starter }
+open_by path e p starter = record { item = path; since = since_of e.state; program = p; hold = hold_of e.state; starter = starter; performer = performer_for e p }
 
 -- the item of a path, where it is there
 abbrev pub open_at : Core → Path → Option Open

@@ -1,5 +1,5 @@
 -- Why a command is refused: its tests in their order, each a refusal or none, and the first refusal of them.
-use Rattle.std.specs.Prelude.{◌≡◌, ◌⊎◌, ℕ, ◌+◌, ◌-◌, ◌^◌, ◌≤◌, ◌==◌, ◌&&◌, min, nat_lt, nat_le, Bool, true, false, if◌then◌else◌, Result, Ok, Err, Option, Some, None, is_some, option_map, option_and_then, List, [], ◌∷◌, length, take, drop, slice_get, bytes_eq}
+use Rattle.std.specs.Prelude.{◌≡◌, ◌⊎◌, ℕ, ◌+◌, ◌-◌, ◌^◌, ◌==◌, ◌&&◌, min, nat_lt, nat_le, Bool, true, false, if◌then◌else◌, Result, Ok, Err, Option, Some, None, is_some, option_map, option_and_then, List, [], ◌∷◌, length, take, drop, slice_get, bytes_eq}
 use Rattle.std.specs.HashMap as hash
 use Rattle.std.specs.Option.{option_or}
 use Rattle.activity_states.specs.States.{fate_of, hold_of}
@@ -24,7 +24,7 @@ use Rattle.flow_model.specs.declared.instances.Who.TheVariants as who
 use Rattle.flow_model.specs.declared.names.Name.{Name}
 use Rattle.flow_model.specs.declared.transactions.Setting.{Setting}
 use Rattle.flow_model.specs.declared.trees.NumberAt.{NumberAt}
-use Rattle.navigator.specs.Items.{Entry, phase_of}
+use Rattle.navigator.specs.Items.{phase_of}
 use Rattle.recover_queue.specs.Queues.{queue as messages_of, count_of_root}
 use Rattle.staff_worklists.specs.Rights.{is_eligible, is_running, claim_answer, release_answer, transfer_answer, taking_answer, done_answer}
 use Rattle.staff_worklists.specs.declared.rights.StaffFault.{StaffFault}
@@ -54,15 +54,9 @@ unless passes refusal = if passes then None else Some refusal
 
 -- ---- what the answers are exact for
 
--- a container of so few leaves that a setting can name each
-abbrev pub IsSmall : Leaves → Type 0
-IsSmall leaves = length leaves.leaves ≤ 2 ^ 16
-
--- a state is in order where names lead to the newest, and the containers that are set are small
-pub record IsInOrder (c : Core) : Type 0 where
-  pub indexed : IsIndexed c.store.catalog
-  pub inputs : (place : ℕ) → (t : Template) → slice_get (templates c) place ≡ Some t → IsSmall (out-Graph t.graph).input
-  pub outputs : (path : Path) → (e : Entry) → item_of c path ≡ Some e → IsSmall e.activity.output
+-- a state is in order where names lead to the newest templates and the latest people; so is each state that is right
+abbrev pub IsInOrder : Core → Type 0
+IsInOrder c = IsIndexed c.store.catalog
 
 -- ---- tokens
 
@@ -302,14 +296,13 @@ IsFirstRefusal c (asked.Clock number) refusal = refusal ≡ first_of (minutes_te
 IsFirstRefusal c asked.Checkpoint refusal = ⊥
 IsFirstRefusal c (asked.Ask query) refusal = ⊥
 
--- what is asked of a state: where people or values are tested, that it is in order
+-- what is asked of a state: where the name of a person or a process is looked up, that it is in order
 abbrev pub IsOrderFor : Core → Command → Type 0
 IsOrderFor c (asked.Start process starter key written) = IsInOrder c
 IsOrderFor c (asked.Claim token name) = IsInOrder c
 IsOrderFor c (asked.Release token name) = IsInOrder c
 IsOrderFor c (asked.Transfer token from to) = IsInOrder c
 IsOrderFor c (asked.Done token by outcome) = IsInOrder c
-IsOrderFor c (asked.Force token outcome) = IsInOrder c
 IsOrderFor c command = Unit {0}
 
 -- a command is refused so, or not, in such a state

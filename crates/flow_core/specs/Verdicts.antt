@@ -1,6 +1,7 @@
 -- What becomes of a command.
-use Rattle.std.specs.Prelude.{◌≡◌, ℕ, ◌+◌, Ok, Some, None, List}
-use Rattle.activity_states.specs.States.{next_take}
+use Rattle.std.specs.Prelude.{◌≡◌, ℕ, ◌+◌, ◌-◌, ◌^◌, min, Ok, Some, None, List, length}
+use Rattle.std.specs.Option.{option_map_or}
+use Rattle.activity_states.specs.States.{next_take, fate_of}
 use Rattle.containers.specs.Settings.{outcome_by}
 use Rattle.flow_model.specs.Paths.{Spells}
 use Rattle.flow_model.specs.declared.commands.Command.{Command}
@@ -10,6 +11,7 @@ use Rattle.flow_model.specs.declared.commands.RawSetting.{RawSetting}
 use Rattle.flow_model.specs.declared.graphs.Graph.{out-Graph}
 use Rattle.flow_model.specs.declared.graphs.Template.{Template}
 use Rattle.flow_model.specs.declared.instances.Fate.{Fate}
+use Rattle.flow_model.specs.declared.instances.Fate.TheVariants as fate
 use Rattle.flow_model.specs.declared.instances.Message.{Message}
 use Rattle.flow_model.specs.declared.instances.Mode.TheVariants as mode
 use Rattle.flow_model.specs.declared.instances.Path.{Path}
@@ -19,7 +21,7 @@ use Rattle.flow_model.specs.declared.transactions.Transaction.TheVariants as mad
 use Rattle.flow_model.specs.declared.names.Name.{Name}
 use Rattle.navigator.specs.Items.{Entry}
 pub use Rattle.flow_core.specs.Driving.{IsFront}
-use Rattle.flow_core.specs.Driving.{item_of}
+use Rattle.flow_core.specs.Driving.{templates, item_of}
 use Rattle.flow_core.specs.Refusals.{between, newest_of, IsInOrder}
 use Rattle.flow_core.specs.declared.applying.Note.{Note}
 use Rattle.flow_core.specs.declared.applying.Note.TheVariants as note
@@ -60,9 +62,9 @@ IsFor c (Release token who) t = (path : Path) × Spells (between token) path × 
 IsFor c (Transfer token who to) t = (path : Path) × Spells (between token) path × (t ≡ made.Transfer path who to)
 IsFor c (Take token) t = (path : Path) × (take : ℕ) × Spells (between token) path × IsNextTake c path take × (t ≡ made.Take path take)
 IsFor c (Done token who outcome) t =
-    (path : Path) × (settings : List Setting) × Spells (between token) path × (IsInOrder c → IsSetFor c path outcome settings) × (t ≡ made.Done path who settings)
+    (path : Path) × (settings : List Setting) × Spells (between token) path × IsSetFor c path outcome settings × (t ≡ made.Done path who settings)
 IsFor c (Force token outcome) t =
-    (path : Path) × (settings : List Setting) × Spells (between token) path × (IsInOrder c → IsSetFor c path outcome settings) × (t ≡ made.Force path settings)
+    (path : Path) × (settings : List Setting) × Spells (between token) path × IsSetFor c path outcome settings × (t ≡ made.Force path settings)
 IsFor c (Restart token) t = (path : Path) × Spells (between token) path × (t ≡ made.Restart path)
 IsFor c (Suspend root) t = t ≡ made.Suspend root
 IsFor c (Resume root) t = t ≡ made.Resume root
@@ -72,20 +74,25 @@ IsFor c (Clock minutes) t = t ≡ made.Clock minutes.size
 IsFor c Checkpoint t = ⊥
 IsFor c (Ask query) t = ⊥
 
--- what a reply names is of the kind of its transaction; a Turn names the message that it takes
-abbrev pub IsNoteOf : Core → Transaction → Note → Type 0
-IsNoteOf c (made.Import text) n = (count : ℕ) × (n ≡ note.Imported count)
-IsNoteOf c (made.Start root process version starter key settings) n = n ≡ note.Rooted root
-IsNoteOf c (made.Turn queue message) n = IsFront c queue message → n ≡ note.Turned queue message
-IsNoteOf c (made.Claim item who) n = (fate : Fate) × (n ≡ note.Fated fate)
-IsNoteOf c (made.Release item who) n = (fate : Fate) × (n ≡ note.Fated fate)
-IsNoteOf c (made.Transfer item who to) n = (fate : Fate) × (n ≡ note.Fated fate)
-IsNoteOf c (made.Take item take) n = (number : ℕ) × (n ≡ note.Taken number)
-IsNoteOf c (made.Done item who settings) n = (fate : Fate) × (n ≡ note.Fated fate)
-IsNoteOf c (made.Force item settings) n = (fate : Fate) × (n ≡ note.Fated fate)
-IsNoteOf c (made.Restart item) n = (fate : Fate) × (n ≡ note.Fated fate)
-IsNoteOf c (made.Suspend root) n = n ≡ note.Moded mode.Suspended
-IsNoteOf c (made.Resume root) n = n ≡ note.Moded mode.Active
-IsNoteOf c (made.Terminate root) n = n ≡ note.Moded mode.Terminated
-IsNoteOf c (made.Delete root) n = n ≡ note.Deleted
-IsNoteOf c (made.Clock minutes) n = n ≡ note.Clocked minutes
+-- the fate of an item's activity as the state shows it; it waits where there is no such item
+abbrev pub fate_now : Core → Path → Fate
+fate_now c item = option_map_or (λ e. fate_of e.state) (item_of c item) fate.Waiting
+
+-- what a reply names, by the states before and after its transaction: the number of processes that an Import adds, the message
+-- that a Turn takes, the take number of a Take, the fate that the activity of an item has then, the mode
+abbrev pub IsNoteOf : Core → Transaction → Core → Note → Type 0
+IsNoteOf c (made.Import text) c' n = n ≡ note.Imported (min (length (templates c') - length (templates c)) (2 ^ 32 - 1))
+IsNoteOf c (made.Start root process version starter key settings) c' n = n ≡ note.Rooted root
+IsNoteOf c (made.Turn queue message) c' n = IsFront c queue message → n ≡ note.Turned queue message
+IsNoteOf c (made.Claim item who) c' n = n ≡ note.Fated (fate_now c' item)
+IsNoteOf c (made.Release item who) c' n = n ≡ note.Fated (fate_now c' item)
+IsNoteOf c (made.Transfer item who to) c' n = n ≡ note.Fated (fate_now c' item)
+IsNoteOf c (made.Take item take) c' n = n ≡ note.Taken take
+IsNoteOf c (made.Done item who settings) c' n = n ≡ note.Fated (fate_now c' item)
+IsNoteOf c (made.Force item settings) c' n = n ≡ note.Fated (fate_now c' item)
+IsNoteOf c (made.Restart item) c' n = n ≡ note.Fated (fate_now c' item)
+IsNoteOf c (made.Suspend root) c' n = n ≡ note.Moded mode.Suspended
+IsNoteOf c (made.Resume root) c' n = n ≡ note.Moded mode.Active
+IsNoteOf c (made.Terminate root) c' n = n ≡ note.Moded mode.Terminated
+IsNoteOf c (made.Delete root) c' n = n ≡ note.Deleted
+IsNoteOf c (made.Clock minutes) c' n = n ≡ note.Clocked minutes

@@ -2,19 +2,27 @@
 ghost use Rattle.std.specs.Prelude.{◌≡◌, ◌++◌, Some, OnOk, IfOk};
 ghost use Rattle.template_check.specs.Imports.{IsIndexed, latest_person};
 ghost use Rattle.flow_core.specs.Replies.{note_text, applied_text, refusal_text};
-ghost use Rattle.flow_core.specs.Answers.{templates_text as text_of_templates, queue_answer, audit_answer, instance_of, AreRowsOf, IsShown, IsListed, IsAnswer};
-ghost use Rattle.flow_core.specs.declared.refusals.Refusal.TheVariants.{Item};
+ghost use Rattle.flow_core.specs.Answers.{templates_text as text_of_templates, queue_answer, audit_answer, instance_of, mode_now, AreRowsOf, IsShown, IsListed};
+ghost use Rattle.flow_core.specs.Allowing.{seen_entry, known_entry};
+ghost use Rattle.flow_core.specs.Containing.{IsOutputOf, IsInputOf, IsOutputShown, IsOutputBy, IsOutputAnswer, IsInputShown, IsInputAnswer};
+ghost use Rattle.flow_core.specs.Queries.{IsAnswer};
+ghost use Rattle.flow_core.specs.Driving.{templates};
+ghost use Rattle.flow_model.specs.ScopeContainers.{graph_of};
+ghost use Rattle.flow_core.specs.declared.refusals.Refusal.TheVariants.{Item as NoItem};
 
 use crate::applying::{Applied, Note};
-use crate::listings::{write_audit, write_queue, write_templates, write_view, write_worklist};
-use crate::paths::unquoted;
+use crate::items::Found;
+use crate::listings::{
+    write_audit, write_input, write_output, write_queue, write_templates, write_view,
+    write_worklist,
+};
 use crate::refusals::{Refusal, write_refusal};
 use crate::state::Core;
 use crate::words::{end_line, numbered};
 use audit_trail::write_message;
-use flow_model::{Bytes, FateRow, List, Mode, Name, PathFault, PersonDef, Query, path_of};
-use navigator::Instance;
-use reply_text::{write_container, write_fate, write_mode, write_quoted_path};
+use flow_model::{Bytes, Container, FateRow, Graph, List, Mode, Name, PersonDef, Query};
+use navigator::{Instance, Item};
+use reply_text::{write_fate, write_mode};
 use std::alloc::AllocError;
 
 /// Appends what the reply of a transaction says behind its number.
@@ -80,45 +88,89 @@ impl Core {
         }
     }
 
-    fn output_text(&self, root: u64) -> Result<Vec<u8>, AllocError> {
-        let (Some(instance), Some(graph)) = (self.instance(root), self.root_graph(root)) else {
-            return self.refused(&Refusal::Root(root));
-        };
-        if instance.mode() != Mode::Done {
-            return self.refused(&Refusal::Mode(instance.mode()));
-        }
-        let output = instance.output(self.alloc, self.library())?;
+    /// The output of a root, where it is complete.
+    fn root_output(&self, instance: &Instance, graph: &Graph) -> Result<Container, AllocError>
+        requires { graph_of (templates self.now) instance.now.template ≡ Some graph.now }
+        ensures { IfOk result (IsOutputOf (templates self.now) graph.now instance.now) }
+    {
+        instance.output(self.alloc, self.library())
+    }
+
+    /// The text of the output of a root that is done.
+    fn output_of(
+        &self,
+        root: u64,
+        instance: &Instance,
+        graph: &Graph,
+    ) -> Result<Vec<u8>, AllocError>
+        requires { graph_of (templates self.now) instance.now.template ≡ Some graph.now }
+        ensures { IfOk result (λ out. IsOutputShown (templates self.now) root graph.now instance.now out.items) }
+    {
+        let output = self.root_output(instance, graph)?;
         let mut out = Vec::new(self.alloc);
-        numbered(&mut out, b"ok OUTPUT ", root)?;
-        numbered(&mut out, b" ", output.values.len() as u64)?;
-        end_line(&mut out)?;
-        write_container(&mut out, &graph.output, &output)?;
+        write_output(&mut out, root, &graph.output, &output)?;
         Ok(out)
     }
 
+    /// The output of a root, if it is done.
+    fn output_by_mode(
+        &self,
+        root: u64,
+        instance: &Instance,
+        graph: &Graph,
+    ) -> Result<Vec<u8>, AllocError>
+        requires { graph_of (templates self.now) instance.now.template ≡ Some graph.now }
+        ensures { IfOk result (λ out. IsOutputBy (templates self.now) root graph.now instance.now (mode_now instance.now) out.items) }
+    {
+        match instance.mode() {
+            Mode::Done => self.output_of(root, instance, graph),
+            mode => self.refused(&Refusal::Mode(mode)),
+        }
+    }
+
+    fn output_text(&self, root: u64) -> Result<Vec<u8>, AllocError>
+        ensures { IfOk result (λ out. IsOutputAnswer self.now root (instance_of self.now root) out.items) }
+    {
+        let Some(instance) = self.instance(root) else {
+            return self.refused(&Refusal::Root(root));
+        };
+        match instance.graph(self.library()) {
+            None => self.refused(&Refusal::Root(root)),
+            Some(graph) => self.output_by_mode(root, instance, graph),
+        }
+    }
+
     fn no_such_item(&self, token: &Bytes) -> Result<Vec<u8>, AllocError>
-        ensures { IfOk result (λ out. out.items ≡ refusal_text (Item token.now)) }
+        ensures { IfOk result (λ out. out.items ≡ refusal_text (NoItem token.now)) }
     {
         self.refused(&Refusal::Item(token.copy(self.alloc)?))
     }
 
-    fn input_text(&self, token: &Bytes) -> Result<Vec<u8>, AllocError> {
-        let path = match path_of(self.alloc, unquoted(token.as_slice())) {
-            Ok(path) => path,
-            Err(PathFault::NoMemory) => return Err(AllocError),
-            Err(PathFault::BadPath) => return self.no_such_item(token),
-        };
-        let Some(known) = self.known(&path) else {
-            return self.no_such_item(token);
-        };
-        let input = known.item.input(self.alloc)?;
+    /// What an item reads.
+    fn read_by(&self, item: Item<'_>) -> Result<Container, AllocError>
+        ensures { IfOk result (IsInputOf (seen_entry item.entry)) }
+    {
+        item.input(self.alloc)
+    }
+
+    /// The text of the input of an item that was found.
+    fn input_of(&self, found: &Found<'_>) -> Result<Vec<u8>, AllocError>
+        ensures { IfOk result (λ out. IsInputShown found.now.path (known_entry found.now.known) out.items) }
+    {
+        let input = self.read_by(found.known.item)?;
+        let leaves = &found.known.item.activity.input;
         let mut out = Vec::new(self.alloc);
-        out.extend_from_slice(b"ok INPUT ")?;
-        write_quoted_path(&mut out, &path)?;
-        numbered(&mut out, b" ", input.values.len() as u64)?;
-        end_line(&mut out)?;
-        write_container(&mut out, &known.item.activity.input, &input)?;
+        write_input(&mut out, &found.path, leaves, &input)?;
         Ok(out)
+    }
+
+    fn input_text(&self, token: &Bytes) -> Result<Vec<u8>, AllocError>
+        ensures { IfOk result (λ out. IsInputAnswer self.now token.now out.items) }
+    {
+        match self.found(token)? {
+            None => self.no_such_item(token),
+            Some(found) => self.input_of(&found),
+        }
     }
 
     fn worklist_of(&self, name: &Name, person: &PersonDef) -> Result<Vec<u8>, AllocError>

@@ -1,9 +1,9 @@
 //! The state after a transaction that is allowed.
 ghost use Rattle.std.specs.Prelude.{◌≡◌, ℕ, ◌<◌, ◌+◌, [], ◌∷◌, Some, None, option_copied, option_map, OnOk, IfOk, IsTrue};
-ghost use Rattle.flow_model.specs.declared.instances.Fate.{Fate as FateOf};
 ghost use Rattle.flow_model.specs.declared.instances.Message.{Message as MessageOf};
 ghost use Rattle.flow_model.specs.declared.instances.Mode.TheVariants as modes;
-ghost use Rattle.flow_core.specs.Verdicts.{IsNoteOf, IsFront};
+ghost use Rattle.flow_core.specs.Verdicts.{fate_now, IsNoteOf, IsFront};
+ghost use Rattle.template_check.specs.Imports.{IsIndexed};
 ghost use Rattle.flow_core.specs.declared.applying.Note.TheVariants as notes;
 ghost use Rattle.containers.specs.Settings.{filled};
 ghost use Rattle.flow_model.specs.Containers.{fresh as fresh_of};
@@ -172,12 +172,12 @@ impl Root {
             .complete_item(alloc, library, clock, item, output, performer)
     }
 
-    /// The hold of an item of the root changes; answers the take number of an agent.
-    fn change_hold(&mut self, library: &Library, item: &Path, change: HoldChange) -> u64
+    /// The hold of an item of the root changes; an agent gets the next take number of the item.
+    fn change_hold(&mut self, library: &Library, item: &Path, change: HoldChange)
         ensures rest { self.new ≡ record self.old { instance = self.new.instance } }
         ensures held { HoldsIn library.now.templates self.old.instance self.new.instance }
     {
-        self.instance.change_hold(library, item, change)
+        let _take = self.instance.change_hold(library, item, change);
     }
 }
 
@@ -251,7 +251,8 @@ impl Core {
         ensures kept { noted self.new ≡ noted self.old }
         ensures rest { self.new ≡ record self.old { store = self.new.store } }
         ensures library { OnOk result (LibraryAfter (made.Import text.now) (templates self.old) (templates self.new)) }
-        ensures note { IfOk result (λ n. (count : ℕ) × (n ≡ notes.Imported count)) }
+        ensures indexed { OnOk result (IsIndexed self.old.store.catalog → IsIndexed self.new.store.catalog) }
+        ensures note { IfOk result (IsNoteOf self.old (made.Import text.now) self.new) }
     {
         match self.store.import(self.alloc, text.as_slice()) {
             Ok(count) => Ok(Note::Imported(count)),
@@ -450,10 +451,10 @@ impl Core {
     ) -> Result<Note, AllocError>
         ensures kept { noted self.new ≡ noted self.old }
         ensures completes { OnOk result (CompletesItem self.old item.now settings.now self.new) }
-        ensures note { IfOk result (λ n. (fate : FateOf) × (n ≡ notes.Fated fate)) }
+        ensures note { IfOk result (λ n. n ≡ notes.Fated (fate_now self.new item.now)) }
     {
         let Some(output) = self.output(item, settings)? else {
-            return Ok(Note::Fated(Fate::Waiting));
+            return Ok(Note::Fated(self.fate_of(item)));
         };
         self.unlist_item(item)?;
         let (messages, ready) = self.complete_in_root(item, output, performer)?;
@@ -461,57 +462,58 @@ impl Core {
         Ok(Note::Fated(self.fate_of(item)))
     }
 
-    /// The fate of an item's activity.
-    fn fate_of(&self, item: &Path) -> Fate {
+    /// The fate of an item's activity; it waits where there is no such item.
+    fn fate_of(&self, item: &Path) -> Fate
+        ensures { result ≡ fate_now self.now item.now }
+    {
         match self.known(item) {
             None => Fate::Waiting,
             Some(known) => known.item.fate(),
         }
     }
 
-    /// What a change of a hold does to its root, where that is live; answers the take number of an agent.
-    fn hold_in_root(&mut self, item: &Path, change: HoldChange) -> u64
+    /// What a change of a hold does to its root, where that is live.
+    fn hold_in_root(&mut self, item: &Path, change: HoldChange)
         ensures rest { self.new ≡ record self.old { live_roots = self.new.live_roots } }
         ensures roots { ChangesRoot item.now.root (IfLive (HoldsIn (templates self.old)) []) self.old self.new }
     {
-        match self.live_roots.get_mut(&item.root) {
-            None => 0,
-            Some(root) => root.change_hold(self.store.library(), item, change),
+        if let Some(root) = self.live_roots.get_mut(&item.root) {
+            root.change_hold(self.store.library(), item, change);
         }
     }
 
-    /// Changes who holds an item; answers the take number of an agent.
-    fn change_hold(&mut self, item: &Path, change: HoldChange) -> Result<u64, AllocError>
+    /// Changes who holds an item.
+    fn change_hold(&mut self, item: &Path, change: HoldChange) -> Result<(), AllocError>
         ensures rest { self.new ≡ record self.old { live_roots = self.new.live_roots; worklists = self.new.worklists } }
         ensures roots { OnOk result (ChangesRoot item.now.root (IfLive (HoldsIn (templates self.old)) []) self.old self.new) }
     {
-        let take = self.hold_in_root(item, change);
-        self.list_item(item)?;
-        Ok(take)
+        self.hold_in_root(item, change);
+        self.list_item(item)
     }
 
     fn hold_by(&mut self, item: &Path, who: &Name) -> Result<Note, AllocError>
         ensures kept { noted self.new ≡ noted self.old }
         ensures held { OnOk result (HoldsItem self.old item.now self.new) }
-        ensures note { IfOk result (λ n. (fate : FateOf) × (n ≡ notes.Fated fate)) }
+        ensures note { IfOk result (λ n. n ≡ notes.Fated (fate_now self.new item.now)) }
     {
         let who = who.copy(self.alloc)?;
         self.change_hold(item, HoldChange::Person(who))?;
         Ok(Note::Fated(self.fate_of(item)))
     }
 
-    fn hold_by_agent(&mut self, item: &Path) -> Result<Note, AllocError>
+    fn hold_by_agent(&mut self, item: &Path, take: u64) -> Result<Note, AllocError>
         ensures kept { noted self.new ≡ noted self.old }
         ensures held { OnOk result (HoldsItem self.old item.now self.new) }
-        ensures note { IfOk result (λ n. (take : ℕ) × (n ≡ notes.Taken take)) }
+        ensures note { IfOk result (λ n. n ≡ notes.Taken take) }
     {
-        Ok(Note::Taken(self.change_hold(item, HoldChange::Agent)?))
+        self.change_hold(item, HoldChange::Agent)?;
+        Ok(Note::Taken(take))
     }
 
     fn give_back(&mut self, item: &Path) -> Result<Note, AllocError>
         ensures kept { noted self.new ≡ noted self.old }
         ensures held { OnOk result (HoldsItem self.old item.now self.new) }
-        ensures note { IfOk result (λ n. (fate : FateOf) × (n ≡ notes.Fated fate)) }
+        ensures note { IfOk result (λ n. n ≡ notes.Fated (fate_now self.new item.now)) }
     {
         self.change_hold(item, HoldChange::Nobody)?;
         Ok(Note::Fated(self.fate_of(item)))
@@ -594,7 +596,7 @@ impl Core {
     fn done(&mut self, item: &Path, who: &Who, settings: &[Setting]) -> Result<Note, AllocError>
         ensures kept { noted self.new ≡ noted self.old }
         ensures completes { OnOk result (CompletesItem self.old item.now settings.now self.new) }
-        ensures note { IfOk result (λ n. (fate : FateOf) × (n ≡ notes.Fated fate)) }
+        ensures note { IfOk result (λ n. n ≡ notes.Fated (fate_now self.new item.now)) }
     {
         let performer = match who {
             Who::Person(name) => Some(name.copy(self.alloc)?),
@@ -614,7 +616,7 @@ impl Core {
 
     fn change_by(&mut self, t: &Transaction) -> Result<Note, AllocError>
         ensures kept { noted self.new ≡ noted self.old }
-        ensures note { IfOk result (IsNoteOf self.old t.now) }
+        ensures note { IfOk result (IsNoteOf self.old t.now self.new) }
         ensures drives { IsFrontOf self.old t.now → OnOk result (Drives self.old t.now self.new) }
     {
         match t {
@@ -631,7 +633,7 @@ impl Core {
             Transaction::Claim(item, who) => self.hold_by(item, who),
             Transaction::Release(item, _) => self.give_back(item),
             Transaction::Transfer(item, _, to) => self.hold_by(item, to),
-            Transaction::Take(item, _) => self.hold_by_agent(item),
+            Transaction::Take(item, take) => self.hold_by_agent(item, *take),
             Transaction::Done(item, who, settings) => self.done(item, who, settings.as_slice()),
             Transaction::Force(item, settings) => self.complete(item, None, settings.as_slice()),
             Transaction::Restart(item) => self.give_back(item),
@@ -679,7 +681,7 @@ impl Core {
     /// Applies a transaction under a number, and keeps it where it is live.
     pub(crate) fn apply_as(&mut self, number: u64, t: Transaction) -> Result<Applied, AllocError>
         ensures numbered { IfOk result (λ applied. applied.number ≡ number) }
-        ensures note { IfOk result (λ applied. IsNoteOf self.old t applied.note) }
+        ensures note { IfOk result (λ applied. IsNoteOf self.old t self.new applied.note) }
         ensures applied { OnOk result (noted self.new ≡ (self.old.kept, self.old.kept_root, with_transaction self.old.number number t (summary self.old))) }
         ensures drives { IsFrontOf self.old t → OnOk result (Drives self.old t self.new) }
     {
@@ -694,7 +696,7 @@ impl Core {
         requires { self.old.number < self.old.limit }
         ensures next { OnOk result (summary self.new ≡ next t (summary self.old)) }
         ensures number { IfOk result (λ applied. applied.number ≡ self.old.number + 1) }
-        ensures note { IfOk result (λ applied. IsNoteOf self.old t applied.note) }
+        ensures note { IfOk result (λ applied. IsNoteOf self.old t self.new applied.note) }
         ensures drives { IsFrontOf self.old t → OnOk result (Drives self.old t self.new) }
         ensures counts { OnOk result (CountsRoot self.old t self.new) }
     {

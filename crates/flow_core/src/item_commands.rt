@@ -6,7 +6,7 @@ ghost use Rattle.flow_model.specs.declared.commands.Command.TheVariants as asked
 ghost use Rattle.flow_model.specs.declared.transactions.Setting.{Setting as SettingOf};
 ghost use Rattle.flow_model.specs.declared.transactions.Transaction.TheVariants as made;
 ghost use Rattle.flow_core.specs.Allowing.{subject_of, IsKnown, IsOpen, IsAllowed};
-ghost use Rattle.flow_core.specs.Refusals.{first_of, full_test, who_test, claim_test, release_test, transfer_test, taking_test, completing_test, outcome_test, forcing_test, restart_test, IsSmall, IsInOrder, IsFirstRefusal, StopsBy, StopsAs};
+ghost use Rattle.flow_core.specs.Refusals.{first_of, full_test, who_test, claim_test, release_test, transfer_test, taking_test, completing_test, outcome_test, forcing_test, restart_test, IsInOrder, IsFirstRefusal, StopsBy, StopsAs};
 ghost use Rattle.flow_core.specs.Verdicts.{IsFor};
 
 use crate::items::Found;
@@ -155,9 +155,9 @@ impl Core {
     fn done_item(&self, found: Found<'_>, who: &Who, outcome: &Outcome) -> Result<Transaction, Stop>
         requires { IsKnown self.now found.path found.known }
         ensures room { OnOk result (self.now.number < self.now.limit) }
-        ensures made { IfOk result (λ t. (settings : ListOf SettingOf) × (IsSmall found.entry.known.item.activity.now.output → outcome_by found.entry.known.item.activity.now.output outcome.now.rc outcome.now.settings ≡ Ok settings) × (t ≡ made.Done found.entry.path who.now settings)) }
+        ensures made { IfOk result (λ t. (settings : ListOf SettingOf) × (outcome_by found.entry.known.item.activity.now.output outcome.now.rc outcome.now.settings ≡ Ok settings) × (t ≡ made.Done found.entry.path who.now settings)) }
         ensures opened { OnOk result (IsOpen self.now found.entry.path) }
-        ensures stops { IsSmall found.entry.known.item.activity.now.output → StopsBy (first_of (first_of (completing_test who.now (subject_of found.entry.known) ∷ outcome_test outcome.now (subject_of found.entry.known) ∷ []) ∷ full_test self.now ∷ [])) result }
+        ensures stops { StopsBy (first_of (first_of (completing_test who.now (subject_of found.entry.known) ∷ outcome_test outcome.now (subject_of found.entry.known) ∷ []) ∷ full_test self.now ∷ [])) result }
     {
         let Found { path, known } = found;
         self.may_complete(&known, who)?;
@@ -187,9 +187,9 @@ impl Core {
     fn force_item(&self, found: Found<'_>, outcome: &Outcome) -> Result<Transaction, Stop>
         requires { IsKnown self.now found.path found.known }
         ensures room { OnOk result (self.now.number < self.now.limit) }
-        ensures made { IfOk result (λ t. (settings : ListOf SettingOf) × (IsSmall found.entry.known.item.activity.now.output → outcome_by found.entry.known.item.activity.now.output outcome.now.rc outcome.now.settings ≡ Ok settings) × (t ≡ made.Force found.entry.path settings)) }
+        ensures made { IfOk result (λ t. (settings : ListOf SettingOf) × (outcome_by found.entry.known.item.activity.now.output outcome.now.rc outcome.now.settings ≡ Ok settings) × (t ≡ made.Force found.entry.path settings)) }
         ensures opened { OnOk result (IsOpen self.now found.entry.path) }
-        ensures stops { IsSmall found.entry.known.item.activity.now.output → StopsBy (first_of (first_of (forcing_test (subject_of found.entry.known) ∷ outcome_test outcome.now (subject_of found.entry.known) ∷ []) ∷ full_test self.now ∷ [])) result }
+        ensures stops { StopsBy (first_of (first_of (forcing_test (subject_of found.entry.known) ∷ outcome_test outcome.now (subject_of found.entry.known) ∷ []) ∷ full_test self.now ∷ [])) result }
     {
         let Found { path, known } = found;
         self.may_force(&known)?;
@@ -202,7 +202,7 @@ impl Core {
         ensures room { OnOk result (self.now.number < self.now.limit) }
         ensures made { IfOk result (IsFor self.now (asked.Force token.now outcome.now)) }
         ensures allowed { IfOk result (IsAllowed self.now) }
-        ensures stops { IsInOrder self.now → StopsAs (IsFirstRefusal self.now (asked.Force token.now outcome.now)) result }
+        ensures stops { StopsAs (IsFirstRefusal self.now (asked.Force token.now outcome.now)) result }
     {
         let found = self.found(token)?;
         let item = self.needs_item(token, found)?;

@@ -1,6 +1,6 @@
 //! Items that a token or a path names, and the tests of commands on them.
 ghost use Rattle.std.specs.Prelude.{◌≡◌, None, Some, Err, option_copied, option_map, IfOk, IfSome, IfNone, OnOk};
-ghost use Rattle.flow_core.specs.Allowing.{known_entry, subject_of, IsKnown, IsOpen, IsRunning};
+ghost use Rattle.flow_core.specs.Allowing.{seen_entry, known_entry, subject_of, performer_for, IsKnown, IsOpen, IsRunning};
 ghost use Rattle.flow_core.specs.Refusals.{StopsBy, IsStop, is_active as active_mode, is_able as able, is_going, mode_test, staff_refusal, claim_test as claiming_test, release_test as releasing_test, transfer_test as transferring_test, taking_test, completing_test, forcing_test, restart_test, item_test, subject_in, IsFound};
 ghost use Rattle.flow_core.specs.declared.refusals.Refusal.TheVariants.{Item as NoItem};
 ghost use Rattle.flow_core.specs.Driving.{item_of, program_in};
@@ -49,10 +49,14 @@ pub struct Found<'a> {
 }
 
 /// The person whose DONE PERFORMER OF asks for.
-fn performer<'a>(item: Item<'a>, program: &Program) -> Option<&'a Name> {
+fn performer<'a>(item: Item<'a>, program: &Program) -> Option<&'a Name>
+    ensures { option_copied result ≡ performer_for (seen_entry item.entry) program.now }
+{
     match &program.by {
+        DoneBy::Role(_) => None,
+        DoneBy::Person(_) => None,
+        DoneBy::Starter => None,
         DoneBy::PerformerOf(place) => item.performer_of(*place),
-        _ => None,
     }
 }
 

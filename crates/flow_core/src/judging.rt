@@ -7,7 +7,7 @@ ghost use Rattle.containers.specs.Settings.{outcome_by};
 ghost use Rattle.flow_model.specs.declared.graphs.Graph.{out-Graph};
 ghost use Rattle.flow_core.specs.Allowing.{subject_of, mode_in, IsAllowed};
 ghost use Rattle.flow_core.specs.Answers.{instance_of};
-ghost use Rattle.flow_core.specs.Refusals.{first_of, full_test, number_test, person_of, person_test, newest_of, process_test, value_test, input_test, outcome_test, minutes_test, clock_test, queue_test, message_test, is_active, is_suspended, is_going, is_over, root_test, queued_test, IsSmall, IsInOrder, IsRuleOf, IsFirstRefusal, IsOrderFor, same_root as root_with_key, StopsBy, StopsAs, IsStop};
+ghost use Rattle.flow_core.specs.Refusals.{first_of, full_test, number_test, person_of, person_test, newest_of, process_test, value_test, input_test, outcome_test, minutes_test, clock_test, queue_test, message_test, is_active, is_suspended, is_going, is_over, root_test, queued_test, IsInOrder, IsRuleOf, IsFirstRefusal, IsOrderFor, same_root as root_with_key, StopsBy, StopsAs, IsStop};
 ghost use Rattle.flow_core.specs.declared.refusals.Refusal.TheVariants as refused;
 ghost use Rattle.flow_core.specs.Judgements.{IsVerdict};
 ghost use Rattle.flow_core.specs.Verdicts.{IsFor, IsFront, next_root};
@@ -91,8 +91,7 @@ impl Core {
 
     /// The newest template of a process.
     fn newest(&self, process: &Name) -> Option<&Template>
-        ensures newest { IsInOrder self.now → option_copied result ≡ newest_of self.now process.now }
-        ensures small { IsInOrder self.now → IfSome result (λ t. IsSmall (out-Graph t.now.graph).input) }
+        ensures { IsInOrder self.now → option_copied result ≡ newest_of self.now process.now }
     {
         self.store.template(self.store.newest(process)?)
     }
@@ -101,7 +100,6 @@ impl Core {
     fn needs_process(&self, process: &Name) -> Result<&Template, Stop>
         ensures stops { IsInOrder self.now → StopsBy (process_test self.now process.now) result }
         ensures newest { IsInOrder self.now → IfOk result (λ t. newest_of self.now process.now ≡ Some t.now) }
-        ensures small { IsInOrder self.now → IfOk result (λ t. IsSmall (out-Graph t.now.graph).input) }
     {
         match self.newest(process) {
             Some(template) => Ok(template),
@@ -116,8 +114,8 @@ impl Core {
         rc: Option<&NumberAt>,
         written: &[RawSetting],
     ) -> Result<List<Setting>, Stop>
-        ensures set { IsSmall leaves.now → IfOk result (λ settings. outcome_by leaves.now (option_copied rc.entry) written.now ≡ Ok settings) }
-        ensures stops { IsSmall leaves.now → StopsBy (value_test leaves.now (option_copied rc.entry) written.now) result }
+        ensures set { IfOk result (λ settings. outcome_by leaves.now (option_copied rc.entry) written.now ≡ Ok settings) }
+        ensures stops { StopsBy (value_test leaves.now (option_copied rc.entry) written.now) result }
     {
         match settings_of(self.alloc, leaves, rc, written)? {
             Ok(settings) => Ok(settings),
@@ -131,8 +129,8 @@ impl Core {
         known: &Known<'_>,
         outcome: &Outcome,
     ) -> Result<List<Setting>, Stop>
-        ensures set { IsSmall known.now.item.activity.now.output → IfOk result (λ settings. outcome_by known.now.item.activity.now.output outcome.now.rc outcome.now.settings ≡ Ok settings) }
-        ensures stops { IsSmall known.now.item.activity.now.output → StopsBy (outcome_test outcome.now (subject_of known.now)) result }
+        ensures set { IfOk result (λ settings. outcome_by known.now.item.activity.now.output outcome.now.rc outcome.now.settings ≡ Ok settings) }
+        ensures stops { StopsBy (outcome_test outcome.now (subject_of known.now)) result }
     {
         let leaves = &known.item.activity.output;
         self.needs_settings(leaves, outcome.rc.as_ref(), outcome.settings.as_slice())
@@ -181,9 +179,9 @@ impl Core {
         written: &[RawSetting],
     ) -> Result<Transaction, Stop>
         ensures room { OnOk result (self.now.number < self.now.limit) }
-        ensures made { IfOk result (λ t. (settings : ListOf SettingOf) × (IsSmall (out-Graph template.now.graph).input → outcome_by (out-Graph template.now.graph).input None written.now ≡ Ok settings) × (t ≡ made.Start (next_root self.now) process.now template.now.version starter.now (option_copied key.entry) settings)) }
+        ensures made { IfOk result (λ t. (settings : ListOf SettingOf) × (outcome_by (out-Graph template.now.graph).input None written.now ≡ Ok settings) × (t ≡ made.Start (next_root self.now) process.now template.now.version starter.now (option_copied key.entry) settings)) }
         ensures allowed { IfOk result (IsAllowed self.now) }
-        ensures stops { IsSmall (out-Graph template.now.graph).input → StopsBy (first_of (input_test written.now (Some template.now) ∷ full_test self.now ∷ number_test self.now ∷ [])) result }
+        ensures stops { StopsBy (first_of (input_test written.now (Some template.now) ∷ full_test self.now ∷ number_test self.now ∷ [])) result }
     {
         let settings = self.needs_settings(&template.graph.input, None, written)?;
         self.needs_room()?;

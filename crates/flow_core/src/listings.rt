@@ -3,16 +3,18 @@ ghost use Rattle.std.specs.Prelude.{◌≡◌, ◌≤◌, ◌++◌, length, OnOk
 ghost use Rattle.std.specs.List.{flat_map};
 ghost use Rattle.recover_queue.specs.Queues.{queue as messages_of};
 ghost use Rattle.flow_core.specs.Answers.{view_text, message_line, queue_text, template_line, templates_text, work_line, worklist_text, code_by as code_with, return_code as code_given, code_of as code_in, about, numbered_line, audit_text};
+ghost use Rattle.flow_core.specs.Containing.{output_text, input_text};
 
 use crate::applying::is_about;
 use crate::words::{end_line, numbered};
 use audit_trail::{audit, write_message};
 use flow_model::{
-    FateRow, Message, Mode, Name, Numbered, Setting, Template, Transaction, Value, WorkLine,
+    Container, FateRow, Leaves, Message, Mode, Name, Numbered, Path, Setting, Template,
+    Transaction, Value, WorkLine,
 };
 use flow_text::quoted_name;
 use recover_queue::Queues;
-use reply_text::{write_mode, write_quoted_path, write_row};
+use reply_text::{write_container, write_mode, write_quoted_path, write_row};
 use std::alloc::AllocError;
 
 /// Appends the reply that shows the view of a root.
@@ -106,6 +108,37 @@ fn put_work_lines(out: &mut Vec<u8>, lines: &[WorkLine]) -> Result<(), AllocErro
         put_work_line(out, line)?;
     }
     Ok(())
+}
+
+/// Appends the reply that shows the output of a root.
+pub fn write_output(
+    out: &mut Vec<u8>,
+    root: u64,
+    leaves: &Leaves,
+    output: &Container,
+) -> Result<(), AllocError>
+    ensures { OnOk result (out.new.items ≡ out.old.items ++ output_text root leaves.now output.now) }
+{
+    numbered(out, b"ok OUTPUT ", root)?;
+    numbered(out, b" ", output.values.len() as u64)?;
+    end_line(out)?;
+    write_container(out, leaves, output)
+}
+
+/// Appends the reply that shows the input of an item.
+pub fn write_input(
+    out: &mut Vec<u8>,
+    item: &Path,
+    leaves: &Leaves,
+    input: &Container,
+) -> Result<(), AllocError>
+    ensures { OnOk result (out.new.items ≡ out.old.items ++ input_text item.now leaves.now input.now) }
+{
+    out.extend_from_slice(b"ok INPUT ")?;
+    write_quoted_path(out, item)?;
+    numbered(out, b" ", input.values.len() as u64)?;
+    end_line(out)?;
+    write_container(out, leaves, input)
 }
 
 /// Appends the reply that shows a worklist.

@@ -1,9 +1,18 @@
 //! What the state shows to those who read it: the fates of a root, and what they follow from.
-use crate::applying::transaction_root;
+ghost use Rattle.std.specs.Prelude.{◌≡◌, None, IfOk, IfSome, IfNone};
+ghost use Rattle.containers.specs.Settings.{filled};
+ghost use Rattle.flow_model.specs.Containers.{fresh as fresh_of};
+ghost use Rattle.flow_model.specs.declared.graphs.Graph.{out-Graph};
+ghost use Rattle.flow_core.specs.Driving.{item_of, graph_now};
+ghost use Rattle.flow_core.specs.Facts.{fact_by, fact_of as fact_in, fact_about as fact_told, accepted, settings_in, start_settings as settings_of_start, AreFactsOf};
+
+use crate::applying::{is_about, started_root};
 use crate::paths::same_path;
 use crate::state::Core;
 use containers::{fresh, with_settings};
-use flow_model::{Container, Fact, Fate, FateRow, List, Name, Path, Setting, Transaction};
+use flow_model::{
+    Container, Fact, Fate, FateRow, Graph, List, Name, Numbered, Path, Setting, Transaction,
+};
 use std::alloc::{AllocError, Global};
 
 /// What the fates of a root follow from: its template, its input, and its accepted completions in order.
@@ -18,6 +27,16 @@ pub struct RootFacts {
 /// Whether a root has begun, by the rows of its view: an activity without connectors waits no longer then.
 fn has_begun(rows: &[FateRow]) -> bool {
     rows.iter().any(|row| row.scope.parts.is_empty() && row.fate != Fate::Waiting)
+}
+
+/// The settings of a START; none of another transaction.
+fn started_with(t: &Transaction) -> &[Setting]
+    ensures { result.now ≡ settings_in t.now }
+{
+    match t {
+        Transaction::Start(_, _, _, _, _, settings) => settings.as_slice(),
+        _ => &[],
+    }
 }
 
 impl Core {
@@ -58,13 +77,15 @@ impl Core {
         Some(self.instance(root)?.template)
     }
 
-    /// The accepted completion of an item with these settings.
+    /// The accepted completion of an item with these settings, if it is there.
     fn fact(
         &self,
         alloc: Global,
         item: &Path,
         settings: &[Setting],
-    ) -> Result<Option<Fact>, AllocError> {
+    ) -> Result<Option<Fact>, AllocError>
+        ensures { IfOk result (λ f. f ≡ fact_by item.now settings.now (item_of self.now item.now)) }
+    {
         let Some(known) = self.known(item) else {
             return Ok(None);
         };
@@ -76,49 +97,92 @@ impl Core {
     }
 
     /// The accepted completion that a transaction is.
-    fn fact_of(&self, alloc: Global, t: &Transaction) -> Result<Option<Fact>, AllocError> {
+    fn fact_of(&self, alloc: Global, t: &Transaction) -> Result<Option<Fact>, AllocError>
+        ensures { IfOk result (λ f. f ≡ fact_in self.now t.now) }
+    {
         match t {
             Transaction::Done(item, _, settings) => self.fact(alloc, item, settings.as_slice()),
             Transaction::Force(item, settings) => self.fact(alloc, item, settings.as_slice()),
-            _ => Ok(None),
+            Transaction::Import(_) => Ok(None),
+            Transaction::Start(_, _, _, _, _, _) => Ok(None),
+            Transaction::Turn(_, _) => Ok(None),
+            Transaction::Claim(_, _) => Ok(None),
+            Transaction::Release(_, _) => Ok(None),
+            Transaction::Transfer(_, _, _) => Ok(None),
+            Transaction::Take(_, _) => Ok(None),
+            Transaction::Restart(_) => Ok(None),
+            Transaction::Suspend(_) => Ok(None),
+            Transaction::Resume(_) => Ok(None),
+            Transaction::Terminate(_) => Ok(None),
+            Transaction::Delete(_) => Ok(None),
+            Transaction::Clock(_) => Ok(None),
+        }
+    }
+
+    /// The accepted completion that a live transaction is, if it is about this root.
+    fn fact_about(
+        &self,
+        alloc: Global,
+        root: u64,
+        entry: &Numbered,
+    ) -> Result<Option<Fact>, AllocError>
+        ensures { IfOk result (λ f. f ≡ fact_told self.now root entry.now) }
+    {
+        if is_about(root, entry) {
+            self.fact_of(alloc, &entry.transaction)
+        } else {
+            Ok(None)
         }
     }
 
     /// The accepted completions of a root, in order.
-    fn facts(&self, alloc: Global, root: u64) -> Result<List<Fact>, AllocError> {
+    fn facts(&self, alloc: Global, root: u64) -> Result<List<Fact>, AllocError>
+        ensures { IfOk result (λ facts. facts ≡ accepted self.now root) }
+    {
         let mut facts = List::new(alloc);
         for entry in self.live() {
-            if transaction_root(&entry.transaction) == Some(root) {
-                if let Some(fact) = self.fact_of(alloc, &entry.transaction)? {
-                    facts.push(fact)?;
-                }
+            if let Some(fact) = self.fact_about(alloc, root, entry)? {
+                facts.push(fact)?;
             }
         }
         Ok(facts)
     }
 
     /// The settings with which a root was started.
-    fn start_settings(&self, root: u64) -> &[Setting] {
+    fn start_settings(&self, root: u64) -> &[Setting]
+        ensures { result.now ≡ settings_of_start root self.now.live.items }
+    {
         for entry in self.live() {
-            if let Transaction::Start(number, _, _, _, _, settings) = &entry.transaction {
-                if *number == root {
-                    return settings.as_slice();
-                }
+            if started_root(&entry.transaction) == Some(root) {
+                return started_with(&entry.transaction);
             }
         }
         &[]
     }
 
+    /// The input with which a root was started.
+    fn start_input(&self, alloc: Global, root: u64, graph: &Graph) -> Result<Container, AllocError>
+        ensures { IfOk result (λ input. input ≡ filled (settings_of_start root self.now.live.items) (fresh_of (out-Graph graph.now).input)) }
+    {
+        let input = fresh(alloc, &graph.input)?;
+        with_settings(alloc, input, self.start_settings(root))
+    }
+
     /// What the fates of a root follow from; None exactly where there is no live root of that number.
-    pub fn root_facts(&self, alloc: Global, root: u64) -> Result<Option<RootFacts>, AllocError> {
-        let (Some(instance), Some(graph)) = (self.instance(root), self.root_graph(root)) else {
+    pub fn root_facts(&self, alloc: Global, root: u64) -> Result<Option<RootFacts>, AllocError>
+        ensures facts { IfOk result (λ found. IfSome found (AreFactsOf self.now root)) }
+        ensures none { IfOk result (λ found. IfNone found (graph_now self.now root ≡ None)) }
+    {
+        let Some(instance) = self.instance(root) else {
             return Ok(None);
         };
-        let input = fresh(alloc, &graph.input)?;
+        let Some(graph) = self.root_graph(root) else {
+            return Ok(None);
+        };
         Ok(Some(RootFacts {
             root,
             template: instance.template,
-            input: with_settings(alloc, input, self.start_settings(root))?,
+            input: self.start_input(alloc, root, graph)?,
             facts: self.facts(alloc, root)?,
         }))
     }

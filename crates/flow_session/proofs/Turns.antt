@@ -1,17 +1,23 @@
 -- A DRAIN, which takes messages from the queues in turn.
-use Rattle.std.proofs.Common.{◌≡◌, ◌⊎◌, inl, inr, subst, Result, Ok, Err, IfOk, Some, None, Option, ℕ, zero, suc, ◌+◌, ◌-◌, ◌^◌, ◌<◌, ◌≤◌, ◌==◌, min, Bool, true, false, List, [], ◌∷◌, length, refl, sym, ap, ◌∙◌, arith, true≢false}
+use Rattle.std.proofs.Common.{◌≡◌, ◌⊎◌, inl, inr, subst, Result, Ok, Err, IfOk, OnOk, Some, None, Option, ℕ, zero, suc, ◌+◌, ◌-◌, ◌^◌, ◌<◌, ◌≤◌, ◌==◌, min, Bool, true, false, List, [], ◌∷◌, length, refl, sym, ap, ◌∙◌, arith, true≢false}
 use Rattle.std.specs.Prelude.{◌&&◌, nat_le, nat_lt, if◌then◌else◌, is_some, slice_get, slice_index_or}
 use Rattle.std.specs.Global.{Vec}
 use Rattle.std.specs.List.{list_all}
 use Rattle.std.proofs.lemmas.Bool.{and_parts, leb-true}
 use Rattle.std.proofs.lemmas.Bool.Decides.{leb_tells}
+use Rattle.flow_model.specs.declared.commands.Command.TheVariants.{Turn as TurnCommand}
 use Rattle.flow_model.specs.declared.instances.Message.{Message}
+use Rattle.flow_model.specs.declared.transactions.Transaction.{Transaction}
 use Rattle.recover_queue.specs.Queues.{queue, is_quiet}
 use Rattle.flow_core.specs.Answers.{has_message}
 use Rattle.flow_core.specs.Refusals.{first_of, queue_test, message_test, full_test}
 use Rattle.flow_core.specs.declared.refusals.Refusal.{Refusal}
 use Rattle.flow_core.specs.declared.state.Core.{Core}
-use Rattle.flow_core.specs.Summaries.{Summary}
+use Rattle.flow_core.specs.Driving.{Drives}
+use Rattle.flow_core.specs.Summaries.{Summary, summary, next}
+use Rattle.flow_core.specs.Judgements.{IsVerdict}
+use Rattle.flow_core.specs.declared.judging.Verdict.{Verdict}
+use Rattle.flow_core.specs.declared.judging.Verdict.TheVariants.{Do}
 use Rattle.flow_session.specs.Draining.{IsNextQueue, TakesFront, TakesInTurn, NoTurn, OneTurn, IsDrained, queues_before, queue_behind, turns_text, full_text}
 
 -- ---- which queue is next
@@ -134,6 +140,18 @@ behind_some count q = go (leb_tells (suc q) count)
     go : ((nat_le (suc q) count ≡ true) × (suc q ≤ count)) ⊎ ((nat_le (suc q) count ≡ false) × (count < suc q)) → 1 ≤ (if nat_lt q count then q + 1 else 1)
     go (inl is) = rw is.0 (omega arith)
     go (inr is) = rw is.0 (omega arith)
+
+-- the transaction to which a TURN is judged, where it is made, takes the front of its queue
+pub takes_front : {T E : Type 0} (r : Result T E) (old new : Core) (q : ℕ) (v : Verdict) (t : Transaction) → IsVerdict old (TurnCommand q) v → v ≡ Do t → OnOk r (Drives old t new) → OnOk r (summary new ≡ next t (summary old)) → OnOk r (TakesFront old new q)
+takes_front (Ok done) old new q v t verdict is drives came =
+    let made = (subst (IsVerdict old (TurnCommand q)) is verdict).1 in
+    record {
+      message = made.0;
+      front = made.1;
+      drives = subst (λ u. Drives old u new) made.2 drives;
+      came = subst (λ u. summary new ≡ next u (summary old)) made.2 came;
+    }
+takes_front (Err e) old new q v t verdict is drives came = tt
 
 -- a turn leaves one less up to the limit
 pub one_less : (old new : Core) (q : ℕ) → TakesFront old new q → (new.number ≡ old.number + 1) × (new.limit ≡ old.limit)

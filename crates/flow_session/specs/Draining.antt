@@ -5,6 +5,7 @@ use Rattle.recover_queue.specs.Queues.{is_quiet}
 use Rattle.flow_model.specs.declared.instances.Message.{Message}
 use Rattle.flow_model.specs.declared.transactions.Transaction.TheVariants.{Turn}
 use Rattle.flow_core.specs.Answers.{has_message}
+use Rattle.flow_core.specs.Driving.{Drives}
 use Rattle.flow_core.specs.Summaries.{summary, next}
 use Rattle.flow_core.specs.Verdicts.{IsFront}
 use Rattle.flow_core.specs.declared.state.Core.{Core}
@@ -26,6 +27,7 @@ queue_behind count queue = if nat_lt queue count then queue + 1 else 1
 pub record TakesFront (old new : Core) (queue : ℕ) : Type 0 where
   pub message : Message
   pub front : IsFront old queue message
+  pub drives : Drives old (Turn queue message) new
   pub came : summary new ≡ next (Turn queue message) (summary old)
 
 -- so many messages are taken, one after another; then the turn is at this queue

@@ -6,7 +6,7 @@ use Rattle.command_lang.specs.Refusing.{SomeCommand}
 use Rattle.command_lang.specs.declared.reading.CommandFault.TheVariants.{Word}
 use Rattle.flow_model.specs.declared.commands.Command.{Command}
 use Rattle.flow_model.specs.declared.commands.Command.TheVariants.{Import, Drain, Checkpoint, Ask}
-use Rattle.flow_core.specs.Answers.{IsAnswer}
+use Rattle.flow_core.specs.Queries.{IsAnswer}
 use Rattle.flow_core.specs.declared.state.Core.{Core}
 use Rattle.flow_session.specs.Draining.{IsDrained}
 use Rattle.flow_session.specs.Replying.{IsObeyed, checkpoint_text}

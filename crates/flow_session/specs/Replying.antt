@@ -10,18 +10,20 @@ use Rattle.flow_core.specs.declared.applying.Note.{Note}
 use Rattle.flow_core.specs.declared.judging.Verdict.TheVariants.{Do, Same, Refused}
 use Rattle.flow_core.specs.declared.refusals.Refusal.{Refusal}
 use Rattle.flow_core.specs.declared.state.Core.{Core}
+use Rattle.flow_core.specs.Driving.{Drives}
 use Rattle.flow_core.specs.Judgements.{IsVerdict}
 use Rattle.flow_core.specs.Replies.{applied_text, refusal_text}
 use Rattle.flow_core.specs.Summaries.{summary, next}
 use Rattle.flow_core.specs.Verdicts.{IsFor, IsNoteOf}
 use Rattle.flow_session.specs.Histories.{after}
 
--- a command makes the transaction to which it is judged, and the reply has its number and what came of it
+-- a command makes the transaction to which it is judged, which drives the state, and the reply has its number and what came of it
 pub record IsMade (old new : Core) (command : Command) (reply : List ℕ) : Type 0 where
   pub transaction : Transaction
   pub note : Note
   pub judged : IsVerdict old command (Do transaction)
-  pub noted : IsNoteOf old transaction note
+  pub drives : Drives old transaction new
+  pub noted : IsNoteOf old transaction new note
   pub came : summary new ≡ next transaction (summary old)
   pub told : reply ≡ applied_text (record { number = old.number + 1; note = note })
 

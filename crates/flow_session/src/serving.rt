@@ -7,8 +7,9 @@ ghost use Rattle.core_laws.specs.RightStates.{IsRightCore};
 ghost use Rattle.flow_core.specs.Allowing.{IsAllowed};
 ghost use Rattle.flow_core.specs.Replies.{applied_text, refusal_text};
 ghost use Rattle.flow_core.specs.Summaries.{summary, next};
+ghost use Rattle.flow_core.specs.Driving.{Drives};
 ghost use Rattle.flow_core.specs.Verdicts.{IsNoteOf};
-ghost use Rattle.flow_core.specs.Answers.{IsAnswer};
+ghost use Rattle.flow_core.specs.Queries.{IsAnswer};
 ghost use Rattle.flow_session.specs.Inputs.{given, unended_in, no_lines, is_end, with_line, unended, long_text, Answers, IsCommanded, ServesLine, ServesText, ServesInside, IsServed};
 ghost use Rattle.flow_session.specs.Replying.{IsObeyed, checkpoint_text};
 ghost use Rattle.flow_session.specs.Serving.{Makes, WithOrWithout};
@@ -170,7 +171,8 @@ impl Session {
         ensures made { OnOk result (summary self.new.core ≡ next t (summary self.old.core)) }
         ensures right { IsRightCore self.old.core → OnOk result (IsRightCore self.new.core) }
         ensures gathers { OnOk result (self.new.gathered ≡ self.old.gathered) }
-        ensures told { OnOk result ((note : NoteOf) × IsNoteOf self.old.core t note
+        ensures drives { OnOk result (Drives self.old.core t self.new.core) }
+        ensures told { OnOk result ((note : NoteOf) × IsNoteOf self.old.core t self.new.core note
             × (out.new.items ≡ out.old.items ++ applied_text (record { number = self.old.core.number + 1; note = note }))) }
         ensures kept { J.tells → OnOk result (J.holds journal.new (summary self.new.core)) }
         ensures any_moment { J.tells → LeavesOnly J.moment J.left_since journal.old journal.new (WithOrWithout t (summary self.old.core)) }

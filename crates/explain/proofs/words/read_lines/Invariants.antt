@@ -1,6 +1,7 @@
-use Rattle.std.proofs.Common.{◌≤◌, vec_len}
+use Rattle.std.proofs.Common.{◌≡◌, map, take, vec_len}
+use Rattle.certificates.specs.Lines.{line_text}
 use Rattle.explain.proofs.words.read_lines.Given as goal
 
--- each line so far gave at most one
+-- each line so far gave one, by its bytes
 abbrev pub invariant-loop-bytes : goal.invariant-loop-bytes
-invariant-loop-bytes l = vec_len l.read ≤ l.bytes-index
+invariant-loop-bytes l = (map line_text l.read.items ≡ map (λ line. line.0.items) (take l.bytes-index l.lines)) × (vec_len l.read ≡ l.bytes-index)

@@ -1,6 +1,8 @@
-use Rattle.std.proofs.Common.{subst}
+use Rattle.std.proofs.Common.{ℕ, refl, ap, subst, ◌∙◌}
 use Rattle.flow_core.specs.Driving.{Drives}
+use Rattle.flow_core.specs.Summaries.{Summary, roots_after}
 use Rattle.flow_core.specs.declared.state.Core.{Core}
+use Rattle.flow_core.proofs.Counting.{counts_taken}
 use Rattle.flow_core.proofs.Moved.{drives_earlier, front_of, front_within}
 use Rattle.flow_core.proofs.state.Core.adopt.Goals as goal
 
@@ -12,3 +14,13 @@ returns-clause-drives c =
     let front = front_of before c.args.t (c.in_ok-allows.ensures c.if-not-branch.false) in
     drives_earlier before counted after c.args.t
     (subst (λ (k : Core). Drives k c.args.t after) c.count.ensures.rest (c.in_ok-apply_as.ensures.drives (front_within before counted c.args.t c.count.ensures.rest front)))
+
+pub returns-clause-counts : goal.returns-clause-counts
+returns-clause-counts c =
+    let before = c.args.self.now in
+    let taken = c.in_ok-apply_as.ensures.applied in
+    counts_taken before c.apply_as.new.self c.args.number c.args.t (ap (λ (n : ℕ × ℕ × Summary). n.0) taken ∙ c.count.ensures.kept)
+    (ap (λ (n : ℕ × ℕ × Summary). n.2.roots) taken ∙ ap (λ (s : Summary). roots_after c.args.t s.roots) c.count.ensures.counted)
+    (ap (λ (n : ℕ × ℕ × Summary). n.2.transactions) taken ∙ ap (λ (s : Summary). s.transactions) c.count.ensures.counted)
+    (ap (λ (n : ℕ × ℕ × Summary). n.1) taken ∙ c.count.ensures.kept_root)
+    (c.if-not-allows_place.ensures.follows refl) (c.if-not-allows_place.ensures.free refl)

@@ -1,7 +1,7 @@
 use Rattle.std.proofs.Common.{[], ◌∷◌}
 use Rattle.std.proofs.lemmas.Result.{err_from_is_err_and}
 use Rattle.flow_core.specs.Refusals.{first_of, who_test, completing_test, outcome_test}
-use Rattle.flow_core.proofs.Refusing.{as_item, at_item, people_stop, small_there, done_for, done_allowed}
+use Rattle.flow_core.proofs.Refusing.{as_item, at_item, people_stop, done_for, done_allowed}
 use Rattle.flow_core.proofs.state.Core.judge_done.Goals as goal
 
 pub returns-in_err-needs_who-clause-stops : goal.returns-in_err-needs_who-clause-stops
@@ -23,4 +23,4 @@ returns-clause-stops c = λ order.
     let at = c.args.self.now in
     as_item at (who_test at c.args.who.now) c.args.token.now (λ s. first_of (completing_test c.args.who.now s ∷ outcome_test c.args.outcome.now s ∷ [])) c.in_ok-found.found c.done_item.result c.in_ok-found.ensures
     (at_item at (who_test at c.args.who.now) c.args.token.now (λ s. first_of (completing_test c.args.who.now s ∷ outcome_test c.args.outcome.now s ∷ [])) c.in_ok-found.found c.in_ok-item.item c.done_item.result (c.in_ok-needs_who.ensures order) c.in_ok-item.ensures.there
-    (c.done_item.ensures.stops (small_there at c.args.token.now c.in_ok-found.found c.in_ok-item.item c.in_ok-found.ensures c.in_ok-item.ensures.there order)))
+    c.done_item.ensures.stops)

@@ -10,5 +10,6 @@ returns-clause-blank c = record {
   roots = λ root. search rules;
   queues = ap is_quiet c.in_ok-new.ensures ∙ none_quiet c.args.queues;
   library = ap (λ (l : Library). l.templates) c.new-2.ensures.empty;
+  indexed = c.new-2.ensures.indexed;
   live = c.new-6.ensures.items;
 }

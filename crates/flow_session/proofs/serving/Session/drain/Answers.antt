@@ -1,4 +1,4 @@
-use Rattle.std.proofs.Common.{◌∙◌, refl, arith, rules}
+use Rattle.std.proofs.Common.{◌∙◌, refl, arith, rules, length}
 use Rattle.flow_core.specs.Summaries.{summary}
 use Rattle.flow_session.proofs.Calls.{makes_nothing, makes_more, makes_last}
 use Rattle.flow_session.proofs.Rights.{whatever}
@@ -20,7 +20,7 @@ loop-self-preserved g c = record {
   open' = c.in_ok-turn.ensures.kept;
   makes = makes_more g.J.Journal.tells g.J.Journal.moment g.J.Journal.left_since c.args.journal.now c.loop-self.journal c.turn.new.journal (summary c.args.self.now.core) (summary c.loop-self.self.core) _ c.loop-self.invariant.makes c.in_ok-turn.ensures.makes;
   taken = rw c.behind-queue.ensures (taken_more c.args.self.now.core c.loop-self.self.core c.turn.new.self.core c.loop-self.turns c.saturating_add-turns.result c.loop-self.queue c.in-Some.next c.loop-self.invariant.taken c.in-Some.ensures.some c.in_ok-turn.ensures.turned (search rules));
-  some = search rules;
+  some = rw c.behind-queue.ensures (behind_some (length c.loop-self.self.core.queues) c.in-Some.next);
   right = λ right. c.in_ok-turn.ensures.right (c.loop-self.invariant.right right);
   text = c.in_ok-turn.ensures.gathers ∙ c.loop-self.invariant.text;
 }

@@ -16,6 +16,9 @@ returns-clause-any_moment g c told =
     let spelled = c.deref.ensures.value ∙ c.in_ok-payload.ensures told ∙ ap (λ n. record_bytes n c.args.t) c.next_number.ensures in
     c.keep.ensures.any_moment (summary c.args.self.now.core) c.args.t told (c.requires.open told) spelled
 
+pub returns-clause-drives : goal.returns-clause-drives
+returns-clause-drives g c = whatever c.keep.result (c.in_ok-applied.ensures.drives (front_of c.args.self.now.core c.args.t c.requires.allowed.asked))
+
 pub returns-clause-right : goal.returns-clause-right
 returns-clause-right g c = λ was. whatever c.keep.result (core_right c.args.self.now.core c.apply.new.self c.args.t (record {
   allowed = c.requires.allowed;

@@ -1,6 +1,7 @@
 use Rattle.std.proofs.Common.{rules}
 use Rattle.flow_core.specs.Summaries.{summary}
 use Rattle.flow_session.proofs.Calls.{makes_one, makes_nothing}
+use Rattle.flow_session.proofs.Turns.{takes_front}
 use Rattle.flow_session.proofs.serving.Session.turn.Goals as goal
 
 pub returns-in-Ok-Do-clause-makes : goal.returns-in-Ok-Do-clause-makes
@@ -8,3 +9,6 @@ returns-in-Ok-Do-clause-makes g c = makes_one g.J.Journal.tells g.J.Journal.mome
 
 pub returns-clause-makes : goal.returns-clause-makes
 returns-clause-makes g c = makes_nothing g.J.Journal.tells g.J.Journal.moment g.J.Journal.left_since g.J.Journal.holds g.met.J.Journal.at_rest c.args.journal.now (summary c.args.self.now.core) _ c.requires.open (search rules)
+
+pub returns-in-Ok-Do-clause-turned : goal.returns-in-Ok-Do-clause-turned
+returns-in-Ok-Do-clause-turned g c = takes_front c.make.result c.args.self.now.core c.make.new.self.core c.args.queue _ c.in-Ok-Do.t c.in-Ok-Do.ensures (search rules) c.make.ensures.drives c.make.ensures.made

@@ -1,0 +1,11 @@
+use Rattle.std.proofs.Common.{◌+◌}
+use Rattle.flow_core.proofs.Counting.{counts_next}
+use Rattle.flow_core.proofs.Moved.{drives_numbered}
+use Rattle.flow_core.proofs.state.Core.apply.Goals as goal
+
+pub returns-clause-drives : goal.returns-clause-drives
+returns-clause-drives c = λ front.
+    drives_numbered c.apply_as.result c.args.self.now (c.args.self.now.number + 1) c.apply_as.new.self c.args.t (c.apply_as.ensures.drives front)
+
+pub returns-clause-counts : goal.returns-clause-counts
+returns-clause-counts c = counts_next c.apply_as.result c.args.self.now c.apply_as.new.self c.args.t c.apply_as.ensures.applied

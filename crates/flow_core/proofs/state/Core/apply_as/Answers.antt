@@ -1,0 +1,9 @@
+use Rattle.flow_core.proofs.Moved.{drives_around, front_counted}
+use Rattle.flow_core.proofs.state.Core.apply_as.Goals as goal
+
+pub returns-clause-drives : goal.returns-clause-drives
+returns-clause-drives c = λ front.
+    let before = c.args.self.now in
+    let counted = c.count_root.new.self in
+    drives_around before counted c.change_by.new.self c.keep.new.self c.args.t c.count_root.ensures.rest c.in_ok-keep.ensures.rest
+    (c.in_ok-note.ensures.drives (front_counted before counted c.args.t c.count_root.ensures.rest front))

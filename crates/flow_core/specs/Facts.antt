@@ -1,0 +1,70 @@
+-- What the fates of a live root follow from, as the live transactions say it: its template, its input and its accepted completions.
+use Rattle.std.specs.Prelude.{◌≡◌, ℕ, if◌then◌else◌, Option, Some, None, List, [], ◌∷◌}
+use Rattle.std.specs.List.{filter_map}
+use Rattle.containers.specs.Settings.{filled}
+use Rattle.flow_model.specs.Containers.{fresh}
+use Rattle.flow_model.specs.declared.graphs.Graph.{Graph, out-Graph}
+use Rattle.flow_model.specs.declared.instances.Fact.{Fact}
+use Rattle.flow_model.specs.declared.instances.Path.{Path}
+use Rattle.flow_model.specs.declared.transactions.Numbered.{Numbered}
+use Rattle.flow_model.specs.declared.transactions.Setting.{Setting}
+use Rattle.flow_model.specs.declared.transactions.Transaction.{Transaction}
+use Rattle.flow_model.specs.declared.transactions.Transaction.TheVariants.{Import, Start, Turn, Claim, Release, Transfer, Take, Done, Force, Restart, Suspend, Resume, Terminate, Delete, Clock}
+use Rattle.navigator.specs.Items.{Entry}
+use Rattle.navigator.specs.declared.instance.Instance.{Instance}
+use Rattle.flow_core.specs.Answers.{instance_of}
+use Rattle.flow_core.specs.Driving.{item_of, graph_now}
+use Rattle.flow_core.specs.Summaries.{root_about, is_root, started}
+use Rattle.flow_core.specs.declared.state.Core.{Core}
+use Rattle.flow_core.specs.declared.views.RootFacts.{RootFacts}
+
+-- the completion of an item with these settings, where it is there
+abbrev pub fact_by : Path → List Setting → Option Entry → Option Fact
+fact_by item settings None = None
+fact_by item settings (Some e) = Some (record { item = item; output = filled settings (fresh e.activity.output) })
+
+-- the completion that a transaction is
+abbrev pub fact_of : Core → Transaction → Option Fact
+fact_of c (Import text) = None
+fact_of c (Start root process version starter key settings) = None
+fact_of c (Turn queue message) = None
+fact_of c (Claim item who) = None
+fact_of c (Release item who) = None
+fact_of c (Transfer item who to) = None
+fact_of c (Take item take) = None
+fact_of c (Done item who settings) = fact_by item settings (item_of c item)
+fact_of c (Force item settings) = fact_by item settings (item_of c item)
+fact_of c (Restart item) = None
+fact_of c (Suspend root) = None
+fact_of c (Resume root) = None
+fact_of c (Terminate root) = None
+fact_of c (Delete root) = None
+fact_of c (Clock minutes) = None
+
+-- the same, where it is about this root
+abbrev pub fact_about : Core → ℕ → Numbered → Option Fact
+fact_about c root n = if is_root root (root_about n.transaction) then fact_of c n.transaction else None
+
+-- the accepted completions of a root, in order
+abbrev pub accepted : Core → ℕ → List Fact
+accepted c root = filter_map (fact_about c root) c.live.items
+
+abbrev pub settings_in : Transaction → List Setting
+settings_in (Start root process version starter key settings) = settings
+settings_in t = []
+
+-- the settings of the first Start of a root
+abbrev pub start_settings : ℕ → List Numbered → List Setting
+start_settings root [] = []
+start_settings root (n ∷ ns) = if is_root root (started n.transaction) then settings_in n.transaction else start_settings root ns
+
+-- these are what the fates of a root follow from
+pub record AreFactsOf (c : Core) (root : ℕ) (f : RootFacts) : Type 0 where
+  pub number : f.root ≡ root
+  pub instance : Instance
+  pub live : instance_of c root ≡ Some instance
+  pub template : f.template ≡ instance.template
+  pub graph : Graph
+  pub process : graph_now c root ≡ Some graph
+  pub input : f.input ≡ filled (start_settings root c.live.items) (fresh (out-Graph graph).input)
+  pub facts : f.facts ≡ accepted c root
