@@ -4,3 +4,4 @@ pub mod Printing
 pub mod Unknown
 pub mod Serving
 pub mod Tries
+pub mod Verdicts

@@ -1,6 +1,5 @@
 -- A script that is served input by input: what stands after each, and how the run ends.
-use Rattle.std.proofs.Common.{◌≡◌, ◌≢◌, ◌⊎◌, inl, inr, ℕ, ◌+◌, ◌≤◌, Option, Some, None, IfSome, IfErr, OnOk, Result, Ok, Err, true, false, ◌==◌, List, [], ◌∷◌, ◌++◌, map, length, take, refl, sym, ap, subst, ◌∙◌, append_assoc, append-nil, eqb-true, arith}
-use Rattle.std.specs.List.{flat_map}
+use Rattle.std.proofs.Common.{◌≡◌, ◌≢◌, inl, inr, ℕ, ◌+◌, Option, Some, None, IfErr, OnOk, Result, Ok, Err, true, ◌==◌, List, [], ◌∷◌, ◌++◌, map, length, take, refl, sym, ap, subst, ◌∙◌, append_assoc, append-nil, eqb-true, arith}
 use Rattle.std.specs.Io.KnownBytes.{Appends, Keeps}
 use Rattle.std.proofs.lemmas.List.{length-append}
 use Rattle.std.proofs.lemmas.Grind.{flat_map-append}
@@ -9,14 +8,12 @@ use Rattle.flow_disk.specs.Images.{Image}
 use Rattle.flow_io.specs.Inputs.{Input as LineInput}
 use Rattle.flow_io.specs.Reading.{Reading}
 use Rattle.flow_io.specs.Serving.{unserved, ServesInputs}
-use Rattle.flow_io.specs.declared.lines.IoStop.{IoStop}
 use Rattle.flow_io.specs.declared.lines.Line.{Line}
 use Rattle.flow_io.specs.declared.lines.Line.TheVariants.{Text, TooLong, Ended}
 use Rattle.flow_io.proofs.Known.{Appends-joined}
 use Rattle.flow_core.specs.Summaries.{Summary, summary}
 use Rattle.flow_session.specs.Histories.{StandsFor}
 use Rattle.flow_session.specs.Scripts.{ServesOne, ServesAll, NoInput, OneMore}
-use Rattle.flow_session.specs.Serving.{Makes}
 use Rattle.flow_session.specs.Inputs.{Given}
 use Rattle.flow_session.specs.declared.serving.Session.{Session}
 use Rattle.flow_session.proofs.Calls.{makes_nothing}

@@ -5,7 +5,7 @@ use Rattle.flow_disk.specs.Moments.{LeavesOnly}
 use Rattle.txn_log.specs.Opening.{MayBeMade}
 use Rattle.flow_core.specs.Summaries.{Summary}
 use Rattle.flow_session.specs.Histories.{StandsFor}
-use Rattle.flow_session.specs.Runs.{KeepsStore, KeepsOrServes}
+use Rattle.flow_session.specs.Runs.{KeepsOrServes}
 use Rattle.flow_words.specs.declared.status.Status.{Status}
 use Rattle.flow_words.specs.declared.status.Status.TheVariants.{Done}
 

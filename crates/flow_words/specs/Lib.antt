@@ -3,3 +3,4 @@ pub mod Crashes
 pub mod Printed
 pub mod Numbers
 pub mod Scripts
+pub mod Looking

@@ -3,6 +3,9 @@ ghost use Rattle.std.specs.Prelude.{◌≡◌, true, false, IfErr, MatchResult, 
 ghost use Rattle.flow_disk.specs.Moments.{Only};
 ghost use Rattle.flow_session.specs.Runs.{KeepsStore};
 ghost use Rattle.flow_words.specs.Crashes.{IsFailing};
+ghost use Rattle.flow_words.specs.Looking.{PrintsOverdue, PrintsVerdict, PrintsVerified};
+ghost use Rattle.flow_words.specs.Printed.{Prints};
+ghost use Rattle.flow_words.specs.Scripts.{status_of_word};
 ghost use Rattle.flow_words.specs.declared.status.Status.TheVariants.{Done as DoneStatus, Refused as RefusedStatus};
 
 use crate::script::{line_status, print};
@@ -19,7 +22,8 @@ use text_words::all_lines;
 
 /// Prints an answer, and says whether it is a refusal.
 pub fn print_answer<K: Sink>(out: &mut K, text: &[u8], is_refused: bool) -> Result<Status, Status>
-    ensures { MatchResult result (λ status. status ≡ (if is_refused then RefusedStatus else DoneStatus)) IsFailing }
+    ensures ended { MatchResult result (λ status. status ≡ (if is_refused then RefusedStatus else DoneStatus)) IsFailing }
+    ensures prints { Prints text.now (if is_refused then RefusedStatus else DoneStatus) (K.held out.old) (K.held out.new) (status_of_word result) }
 {
     print(out, text)?;
     Ok(if is_refused {
@@ -62,7 +66,9 @@ fn verify_over<S: Source, K: Sink>(
     core: &Core,
     src: &mut S,
     out: &mut K,
-) -> Result<Status, Status> {
+) -> Result<Status, Status>
+    ensures { PrintsVerdict (S.left src.old) (K.held out.old) (K.held out.new) (status_of_word result) core.now }
+{
     match all_lines(alloc, src) {
         Err(stop) => Err(line_status(stop)),
         Ok(lines) => {
@@ -79,7 +85,8 @@ pub fn verify_in<S: Source, K: Sink, D: Disk>(
     out: &mut K,
     disk: &mut D,
 ) -> Result<Status, Status>
-    ensures { D.tells → Only (D.seen disk.old) (D.images disk.old) → KeepsStore D.moment D.left_since D.seen disk.old disk.new }
+    ensures keeps { D.tells → Only (D.seen disk.old) (D.images disk.old) → KeepsStore D.moment D.left_since D.seen disk.old disk.new }
+    ensures prints { PrintsVerified D.tells D.moment D.left_since D.seen D.images (S.left src.old) (K.held out.old) (K.held out.new) disk.old disk.new (status_of_word result) }
 {
     match reopen(alloc, disk) {
         Err(stop) => refuse(alloc, out, &stop),
@@ -93,7 +100,8 @@ pub fn overdue_in<K: Sink, D: Disk>(
     out: &mut K,
     disk: &mut D,
 ) -> Result<Status, Status>
-    ensures { D.tells → Only (D.seen disk.old) (D.images disk.old) → KeepsStore D.moment D.left_since D.seen disk.old disk.new }
+    ensures keeps { D.tells → Only (D.seen disk.old) (D.images disk.old) → KeepsStore D.moment D.left_since D.seen disk.old disk.new }
+    ensures prints { PrintsOverdue D.tells D.moment D.left_since D.seen D.images (K.held out.old) (K.held out.new) disk.old disk.new (status_of_word result) }
 {
     match reopen(alloc, disk) {
         Err(stop) => refuse(alloc, out, &stop),

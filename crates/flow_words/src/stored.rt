@@ -8,10 +8,12 @@ ghost use Rattle.flow_session.specs.Keeping.{IsOpen};
 ghost use Rattle.flow_session.specs.Runs.{KeepsStore, KeepsOrServes};
 ghost use Rattle.flow_session.specs.Serving.{Makes};
 ghost use Rattle.flow_words.specs.Crashes.{IsFailing, EndsDone, MakesStore, MakesKeepsOrServes};
+ghost use Rattle.flow_words.specs.Looking.{PrintsOverdue, PrintsVerified};
 ghost use Rattle.flow_words.specs.Printed.{PrintsAnswer, IsCheckOf, IsFateOf};
 ghost use Rattle.flow_words.specs.Scripts.{status_of_word, IsUnserved, ServesOver, RunsStore, PrintsTry};
 ghost use Rattle.flow_words.specs.declared.status.Status.TheVariants.{Done as DoneStatus};
-ghost use Rattle.flow_words.specs.declared.stored.Word.TheVariants.{Run as RunWord};
+ghost use Rattle.flow_words.specs.declared.stored.Look.TheVariants.{Overdue as OverdueLook, Verify as VerifyLook};
+ghost use Rattle.flow_words.specs.declared.stored.Word.TheVariants.{Run as RunWord, Look as LookWord};
 
 use crate::following::{follow_into, ship_from};
 use crate::looking::{explain_in, overdue_in, verify_in};
@@ -51,6 +53,8 @@ enum Word {
 /// The word over a store that has no words behind its two files.
 fn short_word(word: &str) -> Option<Word>
     ensures run { word.now ≡ codes "run" → result ≡ Some RunWord }
+    ensures overdue { word.now ≡ codes "overdue" → result ≡ Some (LookWord OverdueLook) }
+    ensures verify { word.now ≡ codes "verify" → result ≡ Some (LookWord VerifyLook) }
     ensures tries { word.now ≡ codes "try" → result ≡ None }
 {
     match word {
@@ -65,6 +69,8 @@ fn short_word(word: &str) -> Option<Word>
 /// The word over a store with these words behind its two files.
 fn store_word(word: &str, rest: &[String]) -> Option<Word>
     ensures run { word.now ≡ codes "run" → rest.now ≡ [] → result ≡ Some RunWord }
+    ensures overdue { word.now ≡ codes "overdue" → rest.now ≡ [] → result ≡ Some (LookWord OverdueLook) }
+    ensures verify { word.now ≡ codes "verify" → rest.now ≡ [] → result ≡ Some (LookWord VerifyLook) }
     ensures tries { word.now ≡ codes "try" → result ≡ None }
 {
     if word == "new" {
@@ -86,6 +92,8 @@ fn word_of(words: &[String]) -> Option<Word>
     ensures one { (word : List ℕ) → map string_bytes words.now ≡ word ∷ [] → result ≡ None }
     ensures tries { (rest : List (List ℕ)) → map string_bytes words.now ≡ codes "try" ∷ rest → result ≡ None }
     ensures run { (a b : List ℕ) → map string_bytes words.now ≡ codes "run" ∷ a ∷ b ∷ [] → a ≢ b → result ≡ Some RunWord }
+    ensures overdue { (a b : List ℕ) → map string_bytes words.now ≡ codes "overdue" ∷ a ∷ b ∷ [] → a ≢ b → result ≡ Some (LookWord OverdueLook) }
+    ensures verify { (a b : List ℕ) → map string_bytes words.now ≡ codes "verify" ∷ a ∷ b ∷ [] → a ≢ b → result ≡ Some (LookWord VerifyLook) }
 {
     match words {
         [word, a, b, rest @ ..] if a.as_str() != b.as_str() => store_word(word.as_str(), rest),
@@ -220,7 +228,9 @@ fn look_into<S: Source, K: Sink, D: Disk>(
     out: &mut K,
     disk: &mut D,
 ) -> Result<Status, Status>
-    ensures { D.tells → Only (D.seen disk.old) (D.images disk.old) → KeepsStore D.moment D.left_since D.seen disk.old disk.new }
+    ensures keeps { D.tells → Only (D.seen disk.old) (D.images disk.old) → KeepsStore D.moment D.left_since D.seen disk.old disk.new }
+    ensures overdue { look ≡ OverdueLook → PrintsOverdue D.tells D.moment D.left_since D.seen D.images (K.held out.old) (K.held out.new) disk.old disk.new (status_of_word result) }
+    ensures verify { look ≡ VerifyLook → PrintsVerified D.tells D.moment D.left_since D.seen D.images (S.left src.old) (K.held out.old) (K.held out.new) disk.old disk.new (status_of_word result) }
 {
     match look {
         Look::Explain => explain_in(alloc, last_word(words), out, disk),
@@ -241,6 +251,8 @@ fn obey<S: Source, K: Sink, D: Disk + Drop>(
 ) -> (Result<Status, Status>, D)
     ensures store { D.tells → Only (D.seen disk) (D.images disk) → MakesKeepsOrServes D.tells D.moment D.left_since D.seen D.images disk result.1 (EndsDone result.0) }
     ensures runs { word ≡ RunWord → RunsStore D.tells D.moment D.left_since D.seen D.images (S.left src.old) (K.held out.old) (K.held out.new) disk result.1 (status_of_word result.0) }
+    ensures overdue { word ≡ LookWord OverdueLook → PrintsOverdue D.tells D.moment D.left_since D.seen D.images (K.held out.old) (K.held out.new) disk result.1 (status_of_word result.0) }
+    ensures verify { word ≡ LookWord VerifyLook → PrintsVerified D.tells D.moment D.left_since D.seen D.images (S.left src.old) (K.held out.old) (K.held out.new) disk result.1 (status_of_word result.0) }
 {
     let mut disk = disk;
     match word {
@@ -261,7 +273,9 @@ fn obey<S: Source, K: Sink, D: Disk + Drop>(
 /// What `check`, `fate` and `try` print is that of `run_pure`. Under `run` over two files the store isn't opened, or
 /// a session over the state for which it stands serves the inputs of the script one after the other, as
 /// `specs/Scripts.antt` says: each transaction is kept before its reply is given, and the replies are printed in
-/// order, all of them under `Done`.
+/// order, all of them under `Done`. Under `overdue` over two files the store isn't opened, or exactly the late items of
+/// the state for which it stands are printed; under `verify`, exactly how many lines of the source, from the first on,
+/// are justified over that state, as `specs/Looking.antt` says.
 pub fn run<S: Source, K: Sink, D: Disk + Drop>(
     alloc: Global,
     words: &[String],
@@ -275,6 +289,10 @@ pub fn run<S: Source, K: Sink, D: Disk + Drop>(
     ensures tries { (rest : List (List ℕ)) → map string_bytes words.now ≡ codes "try" ∷ rest → PrintsTry rest (S.left src.old) (K.held out.old) (K.held out.new) result.0 }
     ensures serves { (a b : List ℕ) → map string_bytes words.now ≡ codes "run" ∷ a ∷ b ∷ [] → a ≢ b
         → RunsStore D.tells D.moment D.left_since D.seen D.images (S.left src.old) (K.held out.old) (K.held out.new) disk result.1 result.0 }
+    ensures overdue { (a b : List ℕ) → map string_bytes words.now ≡ codes "overdue" ∷ a ∷ b ∷ [] → a ≢ b
+        → PrintsOverdue D.tells D.moment D.left_since D.seen D.images (K.held out.old) (K.held out.new) disk result.1 result.0 }
+    ensures verify { (a b : List ℕ) → map string_bytes words.now ≡ codes "verify" ∷ a ∷ b ∷ [] → a ≢ b
+        → PrintsVerified D.tells D.moment D.left_since D.seen D.images (S.left src.old) (K.held out.old) (K.held out.new) disk result.1 result.0 }
 {
     let Some(word) = word_of(words) else {
         return (run_pure(alloc, words, src, out), disk);

@@ -99,9 +99,9 @@ program_at ts qs g = option_and_then (λ (a : Activity). if_program a a.work) (a
 
 -- ---- what a completion says
 
--- the settings that an outcome writes for the output of an activity, or the place of the first that is wrong: told of an output of at most 65,536 leaves
+-- the settings that an outcome writes for the output of an activity, or the place of the first that is wrong
 abbrev pub AreSettings : Activity → Outcome → Result (List Setting) ℕ → Type 0
-AreSettings a o made = length a.output.leaves ≤ 2 ^ 16 → made ≡ outcome_by a.output o.rc o.settings
+AreSettings a o made = made ≡ outcome_by a.output o.rc o.settings
 
 -- the item is completed with its settings; if a value is refused, the item counts with its first output, since only an item that is ready has its values judged
 abbrev pub with_settings : ℕ → Path → Container → Result (List Setting) ℕ → Said → Said

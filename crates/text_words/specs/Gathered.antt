@@ -1,5 +1,6 @@
 -- What is gathered of the lines of an input.
 use Rattle.std.specs.Prelude.{◌≡◌, ℕ, ◌+◌, nat_le, Bool, true, false, ◌&&◌, ◌||◌, if◌then◌else◌, Option, Some, None, IfSome, List, [], ◌∷◌, ◌++◌, codes, length, map, bytes_eq}
+use Rattle.std.specs.Global.{Vec}
 use Rattle.flow_io.specs.Inputs.{Input as LineInput, Served, PassedOver, AtEnd, inputs}
 use Rattle.flow_io.specs.declared.lines.Line.{Line}
 use Rattle.flow_io.specs.declared.lines.Line.TheVariants.{Text, TooLong, Ended}
@@ -68,3 +69,11 @@ kept input = record { text = input.text.items; is_ended = input.is_ended; behind
 -- the input keeps what is gathered of the bytes of a source that tells them
 abbrev pub IsGathered : Bool → Option (List ℕ) → Input → Type 0
 IsGathered has_end left input = IfSome left (λ bytes. kept input ≡ gathered has_end bytes)
+
+-- a line that is kept with whether it is too long, as what came
+abbrev pub as_input : Vec ℕ × Bool → LineInput
+as_input (line, is_long) = if is_long then PassedOver else Served line.items
+
+-- these are all the lines of a source that tells its bytes
+abbrev pub AreLines : Option (List ℕ) → List (Vec ℕ × Bool) → Type 0
+AreLines left lines = IfSome left (λ bytes. map as_input lines ++ AtEnd ∷ [] ≡ inputs bytes 268435456)

@@ -1,7 +1,8 @@
 //! The inputs of `check` and `fate`, read to their end.
-ghost use Rattle.std.specs.Prelude.{◌≡◌, [], ◌∷◌, ◌++◌, IfOk, OnOk, MatchResult};
+ghost use Rattle.std.specs.Prelude.{◌≡◌, ◌≢◌, [], ◌∷◌, ◌++◌, map, IfOk, OnOk, MatchResult};
 ghost use Rattle.flow_io.specs.Told.{StopCause};
-ghost use Rattle.text_words.specs.Gathered.{kept, nothing, is_end, with_text, with_line, first_long, with_input, found_input, IsGathered};
+ghost use Rattle.text_words.specs.Gathered.{kept, nothing, is_end, with_text, with_line, first_long, with_input, found_input, IsGathered, as_input, AreLines};
+ghost use Rattle.flow_io.specs.declared.lines.Line.TheVariants.{Ended as EndedLine};
 
 use flow_io::{IoStop, Line, Lines, Source};
 use std::alloc::{AllocError, Global};
@@ -141,22 +142,30 @@ impl Input {
 /// Lines, each with whether it is too long; then its bytes aren't kept.
 type Kept = Vec<(Vec<u8>, bool)>;
 
-/// Keeps a line.
-fn keep(kept: &mut Kept, text: Vec<u8>, is_too_long: bool) -> Result<(), AllocError> {
-    kept.push((text, is_too_long))?;
+/// Keeps what was found as a line.
+fn keep(alloc: Global, kept: &mut Kept, found: Line, line: &[u8]) -> Result<(), AllocError>
+    ensures { OnOk result (found ≢ EndedLine → map as_input kept.new.items ≡ map as_input kept.old.items ++ found_input found line.now ∷ []) }
+{
+    match found {
+        Line::Text => kept.push((Vec::from_slice(alloc, line)?, false))?,
+        Line::TooLong => kept.push((Vec::new(alloc), true))?,
+        Line::Ended => {}
+    }
     Ok(())
 }
 
 /// The lines of a source to its end. It stops as `Lines::next` does.
-pub fn all_lines<S: Source>(alloc: Global, src: &mut S) -> Result<Kept, IoStop> {
+pub fn all_lines<S: Source>(alloc: Global, src: &mut S) -> Result<Kept, IoStop>
+    ensures cause { MatchResult result (λ _. S.faults src.new ≡ S.faults src.old) (StopCause (S.faults src.old) (S.faults src.new)) }
+    ensures lines { IfOk result (λ kept. AreLines (S.left src.old) kept.items) }
+{
     let mut kept = Vec::new(alloc);
     let mut lines = Lines::new(alloc, MOST_BYTES)?;
-    for _ in 0..u64::MAX {
-        match lines.next(src)? {
-            Line::Text => keep(&mut kept, Vec::from_slice(alloc, lines.text())?, false)?,
-            Line::TooLong => keep(&mut kept, Vec::new(alloc), true)?,
-            Line::Ended => break,
+    'turns: loop {
+        let found = lines.next(src)?;
+        if found == Line::Ended {
+            return Ok(kept);
         }
+        keep(alloc, &mut kept, found, lines.text())?;
     }
-    Ok(kept)
 }

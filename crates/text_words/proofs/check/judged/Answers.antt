@@ -10,4 +10,4 @@ returns-in-Err-Rule c =
 
 pub returns-in_ok-canonical-in-Ok-syntax_tree : goal.returns-in_ok-canonical-in-Ok-syntax_tree
 returns-in_ok-canonical-in-Ok-syntax_tree c =
-    inr (c.in-Ok-syntax_tree.tree, c.in-Ok-syntax_tree.ensures, record { text = c.in_ok-canonical-in-Ok-syntax_tree.ensures; told = refl })
+    inr (c.in-Ok-syntax_tree.tree, c.in-Ok-syntax_tree.ensures.tree, record { text = c.in_ok-canonical-in-Ok-syntax_tree.ensures; told = refl })

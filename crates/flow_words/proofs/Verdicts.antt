@@ -1,0 +1,36 @@
+-- What is printed of a state.
+use Rattle.std.proofs.Common.{◌≡◌, ℕ, Option, List, Bool, inl, inr, subst, sym, if◌then◌else◌}
+use Rattle.std.specs.Global.{Vec}
+use Rattle.flow_core.specs.declared.state.Core.{Core}
+use Rattle.flow_io.specs.declared.lines.IoStop.{IoStop}
+use Rattle.flow_io.specs.declared.lines.IoStop.TheVariants as stop
+use Rattle.deadlines.specs.Texts.{IsOverdueText}
+use Rattle.explain.specs.Verified.{IsVerified}
+use Rattle.text_words.specs.Gathered.{AreLines}
+use Rattle.flow_words.specs.Endings.{status_of}
+use Rattle.flow_words.specs.Looking.{PrintsLate, PrintsVerdict}
+use Rattle.flow_words.specs.Printed.{Prints, IsUnanswered}
+use Rattle.flow_words.specs.declared.status.Status.{Status}
+use Rattle.flow_words.specs.declared.status.Status.TheVariants.{Done, Refused}
+use Rattle.flow_words.proofs.Serving.{keeps_same}
+
+module _ (held held' : Option (List ℕ)) (ended : Status) (core : Core) where
+  -- the text of what is late
+  pub prints_late : (of : Core) (text bytes : List ℕ) → of ≡ core → IsOverdueText of text → bytes ≡ text → Prints bytes Done held held' ended → PrintsLate held held' ended core
+  prints_late of text bytes same is spelled printed = (text, subst (λ k. IsOverdueText k text) same is, subst (λ b. Prints b Done held held' ended) spelled printed)
+
+  -- the verdict on all lines
+  pub prints_verdict : (left : Option (List ℕ)) (lines read : List (Vec ℕ × Bool)) (text bytes : List ℕ) (refused : Bool) → AreLines left lines → read ≡ lines → IsVerified core read text refused → bytes ≡ text → Prints bytes (if refused then Refused else Done) held held' ended
+      → PrintsVerdict left held held' ended core
+  prints_verdict left lines read text bytes refused all same is spelled printed =
+      inr (lines, all, (text, refused, subst (λ k. IsVerified core k text refused) same is, subst (λ b. Prints b (if refused then Refused else Done) held held' ended) spelled printed))
+
+-- a source that isn't read to its end ends a word before it has an answer
+pub unread : (s : IoStop) → IsUnanswered (status_of s)
+unread stop.ReadFault = tt
+unread stop.ScriptTooLong = tt
+unread stop.NoMemory = tt
+
+-- then nothing is printed
+pub no_verdict : (left held : Option (List ℕ)) (core : Core) (ended other : Status) → ended ≡ other → IsUnanswered other → PrintsVerdict left held held ended core
+no_verdict left held core ended other is unanswered = inl (subst IsUnanswered (sym is) unanswered, keeps_same held)

@@ -1,0 +1,16 @@
+use Rattle.std.proofs.Common.{inr}
+use Rattle.flow_core.specs.Summaries.{summary}
+use Rattle.flow_session.proofs.Runs.{opened}
+use Rattle.flow_words.specs.Scripts.{status_of_word}
+use Rattle.flow_words.proofs.Verdicts.{prints_late}
+use Rattle.flow_words.proofs.Serving.{stood_there}
+use Rattle.flow_words.proofs.looking.overdue_in.Goals as goal
+
+pub returns-in_ok-text-in-Ok-clause-prints : goal.returns-in_ok-text-in-Ok-clause-prints
+returns-in_ok-text-in-Ok-clause-prints g c = inr (record {
+  core = c.in-Ok.session.core;
+  keeps = λ only. opened g.D.Disk.tells g.D.Disk.moment g.D.Disk.left_since g.D.Disk.seen g.D.Disk.images c.args.disk.now c.reopen.new.disk only c.reopen.ensures.any_moment;
+  stood = λ told. stood_there g.D.Disk.seen c.args.disk.now c.reopen.new.disk (summary c.in-Ok.session.core) c.in-Ok.ensures.seen (c.in-Ok.ensures.open told).holds;
+  right = c.in-Ok.ensures.right;
+  printed = prints_late (g.K.Sink.held c.args.out.now) (g.K.Sink.held c.print_answer.new.out) (status_of_word c.print_answer.result) c.in-Ok.session.core c.core.result.now c.in_ok-text-in-Ok.text.items c.deref.result.now c.core.ensures c.in_ok-text-in-Ok.ensures c.deref.ensures.value c.print_answer.ensures.prints;
+})

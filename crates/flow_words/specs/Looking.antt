@@ -1,0 +1,46 @@
+-- What a word prints that looks into a store.
+use Rattle.std.specs.Prelude.{◌⊎◌, ℕ, ◌≤◌, Bool, if◌then◌else◌, Option, List}
+use Rattle.std.specs.Global.{Vec}
+use Rattle.std.specs.Io.KnownBytes.{Keeps}
+use Rattle.flow_disk.specs.Images.{Image}
+use Rattle.flow_disk.specs.Moments.{Only}
+use Rattle.flow_core.specs.Summaries.{summary}
+use Rattle.flow_core.specs.declared.state.Core.{Core}
+use Rattle.flow_session.specs.Histories.{StandsFor}
+use Rattle.flow_session.specs.Runs.{KeepsStore}
+use Rattle.core_laws.specs.RightStates.{IsRightCore}
+use Rattle.deadlines.specs.Texts.{IsOverdueText}
+use Rattle.explain.specs.Verified.{IsVerified}
+use Rattle.text_words.specs.Gathered.{AreLines}
+use Rattle.flow_words.specs.Printed.{Prints, IsUnanswered}
+use Rattle.flow_words.specs.Scripts.{IsUnserved}
+use Rattle.flow_words.specs.declared.status.Status.{Status}
+use Rattle.flow_words.specs.declared.status.Status.TheVariants.{Done, Refused}
+
+-- A store is opened, which leaves what was there, and this is printed of the state for which it stands.
+pub record LooksInto {D : Type 0} (tells : Type 0) (moment : D → ℕ) (left_since : D → ℕ → Image → Type 0) (seen : D → Image) (images : D → Image → Type 0) (disk disk' : D) (IsPrinted : Core → Type 0) : Type 0 where
+  pub core : Core
+  pub keeps : Only (seen disk) (images disk) → KeepsStore moment left_since seen disk disk'
+  pub stood : tells → StandsFor (summary core) (seen disk)
+  pub right : 1 ≤ (summary core).queues → IsRightCore core
+  pub printed : IsPrinted core
+
+-- the text of exactly the late items of a state is printed
+abbrev pub PrintsLate : Option (List ℕ) → Option (List ℕ) → Status → Core → Type 0
+PrintsLate held held' ended core = (text : List ℕ) × IsOverdueText core text × Prints text Done held held' ended
+
+-- `overdue`: the store isn't opened or there is no memory; or it is, and what is late in its state is printed
+abbrev pub PrintsOverdue : {D : Type 0} → Type 0 → (D → ℕ) → (D → ℕ → Image → Type 0) → (D → Image) → (D → Image → Type 0) → Option (List ℕ) → Option (List ℕ) → D → D → Status → Type 0
+PrintsOverdue tells moment left_since seen images held held' disk disk' ended =
+    IsUnserved ended ⊎ LooksInto tells moment left_since seen images disk disk' (PrintsLate held held' ended)
+
+-- the lines of the source are read to their end, and the verdict on them by a state is printed; or nothing is
+abbrev pub PrintsVerdict : Option (List ℕ) → Option (List ℕ) → Option (List ℕ) → Status → Core → Type 0
+PrintsVerdict left held held' ended core =
+    IsUnanswered ended × Keeps held held'
+    ⊎ (lines : List (Vec ℕ × Bool)) × AreLines left lines × ((text : List ℕ) × (refused : Bool) × IsVerified core lines text refused × Prints text (if refused then Refused else Done) held held' ended)
+
+-- `verify`: the store isn't opened; or it is, and the verdict on the lines of the source is printed
+abbrev pub PrintsVerified : {D : Type 0} → Type 0 → (D → ℕ) → (D → ℕ → Image → Type 0) → (D → Image) → (D → Image → Type 0) → Option (List ℕ) → Option (List ℕ) → Option (List ℕ) → D → D → Status → Type 0
+PrintsVerified tells moment left_since seen images left held held' disk disk' ended =
+    IsUnserved ended ⊎ LooksInto tells moment left_since seen images disk disk' (PrintsVerdict left held held' ended)
