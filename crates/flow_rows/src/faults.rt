@@ -45,10 +45,10 @@ const COUNTS: [u64; 12] = [0, 1, 2, 3, 3, 4, 5, 6, 6, 7, 8, 9];
 
 /// What a run leaves.
 #[derive(Drop)]
-pub(crate) struct Left {
-    pub(crate) status: Status,
-    pub(crate) text: Vec<u8>,
-    pub(crate) disk: MemDisk,
+struct Left {
+    status: Status,
+    text: Vec<u8>,
+    disk: MemDisk,
 }
 
 fn words(alloc: Global, word: &str) -> Result<Vec<String>, Fail> {
@@ -60,7 +60,7 @@ fn words(alloc: Global, word: &str) -> Result<Vec<String>, Fail> {
 }
 
 /// Runs a word over a disk; the calls of the source and of the sink that fail are listed.
-pub(crate) fn ran(
+fn ran(
     alloc: Global,
     word: &str,
     script: &[u8],

@@ -8,12 +8,4 @@ mod cases;
 #[cfg(test)]
 mod faults;
 #[cfg(test)]
-mod limits;
-#[cfg(test)]
-mod refusals;
-#[cfg(test)]
 mod rows;
-#[cfg(test)]
-mod stores;
-#[cfg(test)]
-mod syntax;
