@@ -11,7 +11,7 @@ use Rattle.flow_model.specs.declared.graphs.Work.{Work, Program, Block', Process
 use Rattle.fate_laws.specs.Layout.{OfInside}
 use Rattle.navigator.specs.Serving.{HasGraph, Served}
 use Rattle.template_check.specs.Built.{IsSoundGraph, SoundTo, IsSoundAlone, AreSound}
-use Rattle.template_check.specs.Calling.{CallsBelow, CallsWith, CallsTo, IsCalling}
+use Rattle.process_rules.specs.Calling.{CallsBelow, CallsWith, CallsTo, IsCalling}
 
 -- ---- what holds of all elements of a list
 

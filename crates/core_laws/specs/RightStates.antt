@@ -23,7 +23,7 @@ use Rattle.navigator.specs.declared.instance.Instance.{Instance}
 use Rattle.recover_queue.specs.Queues.{queue, root_of}
 use Rattle.root_laws.specs.RightRoots.{Queued, IsRight}
 use Rattle.template_check.specs.Built.{AreSound}
-use Rattle.template_check.specs.Imports.{IsIndexed}
+use Rattle.process_rules.specs.Imports.{IsIndexed}
 use Rattle.view_laws.specs.Messages.{Note, BeginNote, SignalNote, EndNote}
 use Rattle.view_laws.specs.Runs.{Event, Started, Turned, Completed, Held, Stopped}
 

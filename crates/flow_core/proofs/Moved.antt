@@ -18,7 +18,7 @@ use Rattle.flow_model.specs.declared.transactions.Transaction.TheVariants.{Impor
 use Rattle.containers.specs.Settings.{filled}
 use Rattle.navigator.specs.Instances.{IsStarted, Starts}
 use Rattle.navigator.specs.declared.instance.Instance.{Instance}
-use Rattle.template_check.specs.Imports.{IsIndexed}
+use Rattle.process_rules.specs.Imports.{IsIndexed}
 use Rattle.template_store.specs.declared.store.TemplateStore.{TemplateStore}
 use Rattle.flow_core.specs.Allowing.{IsAsked}
 use Rattle.flow_core.specs.Answers.{instance_of}

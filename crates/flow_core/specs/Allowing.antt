@@ -17,7 +17,7 @@ use Rattle.navigator.specs.declared.instance.Instance.{Instance}
 use Rattle.navigator.specs.declared.instance.Item.{Item}
 use Rattle.navigator.specs.declared.scopes.ScopeState.{out-ScopeState}
 use Rattle.recover_queue.specs.Queues.{is_quiet}
-use Rattle.template_check.specs.Imports.{IsIndexed}
+use Rattle.process_rules.specs.Imports.{IsIndexed}
 use Rattle.flow_core.specs.Answers.{instance_of}
 use Rattle.flow_core.specs.Driving.{templates, item_of, program_in, IsFront}
 use Rattle.flow_core.specs.Summaries.{started}

@@ -24,7 +24,7 @@ use Rattle.navigator.specs.declared.instance.Instance.{Instance}
 use Rattle.recover_queue.specs.Queues.{root_of as root_of_message, queue, with_queue}
 use Rattle.root_laws.specs.Becoming.{TakesIn, CompletesIn, HoldsIn}
 use Rattle.template_check.specs.Built.{AreSound}
-use Rattle.template_check.specs.Imports.{IsIndexed}
+use Rattle.process_rules.specs.Imports.{IsIndexed}
 use Rattle.flow_core.specs.Answers.{instance_of}
 use Rattle.flow_core.specs.Summaries.{root_about}
 use Rattle.flow_core.specs.declared.state.Core.{Core}

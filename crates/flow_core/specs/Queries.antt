@@ -2,7 +2,7 @@
 use Rattle.std.specs.Prelude.{◌≡◌, ℕ, List}
 use Rattle.flow_model.specs.declared.commands.Query.{Query}
 use Rattle.flow_model.specs.declared.commands.Query.TheVariants as ask
-use Rattle.template_check.specs.Imports.{IsIndexed, latest_person}
+use Rattle.process_rules.specs.Imports.{IsIndexed, latest_person}
 use Rattle.flow_core.specs.Answers.{instance_of, IsShown, IsListed, queue_answer, audit_answer, templates_text}
 use Rattle.flow_core.specs.Containing.{IsOutputAnswer, IsInputAnswer}
 use Rattle.flow_core.specs.declared.state.Core.{Core}

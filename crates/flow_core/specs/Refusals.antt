@@ -31,7 +31,7 @@ use Rattle.staff_worklists.specs.declared.rights.StaffFault.{StaffFault}
 use Rattle.staff_worklists.specs.declared.rights.StaffFault.TheVariants as fault
 use Rattle.template_check.specs.Built.{AreSoundBehind}
 use Rattle.template_check.specs.Compiling.{IsNamedBy}
-use Rattle.template_check.specs.Imports.{IsIndexed, newest_place, latest_person}
+use Rattle.process_rules.specs.Imports.{IsIndexed, newest_place, latest_person}
 use Rattle.template_check.specs.declared.compiling.Compiled.{Compiled}
 use Rattle.flow_core.specs.Allowing.{Subject, subject_of, IsThere, IsKnown, mode_in}
 use Rattle.flow_core.specs.Answers.{instance_of}

@@ -1,6 +1,6 @@
 //! Replies to queries and to transactions.
 ghost use Rattle.std.specs.Prelude.{◌≡◌, ◌++◌, Some, OnOk, IfOk};
-ghost use Rattle.template_check.specs.Imports.{IsIndexed, latest_person};
+ghost use Rattle.process_rules.specs.Imports.{IsIndexed, latest_person};
 ghost use Rattle.flow_core.specs.Replies.{note_text, applied_text, refusal_text};
 ghost use Rattle.flow_core.specs.Answers.{templates_text as text_of_templates, queue_answer, audit_answer, instance_of, mode_now, AreRowsOf, IsShown, IsListed};
 ghost use Rattle.flow_core.specs.Allowing.{seen_entry, known_entry};

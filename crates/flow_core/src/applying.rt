@@ -3,7 +3,7 @@ ghost use Rattle.std.specs.Prelude.{◌≡◌, ℕ, ◌<◌, ◌+◌, [], ◌∷
 ghost use Rattle.flow_model.specs.declared.instances.Message.{Message as MessageOf};
 ghost use Rattle.flow_model.specs.declared.instances.Mode.TheVariants as modes;
 ghost use Rattle.flow_core.specs.Verdicts.{fate_now, IsNoteOf, IsFront};
-ghost use Rattle.template_check.specs.Imports.{IsIndexed};
+ghost use Rattle.process_rules.specs.Imports.{IsIndexed};
 ghost use Rattle.flow_core.specs.declared.applying.Note.TheVariants as notes;
 ghost use Rattle.containers.specs.Settings.{filled};
 ghost use Rattle.flow_model.specs.Containers.{fresh as fresh_of};

@@ -15,7 +15,7 @@ use Rattle.flow_model.specs.declared.graphs.LoopLine.{LoopLine}
 use Rattle.flow_model.specs.declared.graphs.Template.{Template}
 use Rattle.flow_model.specs.declared.graphs.Wiring.{Wiring}
 use Rattle.template_check.specs.Built.{AreSoundBehind, IsSoundAlone}
-use Rattle.template_check.specs.Calling.{CallsTo, IsCalling, IsCallingWork, AreOrdered}
+use Rattle.process_rules.specs.Calling.{CallsTo, IsCalling, IsCallingWork, AreOrdered}
 
 module _ (limit : ℕ) where
   widened : (P Q : Graph → Type 0) (o : Option Activity) → ((h : Graph) → P h → Q h) → OfInside [] P o → OfInside [] Q o

@@ -3,14 +3,15 @@ use Rattle.std.proofs.Common.{◌≡◌, ℕ, zero, suc, ◌<◌, ◌≤◌, Lis
 use Rattle.std.proofs.lemmas.Bool.{cases_lt}
 use Rattle.std.specs.List.{Contains}
 use Rattle.flow_model.specs.declared.trees.ItemTree.{ItemTree}
-use Rattle.template_check.specs.Connectors.{NamesNobody, IsDouble, IsEmptyGraph}
-use Rattle.template_check.specs.Graphs.{GraphAt, graph_at, graphs_in, AreGraphsOf, InGraphs}
-use Rattle.template_check.specs.Names.{AreActivityEnds, IsEndWrong, IsInsideAgain, IsTwice, structures_in}
-use Rattle.template_check.specs.Places.{IsLeastOf, AnyAt}
+use Rattle.connector_rules.specs.Connectors.{NamesNobody, IsDouble, IsEmptyGraph}
+use Rattle.text_graphs.specs.Graphs.{GraphAt, graph_at, graphs_in, AreGraphsOf, InGraphs}
+use Rattle.text_graphs.specs.Texts.{structures_in}
+use Rattle.name_rules.specs.Names.{AreActivityEnds, IsEndWrong, IsInsideAgain, IsTwice}
+use Rattle.text_graphs.specs.Places.{IsLeastOf, AnyAt}
 use Rattle.template_check.specs.Rules.{Breaks, OtherEnd, Twice, NoStructure, Nobody, Double, Empty, NoneTo, IsFirstFault, told_rules}
-use Rattle.template_check.specs.Structures.{AreNoContainersIn, NamesNoStructure}
-use Rattle.template_check.specs.declared.scopes.Scope.{Scope}
-use Rattle.template_check.proofs.Finding.{least_same, any_map, any_unmap}
+use Rattle.leaf_rules.specs.Structures.{AreNoContainersIn, NamesNoStructure}
+use Rattle.text_graphs.specs.declared.scopes.Scope.{Scope}
+use Rattle.text_graphs.proofs.Finding.{least_same, any_map, any_unmap}
 
 -- ---- places in the graphs that are listed are places in those of the text
 

@@ -2,8 +2,8 @@
 use Rattle.std.proofs.Common.{◌≡◌, ℕ, zero, suc, ◌+◌, ◌<◌, List, [], ◌∷◌, length, get_or, take, ◌++◌, map, append-nil, Option, Some, None, refl, sym, ap, subst, ◌∙◌, arith}
 use Rattle.std.specs.List.{All, Contains, cons_option}
 use Rattle.std.specs.Option.{option_map}
-use Rattle.template_check.proofs.Naming.{first_below}
-use Rattle.template_check.proofs.Sorting.{one_more}
+use Rattle.text_graphs.proofs.Naming.{first_below}
+use Rattle.text_graphs.proofs.Sorting.{one_more}
 use Rattle.std.specs.Prelude.{slice_get, slice_index}
 use Rattle.std.proofs.lemmas.Option.{slice_get-get_or, get_or_from_slice_get}
 use Rattle.std.proofs.Math.ListN.{get_or-map}
@@ -30,10 +30,11 @@ use Rattle.fate_laws.specs.Orders as flow
 use Rattle.fate_laws.specs.Walks.{Walk, IsWired}
 use Rattle.graph_check.specs.Walks.{HasEdge, IsWalk, IsOrder}
 use Rattle.template_check.specs.Built.{IsDrawn, IsSound, IsSoundAlone, IsSoundGraph, IsSoundInside, IsSoundWork, SoundTo, end_in}
-use Rattle.template_check.specs.Texts.{activities_in, names_in, controls_in, edge_of, edges_in, AllDiffer, IsJudged, IsLineAlong, line_edge, number_in, activity_of}
+use Rattle.text_graphs.specs.Texts.{activities_in, names_in, controls_in, edge_of, edges_in, AllDiffer, IsJudged, IsLineAlong, line_edge, number_in, activity_of}
 use Rattle.template_check.specs.Wires.{pairs_of, AreWired, AreWithin, IsEndBelow}
-use Rattle.template_check.proofs.Differing.{chosen_short, simple}
-use Rattle.template_check.proofs.Judging.{edges_below}
+use Rattle.text_graphs.proofs.Differing.{chosen_short}
+use Rattle.template_check.proofs.Simple.{simple}
+use Rattle.text_graphs.proofs.Judging.{edges_below}
 
 -- a connector is an edge
 edge_is : (controls : List Control) (c : Control) → Contains controls c → HasEdge (pairs_of controls) c.from c.to

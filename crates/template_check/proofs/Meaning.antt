@@ -18,10 +18,10 @@ use Rattle.flow_model.specs.declared.trees.ActivityTree.{ActivityTree}
 use Rattle.flow_model.specs.declared.trees.ElementTree.{ElementTree}
 use Rattle.flow_model.specs.declared.trees.WorkTree.TheVariants as work
 use Rattle.flow_model.specs.declared.trees.ProcessTree.{ProcessTree}
-use Rattle.template_check.specs.GraphTexts.{GraphText, process_text, block_text}
-use Rattle.template_check.specs.Texts.{activities_in, controls_in, lines_in}
+use Rattle.text_graphs.specs.GraphTexts.{GraphText, process_text, block_text}
+use Rattle.text_graphs.specs.Texts.{activities_in, controls_in, lines_in}
 use Rattle.template_check.specs.Meant.{Reading, IsMeant, IsMeantWith, MeantTo, AreMeantFrom, AreParts, NoneLeft, NoPart, OnePart, IsOne, IsControl, IsDataLine, IsLoopLine, IsActivity, IsWork, BlockOf}
-use Rattle.template_check.proofs.Sorting.{one_more}
+use Rattle.text_graphs.proofs.Sorting.{one_more}
 
 module _ {X Y : Type 0} (R : X → Option Y → Type 0) where
   -- one more element, which gives nothing

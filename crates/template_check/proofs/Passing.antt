@@ -7,21 +7,21 @@ use Rattle.flow_model.specs.declared.trees.ItemTree.{ItemTree}
 use Rattle.flow_model.specs.declared.trees.NameAt.{NameAt}
 use Rattle.flow_model.specs.declared.trees.StructDef.{StructDef}
 use Rattle.flow_model.specs.declared.trees.Tree.{Tree}
-use Rattle.template_check.specs.ClosedWalks.{IsAcyclic}
+use Rattle.text_graphs.specs.ClosedWalks.{IsAcyclic}
 use Rattle.template_check.specs.Compiling.{HasTree}
-use Rattle.template_check.specs.Connectors.{NamesNobody, IsDouble, IsEmptyGraph}
-use Rattle.template_check.specs.Graphs.{graph_at, graphs_in, AreGraphsOf, InGraphs}
+use Rattle.connector_rules.specs.Connectors.{NamesNobody, IsDouble, IsEmptyGraph}
+use Rattle.text_graphs.specs.Graphs.{graph_at, graphs_in, AreGraphsOf, InGraphs}
 use Rattle.template_check.specs.Judged.{IsFault, IsEarly, IsJudgedText}
-use Rattle.template_check.specs.Meeting.{IsAgainAt}
-use Rattle.template_check.specs.Names.{AreActivityEnds, IsItemEnd, IsEndWrong, IsInsideAgain, IsItemAgain, IsPartAgain, IsTwice, structures_in}
-use Rattle.template_check.specs.Places.{IsLeastOf, AnyAt, PairAt}
+use Rattle.text_graphs.specs.Meeting.{IsAgainAt}
+use Rattle.name_rules.specs.Names.{AreActivityEnds, IsItemEnd, IsEndWrong, IsInsideAgain, IsItemAgain, IsPartAgain, IsTwice}
+use Rattle.text_graphs.specs.Places.{IsLeastOf, AnyAt, PairAt}
 use Rattle.template_check.specs.Rules.{NoneTo, IsFirstFault, IsFoundTo}
-use Rattle.template_check.specs.Structures.{AreNoKinds, AreNoContainersIn, NamesNoStructure}
-use Rattle.template_check.specs.Texts.{activities_in, controls_in, edges_in, AllDiffer, AreNamesApart, IsConnected}
+use Rattle.leaf_rules.specs.Structures.{AreNoKinds, AreNoContainersIn, NamesNoStructure}
+use Rattle.text_graphs.specs.Texts.{activities_in, controls_in, edges_in, AllDiffer, AreNamesApart, IsConnected, structures_in}
 use Rattle.template_check.specs.declared.faults.ImportFault.{ImportFault}
 use Rattle.template_check.specs.declared.faults.ImportFault.TheVariants as fault
-use Rattle.template_check.specs.declared.scopes.Scope.{Scope}
-use Rattle.template_check.proofs.Doubling.{edges_differ}
+use Rattle.text_graphs.specs.declared.scopes.Scope.{Scope}
+use Rattle.connector_rules.proofs.Doubling.{edges_differ}
 use Rattle.template_check.proofs.Judgements.{contained, in_text, in_both, none_below, pass_4, pass_5, pass_6, pass_9, pass_10, pass_12}
 
 -- a name at a later place comes again

@@ -6,8 +6,8 @@ use Rattle.flow_model.specs.declared.graphs.Template.{Template}
 use Rattle.flow_model.specs.declared.trees.ItemTree.{ItemTree}
 use Rattle.flow_model.specs.declared.trees.ProcessTree.{ProcessTree}
 use Rattle.template_check.specs.Compiling.{process_names, template_names}
-use Rattle.template_check.specs.Texts.{process_of, processes_in}
-use Rattle.template_check.proofs.Sorting.{one_more}
+use Rattle.text_graphs.specs.Texts.{process_of, processes_in}
+use Rattle.text_graphs.proofs.Sorting.{one_more}
 
 module _ (items : List ItemTree) (i : ℕ) (x : ItemTree) (less : i < length items) (is : x ≡ get_or items i x) where
   -- one more item may be one more process

@@ -18,9 +18,9 @@ use Rattle.flow_model.specs.declared.trees.EndsTree.TheVariants as ends
 use Rattle.flow_model.specs.declared.trees.MapTree.{MapTree}
 use Rattle.flow_model.specs.declared.trees.NameAt.{NameAt}
 use Rattle.template_check.specs.Built.{end_in}
-use Rattle.template_check.specs.GraphTexts.{GraphText}
-use Rattle.template_check.specs.Leaves.{Leafing, line_source, line_target}
-use Rattle.template_check.specs.Texts.{number_in}
+use Rattle.text_graphs.specs.GraphTexts.{GraphText}
+use Rattle.leaf_rules.specs.Leaves.{Leafing, line_source, line_target}
+use Rattle.text_graphs.specs.Texts.{number_in}
 use Rattle.flow_model.specs.declared.trees.WhenTree.{WhenTree}
 use Rattle.flow_model.specs.declared.trees.WhenTree.TheVariants as written
 use Rattle.template_check.specs.Meant.{AreParts, IsOne, IsMap, AreMaps, IsExit, IsWhen, IsBetween, IsDataBy, IsDataLine, IsRound, IsLoopBy, IsLoopLine}

@@ -13,12 +13,12 @@ use Rattle.flow_model.specs.declared.graphs.Graph.{Graph, out-Graph}
 use Rattle.flow_model.specs.declared.graphs.Template.{Template}
 use Rattle.flow_model.specs.declared.graphs.Work.{Work, Program, Block', Process}
 use Rattle.flow_model.specs.declared.trees.ProcessTree.{ProcessTree}
-use Rattle.template_check.specs.Blocks.{lists_of, IsCovered}
+use Rattle.text_graphs.specs.Blocks.{lists_of, IsCovered}
 use Rattle.template_check.specs.Built.{IsSoundGraph, SoundTo, IsSoundAlone, AreSound, IsSound}
-use Rattle.template_check.specs.Texts.{lines_in, AreNamesApart, IsConnected, IsJudged, IsLimited, IsLineAlong}
-use Rattle.template_check.specs.declared.scopes.Scope.{Scope}
-use Rattle.template_check.proofs.Differing.{one_place}
-use Rattle.template_check.proofs.Listing.{judged_blocks}
+use Rattle.text_graphs.specs.Texts.{lines_in, AreNamesApart, IsConnected, IsJudged, IsLimited, IsLineAlong}
+use Rattle.text_graphs.specs.declared.scopes.Scope.{Scope}
+use Rattle.text_graphs.proofs.Differing.{one_place}
+use Rattle.text_graphs.proofs.Listing.{judged_blocks}
 use Rattle.view_laws.specs.NextEvents.{IsAimed, Aimed}
 
 -- the graph of a template of the list

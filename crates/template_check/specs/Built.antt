@@ -18,11 +18,11 @@ use Rattle.flow_model.specs.declared.trees.EndTree.{EndTree}
 use Rattle.flow_model.specs.declared.trees.EndTree.TheVariants as tree
 use Rattle.flow_model.specs.declared.trees.ProcessTree.{ProcessTree}
 use Rattle.graph_check.specs.Walks.{Reaches}
-use Rattle.template_check.specs.Blocks.{IsBlockOf, JudgedTo}
-use Rattle.template_check.specs.Calling.{AreOrdered}
-use Rattle.template_check.specs.Texts.{activities_in, number_in, edges_in, AllDiffer, IsLimited}
+use Rattle.text_graphs.specs.Blocks.{IsBlockOf, JudgedTo}
+use Rattle.process_rules.specs.Calling.{AreOrdered}
+use Rattle.text_graphs.specs.Texts.{activities_in, number_in, edges_in, AllDiffer, IsLimited}
 use Rattle.template_check.specs.Wires.{IsEndBelow}
-use Rattle.template_check.specs.declared.scopes.Scope.{Scope}
+use Rattle.text_graphs.specs.declared.scopes.Scope.{Scope}
 use Rattle.view_laws.specs.NextEvents.{Aimed}
 
 -- the end of a line, where its name is known

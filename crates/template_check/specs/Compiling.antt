@@ -8,11 +8,11 @@ use Rattle.flow_model.specs.declared.graphs.Template.{Template}
 use Rattle.flow_model.specs.declared.trees.ItemTree.{ItemTree}
 use Rattle.flow_model.specs.declared.trees.Tree.{Tree}
 use Rattle.template_check.specs.Built.{AreSoundBehind}
-use Rattle.template_check.specs.Imports.{IsIndexed}
-use Rattle.template_check.specs.Knowing.{place_named}
-use Rattle.template_check.specs.declared.catalog.Catalog.{Catalog}
+use Rattle.process_rules.specs.Imports.{IsIndexed}
+use Rattle.process_rules.specs.Knowing.{place_named}
+use Rattle.process_rules.specs.declared.catalog.Catalog.{Catalog}
 use Rattle.template_check.specs.Meant.{Reading, AreMeantFrom}
-use Rattle.template_check.specs.Texts.{processes_in}
+use Rattle.text_graphs.specs.Texts.{processes_in}
 
 -- this is the tree of a text
 pub record HasTree (text : List ℕ) (tree : Tree) : Type 0 where

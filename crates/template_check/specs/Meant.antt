@@ -30,12 +30,12 @@ use Rattle.flow_model.specs.declared.trees.ProcessTree.{ProcessTree}
 use Rattle.flow_model.specs.declared.trees.WhenTree.{WhenTree}
 use Rattle.flow_model.specs.declared.trees.WhenTree.TheVariants as written
 use Rattle.flow_model.specs.declared.trees.WorkTree.TheVariants as work
-use Rattle.template_check.specs.Attributes.{first_said, exit_said, joined_by, program_by}
+use Rattle.text_graphs.specs.Attributes.{first_said, exit_said, joined_by, program_by}
 use Rattle.template_check.specs.Built.{end_in}
-use Rattle.template_check.specs.Calling.{place_meant}
-use Rattle.template_check.specs.GraphTexts.{GraphText, process_text, block_text}
-use Rattle.template_check.specs.Leaves.{Leafing, with_code, output_leaves, line_source, line_target, table_leaves}
-use Rattle.template_check.specs.Texts.{activities_in, controls_in, lines_in, number_in}
+use Rattle.process_rules.specs.Calling.{place_meant}
+use Rattle.text_graphs.specs.GraphTexts.{GraphText, process_text, block_text}
+use Rattle.leaf_rules.specs.Leaves.{Leafing, with_code, output_leaves, line_source, line_target, table_leaves}
+use Rattle.text_graphs.specs.Texts.{activities_in, controls_in, lines_in, number_in}
 use Rattle.template_check.specs.declared.building.Builder.{Builder}
 
 -- what the names of a text stand for: the leaves of a structure, and the place in the library of the process that an

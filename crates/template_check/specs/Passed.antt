@@ -2,8 +2,8 @@
 use Rattle.std.specs.Prelude.{List}
 use Rattle.std.specs.List.{All}
 use Rattle.flow_model.specs.declared.trees.ElementTree.{ElementTree}
-use Rattle.template_check.specs.ClosedWalks.{IsAcyclic}
-use Rattle.template_check.specs.Texts.{edges_in, lines_in, IsLineAlong}
+use Rattle.text_graphs.specs.ClosedWalks.{IsAcyclic}
+use Rattle.text_graphs.specs.Texts.{edges_in, lines_in, IsLineAlong}
 use Rattle.template_check.specs.declared.compiling.GraphRule.{GraphRule}
 use Rattle.template_check.specs.declared.compiling.GraphRule.TheVariants as rule
 

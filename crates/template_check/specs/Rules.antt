@@ -2,10 +2,11 @@
 use Rattle.std.specs.Prelude.{◌≡◌, ◌⊎◌, ℕ, ◌<◌, ◌≤◌, Option, Some, None, List, [], ◌∷◌}
 use Rattle.std.specs.List.{Contains}
 use Rattle.flow_model.specs.declared.trees.ItemTree.{ItemTree}
-use Rattle.template_check.specs.Connectors.{NamesNobody, IsDouble, IsEmptyGraph}
-use Rattle.template_check.specs.Graphs.{InGraphs}
-use Rattle.template_check.specs.Names.{AreActivityEnds, IsEndWrong, IsInsideAgain, IsTwice, structures_in}
-use Rattle.template_check.specs.Structures.{AreNoContainersIn, NamesNoStructure}
+use Rattle.connector_rules.specs.Connectors.{NamesNobody, IsDouble, IsEmptyGraph}
+use Rattle.text_graphs.specs.Graphs.{InGraphs}
+use Rattle.text_graphs.specs.Texts.{structures_in}
+use Rattle.name_rules.specs.Names.{AreActivityEnds, IsEndWrong, IsInsideAgain, IsTwice}
+use Rattle.leaf_rules.specs.Structures.{AreNoContainersIn, NamesNoStructure}
 
 -- a text with these items breaks a rule at a place
 pub data Breaks (items : List ItemTree) (rule p : ℕ) : Type 0 where

@@ -3,21 +3,15 @@ ghost use Rattle.std.specs.Prelude.{◌≡◌, ℕ, ◌<◌, ◌^◌, Some, leng
 ghost use Rattle.std.specs.List.{All};
 ghost use Rattle.template_check.specs.Built.{end_in, IsDrawn, IsSound, IsSoundAlone, IsSoundInside, IsSoundWork};
 ghost use Rattle.conditions.specs.Resolving.{IsResolved};
-ghost use Rattle.template_check.specs.Attributes.{first_said, join_said, joined_by, expires_said, expires_by, exit_said, doer_said, done_by, program_by};
-ghost use Rattle.template_check.specs.Calling.{place_behind, place_meant, IsCalling, IsCallingWork};
-ghost use Rattle.template_check.specs.GraphTexts.{text_of, process_text};
-ghost use Rattle.template_check.specs.Leaves.{table_leaves, with_code, output_leaves, line_source, line_target};
+ghost use Rattle.text_graphs.specs.Attributes.{first_said, join_said, joined_by, expires_said, expires_by, exit_said, doer_said, done_by, program_by};
+ghost use Rattle.process_rules.specs.Calling.{place_behind, place_meant, IsCalling, IsCallingWork};
+ghost use Rattle.text_graphs.specs.GraphTexts.{text_of, process_text};
+ghost use Rattle.leaf_rules.specs.Leaves.{table_leaves, with_code, output_leaves, line_source, line_target};
 ghost use Rattle.template_check.specs.Meant.{AreParts, IsOne, IsMap, AreMaps, IsExit, IsWhen, IsControl, IsDataLine, IsLoopLine, IsWork, IsActivity, MeantTo, IsMeant, reading_of};
 ghost use Rattle.template_check.specs.declared.building.BuildFault.TheVariants.{NoMemory};
-ghost use Rattle.template_check.specs.Texts.{activities_in, controls_in, names_in, lines_in, edge_of, edges_in, IsLineAlong};
+ghost use Rattle.text_graphs.specs.Texts.{activities_in, controls_in, names_in, lines_in, edge_of, edges_in, IsLineAlong};
 ghost use Rattle.template_check.specs.Wires.{pairs_of};
 
-use crate::catalog::Catalog;
-use crate::forms::leaves_copy;
-use crate::members::LeafTable;
-use crate::people::{Callee, Known, is_manual};
-use crate::scopes::{Scope, narrow};
-use crate::sizes::Shape;
 use crate::wires::wiring;
 use conditions::{TypeFault, resolve};
 use containers::find_leaf;
@@ -27,7 +21,10 @@ use flow_model::{
     LoopLine, MapEnd, MapTree, NameAt, NumberAt, PersonDef, PersonTree, ProcessTree, Program,
     Template, When, WhenTree, Work, WorkTree,
 };
+use leaf_rules::{LeafTable, leaves_copy};
+use process_rules::{Callee, Catalog, Known, Shape, is_manual};
 use std::alloc::{AllocError, AllocFailed, Global};
+use text_graphs::{Scope, narrow};
 use thiserror::Error;
 
 /// Why an accepted text isn't built.

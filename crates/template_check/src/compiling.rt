@@ -2,36 +2,33 @@
 ghost use Rattle.std.specs.Prelude.{◌≡◌, ◌<◌, List, None, length, IfOk, IfErr};
 ghost use Rattle.std.specs.List.{All};
 ghost use Rattle.flow_model.specs.declared.trees.ItemTree.{ItemTree};
-ghost use Rattle.template_check.specs.Blocks.{lists_of, IsCovered};
+ghost use Rattle.text_graphs.specs.Blocks.{lists_of, IsCovered};
 ghost use Rattle.template_check.specs.Built.{AreSoundBehind, AreSoundWithin, IsSound};
 ghost use Rattle.template_check.specs.Compiling.{AreBuilt, HasTree, IsNamedBy, IsMeantBy};
-ghost use Rattle.template_check.specs.Graphs.{graphs_in, AreGraphsOf};
+ghost use Rattle.text_graphs.specs.Graphs.{graphs_in, AreGraphsOf};
 ghost use Rattle.template_check.specs.Judged.{IsFault, IsEarly, IsJudged, IsJudgedText};
-ghost use Rattle.template_check.specs.Knowing.{IsKnowing};
-ghost use Rattle.template_check.specs.Names.{structures_in};
+ghost use Rattle.process_rules.specs.Knowing.{IsKnowing};
 ghost use Rattle.template_check.specs.Passed.{IsPassed};
 ghost use Rattle.template_check.specs.Rules.{NoneTo, IsFoundTo};
-ghost use Rattle.template_check.specs.Structures.{behind};
-ghost use Rattle.template_check.specs.Texts.{lines_in, processes_in, AreNamesApart, IsConnected, IsLimited, IsLineAlong};
+ghost use Rattle.leaf_rules.specs.Structures.{behind};
+ghost use Rattle.text_graphs.specs.Texts.{lines_in, processes_in, AreNamesApart, IsConnected, IsLimited, IsLineAlong, structures_in};
 
 use crate::building::{BuildFault, Builder};
-use crate::catalog::Catalog;
-use crate::connectors::{
+use crate::faults::{ImportFault, RuleFault};
+use connector_rules::{
     cycle, double_connector, empty_graph, otherwise, unknown_activity, unreachable_data,
 };
-use crate::faults::{ImportFault, RuleFault};
-use crate::least::lesser;
-use crate::members::{LeafTable, Search, leaf_fault};
-use crate::names::{duplicate, end_name};
-use crate::people::{Known, container_mismatch, performer, unknown_person, unknown_process};
-use crate::scopes::{Scope, narrow, small};
-use crate::sizes::{Shape, count_limit, expanded_size, nesting, number, shapes};
-use crate::structures::Structures;
-use crate::text_graphs::text_scopes;
 use fdl_lexer::{LexFault, lex};
 use fdl_parser::{SyntaxFault, parse};
 use flow_model::{ItemTree, List, PersonDef, Template, Tree};
+use leaf_rules::{LeafTable, Search, Structures, leaf_fault};
+use name_rules::{duplicate, end_name};
+use process_rules::{
+    Catalog, Known, Shape, container_mismatch, count_limit, expanded_size, nesting, number,
+    performer, shapes, unknown_person, unknown_process,
+};
 use std::alloc::{AllocError, Global};
+use text_graphs::{Scope, lesser, narrow, small, text_scopes};
 
 /// A text has at most so many bytes.
 const MOST_BYTES: usize = 1_048_576;

@@ -4,14 +4,13 @@ ghost use Rattle.std.specs.List.{All};
 ghost use Rattle.flow_model.specs.ScopeContainers.{same_end};
 ghost use Rattle.flow_model.specs.Wiring.{places};
 ghost use Rattle.template_check.specs.Wires.{AreRows, IsEndBelow, AreWithin, AreWired, pairs_of};
-ghost use Rattle.template_check.specs.ClosedWalks.{IsAcyclic};
+ghost use Rattle.text_graphs.specs.ClosedWalks.{IsAcyclic};
 ghost use Rattle.graph_check.specs.Walks.{IsOrder};
 
-use crate::edges::Edges;
-use crate::scopes::narrow;
 use flow_model::{Control, DataLine, List, LoopLine, MapEnd, Wiring};
 use std::alloc::{AllocError, Global};
 use std::marker::Model;
+use text_graphs::{Edges, narrow};
 
 /// Rows of places, one for each activity.
 #[derive(Drop)]

@@ -3,8 +3,8 @@ use Rattle.std.specs.Prelude.{◌≡◌, ℕ, ◌==◌, ◌^◌, ◌≤◌, ◌&
 use Rattle.flow_model.specs.declared.graphs.Library.{Library}
 use Rattle.flow_model.specs.declared.graphs.Template.{Template}
 use Rattle.template_check.specs.Compiling.{IsNamedBy, IsMeantBy}
-use Rattle.template_check.specs.Imports.{IsIndexed}
-use Rattle.template_check.specs.declared.catalog.Catalog.{Catalog}
+use Rattle.process_rules.specs.Imports.{IsIndexed}
+use Rattle.process_rules.specs.declared.catalog.Catalog.{Catalog}
 use Rattle.template_check.specs.declared.faults.ImportFault.{ImportFault}
 use Rattle.template_check.specs.declared.faults.ImportFault.TheVariants.{Rule, NoMemory}
 use Rattle.template_check.specs.declared.compiling.Compiled.{Compiled}

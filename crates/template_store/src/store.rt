@@ -2,7 +2,7 @@
 ghost use Rattle.std.specs.Prelude.{◌≡◌, ◌-◌, ◌^◌, ◌<◌, ◌≤◌, ◌+◌, [], ◌++◌, min, length, slice_get, option_copied, Some, OnOk, IfOk, IfSome, ◌==◌, ◌&&◌, position, bytes_eq, true};
 ghost use Rattle.template_check.specs.Built.{AreSound, AreSoundBehind};
 ghost use Rattle.template_check.specs.Compiling.{IsNamedBy, IsMeantBy};
-ghost use Rattle.template_check.specs.Imports.{IsIndexed, newest_place, latest_person};
+ghost use Rattle.process_rules.specs.Imports.{IsIndexed, newest_place, latest_person};
 ghost use Rattle.template_check.specs.declared.compiling.Compiled.{Compiled as Added};
 ghost use Rattle.template_store.specs.Store.{version_place, with_compiled, is_refusal, AddsProcessesOf, IsSmall, KeepsIndex};
 

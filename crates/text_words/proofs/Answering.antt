@@ -21,12 +21,12 @@ use Rattle.flow_model.specs.declared.instances.Fact.{Fact}
 use Rattle.flow_model.specs.declared.instances.FateRow.{FateRow}
 use Rattle.flow_model.specs.declared.trees.ProcessTree.{ProcessTree}
 use Rattle.template_check.specs.Built.{AreSound}
-use Rattle.template_check.specs.Calling.{place_among, text_or}
+use Rattle.process_rules.specs.Calling.{place_among, text_or}
 use Rattle.template_check.specs.Compiling.{IsNamedBy}
-use Rattle.template_check.specs.Imports.{IsIndexed}
-use Rattle.template_check.specs.Knowing.{place_named, stored_named}
-use Rattle.template_check.specs.Texts.{processes_in}
-use Rattle.template_check.specs.declared.catalog.Catalog.{Catalog}
+use Rattle.process_rules.specs.Imports.{IsIndexed}
+use Rattle.process_rules.specs.Knowing.{place_named, stored_named}
+use Rattle.text_graphs.specs.Texts.{processes_in}
+use Rattle.process_rules.specs.declared.catalog.Catalog.{Catalog}
 use Rattle.template_store.specs.Store.{AddsProcessesOf}
 use Rattle.template_check.proofs.Together.{laid_together, well_together}
 use Rattle.text_words.specs.Answers.{Refuses}

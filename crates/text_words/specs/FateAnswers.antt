@@ -17,11 +17,11 @@ use Rattle.reply_text.specs.Replies.{row_text}
 use Rattle.text_words.specs.Answers.{Tells, Refuses, RefusesRule}
 use Rattle.template_check.specs.declared.faults.RuleFault.{RuleFault}
 use Rattle.template_check.specs.Built.{AreSound}
-use Rattle.template_check.specs.Calling.{before_this}
+use Rattle.process_rules.specs.Calling.{before_this}
 use Rattle.template_check.specs.Compiling.{HasTree, IsNamedBy}
-use Rattle.template_check.specs.Imports.{last_place}
+use Rattle.process_rules.specs.Imports.{last_place}
 use Rattle.template_check.specs.Meant.{Reading, AreMeantFrom}
-use Rattle.template_check.specs.Texts.{processes_in}
+use Rattle.text_graphs.specs.Texts.{processes_in}
 use Rattle.text_words.specs.declared.check.Answer.{Answer}
 use Rattle.text_words.specs.declared.completions.LineFault.{LineFault}
 use Rattle.text_words.specs.declared.completions.LineFault.TheVariants.{Word, Target, Value}

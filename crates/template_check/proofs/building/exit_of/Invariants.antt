@@ -1,5 +1,5 @@
 use Rattle.std.proofs.Common.{◌≡◌, drop}
-use Rattle.template_check.specs.Attributes.{first_said, exit_said}
+use Rattle.text_graphs.specs.Attributes.{first_said, exit_said}
 use Rattle.template_check.proofs.building.exit_of.Given as goal
 
 abbrev pub invariant-loop-attribute : goal.invariant-loop-attribute

@@ -1,13 +1,13 @@
 use Rattle.std.proofs.Common.{◌≡◌, ℕ, ◌+◌, List, take, length, Some, None, sym, ap, subst, ◌∙◌}
 use Rattle.flow_model.specs.declared.trees.ProcessTree.{ProcessTree}
 use Rattle.template_check.specs.Built.{IsSound}
-use Rattle.template_check.specs.Calling.{IsCalling}
+use Rattle.process_rules.specs.Calling.{IsCalling}
 use Rattle.template_check.specs.Meant.{AreMeantFrom, reading_of}
-use Rattle.template_check.specs.Texts.{process_of, processes_in}
+use Rattle.text_graphs.specs.Texts.{process_of, processes_in}
 use Rattle.template_check.proofs.Meaning.{kind_next, kind_past, meant_next}
 use Rattle.template_check.proofs.Calling.{sound_push}
 use Rattle.template_check.proofs.ProcessNames.{named_next, named_past}
-use Rattle.template_check.proofs.Judging.{all_kept}
+use Rattle.text_graphs.proofs.Judging.{all_kept}
 use Rattle.template_check.proofs.compiling.built.Goals as goal
 use Rattle.template_check.proofs.compiling.built.Goals.{in-Structure, in-Person+in_ok-person-in-Person+in_ok-push-in-Person, in-Process+in_ok-narrow-in-Process+in_ok-template-in-Process+in_ok-push-in-Process}
 

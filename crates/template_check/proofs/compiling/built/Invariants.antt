@@ -2,7 +2,7 @@ use Rattle.std.proofs.Common.{◌≡◌, length, take}
 use Rattle.template_check.specs.Built.{AreSoundBehind}
 use Rattle.template_check.specs.Compiling.{process_names, template_names}
 use Rattle.template_check.specs.Meant.{AreMeantFrom, reading_of}
-use Rattle.template_check.specs.Texts.{processes_in}
+use Rattle.text_graphs.specs.Texts.{processes_in}
 use Rattle.template_check.proofs.compiling.built.Given as goal
 
 abbrev pub invariant-loop-item : goal.invariant-loop-item

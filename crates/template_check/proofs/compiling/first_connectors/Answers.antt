@@ -1,5 +1,5 @@
 use Rattle.std.proofs.Common.{Some}
-use Rattle.template_check.specs.Connectors.{NamesNobody, IsDouble, IsEmptyGraph}
+use Rattle.connector_rules.specs.Connectors.{NamesNobody, IsDouble, IsEmptyGraph}
 use Rattle.template_check.proofs.Judgements.{in_text, stop_9, stop_10, stop_11, stop_12, pass_11}
 use Rattle.template_check.proofs.Passing.{connected, none_9, none_10, none_12, is_none, none_found, some_found}
 use Rattle.template_check.proofs.compiling.first_connectors.Goals as goal

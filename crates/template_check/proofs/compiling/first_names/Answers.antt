@@ -1,5 +1,5 @@
 use Rattle.std.proofs.Common.{Some}
-use Rattle.template_check.specs.Structures.{behind}
+use Rattle.leaf_rules.specs.Structures.{behind}
 use Rattle.template_check.proofs.Judgements.{none_below, stop_4, stop_5, stop_6, stop_7, stop_8, pass_7, pass_8}
 use Rattle.template_check.proofs.Passing.{names_apart, ends_found, twice_found, unknown_found, none_4, none_5, none_6, none_found, some_found}
 use Rattle.template_check.proofs.compiling.first_names.Goals as goal

@@ -1,4 +1,4 @@
-use Rattle.template_check.specs.Texts.{processes_in}
+use Rattle.text_graphs.specs.Texts.{processes_in}
 use Rattle.template_check.proofs.Together.{sound_text}
 use Rattle.template_check.proofs.compiling.judged_and_built.Goals as goal
 

@@ -1,5 +1,5 @@
-use Rattle.template_check.proofs.Judging.{never_cyclic}
-use Rattle.template_check.specs.ClosedWalks.{IsCyclic}
+use Rattle.text_graphs.proofs.Judging.{never_cyclic}
+use Rattle.text_graphs.specs.ClosedWalks.{IsCyclic}
 use Rattle.template_check.specs.Wires.{pairs_of}
 use Rattle.template_check.proofs.wires.order.Goals as goal
 

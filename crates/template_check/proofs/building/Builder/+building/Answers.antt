@@ -4,18 +4,18 @@ use Rattle.flow_model.specs.declared.graphs.Activity.{Activity}
 use Rattle.std.proofs.lemmas.List.Elements.{All-push}
 use Rattle.std.specs.List.{All}
 use Rattle.template_check.specs.Built.{IsSoundWork, IsSoundInside}
-use Rattle.template_check.specs.Calling.{place_behind, IsCallingWork}
-use Rattle.template_check.specs.ClosedWalks.{IsAcyclic}
-use Rattle.template_check.specs.Texts.{activity_of, activities_in, names_in, edges_in, IsJudged}
+use Rattle.process_rules.specs.Calling.{place_behind, IsCallingWork}
+use Rattle.text_graphs.specs.ClosedWalks.{IsAcyclic}
+use Rattle.text_graphs.specs.Texts.{activity_of, activities_in, names_in, edges_in, IsJudged}
 use Rattle.flow_model.specs.declared.trees.ActivityTree.{ActivityTree}
-use Rattle.template_check.specs.GraphTexts.{text_of}
+use Rattle.text_graphs.specs.GraphTexts.{text_of}
 use Rattle.template_check.specs.Meant.{AreParts, NoneLeft, IsOne, IsActivity, ProcessOf, MeantTo, reading_of}
 use Rattle.flow_model.specs.declared.trees.NameAt.{NameAt}
 use Rattle.std.proofs.lemmas.List.{take_all}
 use Rattle.template_check.proofs.Meaning.{parts_next, parts_all, kind_next, kind_past, text_same, graph_meant, block_meant}
 use Rattle.template_check.proofs.Calling.{built_calling}
 use Rattle.template_check.proofs.Laying.{within, built_sound, sound_here, sound_inside, as_many, named_next, named_past}
-use Rattle.template_check.proofs.Judging.{all_kept}
+use Rattle.text_graphs.proofs.Judging.{all_kept}
 use Rattle.template_check.proofs.building.Builder.+building.Goals as goal
 use Rattle.template_check.proofs.building.Builder.+building.Goals.{activities-in-Activity+in_ok-activity-in-Activity+in_ok-push-in-Activity, activities-in-Control, activities-in-Line}
 

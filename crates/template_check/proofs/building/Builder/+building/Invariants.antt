@@ -1,9 +1,9 @@
 use Rattle.std.proofs.Common.{◌≡◌, ℕ, map, take}
 use Rattle.std.specs.List.{All}
 use Rattle.template_check.specs.Built.{IsSoundWork}
-use Rattle.template_check.specs.Calling.{place_behind, IsCallingWork}
-use Rattle.template_check.specs.Texts.{names_in, activities_in}
-use Rattle.template_check.specs.GraphTexts.{text_of}
+use Rattle.process_rules.specs.Calling.{place_behind, IsCallingWork}
+use Rattle.text_graphs.specs.Texts.{names_in, activities_in}
+use Rattle.text_graphs.specs.GraphTexts.{text_of}
 use Rattle.template_check.specs.Meant.{AreParts, IsOne, IsActivity, MeantTo, reading_of}
 use Rattle.template_check.proofs.building.Builder.+building.Given as goal
 

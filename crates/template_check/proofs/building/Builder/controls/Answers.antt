@@ -1,12 +1,12 @@
 use Rattle.std.proofs.Common.{ℕ, refl, ap, ◌∙◌}
 use Rattle.std.proofs.lemmas.List.{map-append}
 use Rattle.flow_model.specs.declared.graphs.Control.{Control}
-use Rattle.template_check.specs.Leaves.{table_leaves}
+use Rattle.leaf_rules.specs.Leaves.{table_leaves}
 use Rattle.template_check.specs.Meant.{NoneLeft, IsOne, IsControl}
-use Rattle.template_check.specs.Texts.{edge_of, controls_in}
+use Rattle.text_graphs.specs.Texts.{edge_of, controls_in}
 use Rattle.template_check.specs.Wires.{pairs_of}
 use Rattle.template_check.proofs.Meaning.{parts_next, parts_all, seen_more, seen_all}
-use Rattle.template_check.proofs.Sorting.{chosen_next}
+use Rattle.text_graphs.proofs.Sorting.{chosen_next}
 use Rattle.template_check.proofs.building.Builder.controls.Goals as goal
 
 pub loop-control-init : goal.loop-control-init

@@ -1,8 +1,8 @@
 use Rattle.std.proofs.Common.{◌≡◌, map, take}
 use Rattle.std.specs.List.{filter_map}
-use Rattle.template_check.specs.Leaves.{table_leaves}
+use Rattle.leaf_rules.specs.Leaves.{table_leaves}
 use Rattle.template_check.specs.Meant.{AreParts, IsOne, IsControl}
-use Rattle.template_check.specs.Texts.{edge_of}
+use Rattle.text_graphs.specs.Texts.{edge_of}
 use Rattle.template_check.specs.Wires.{pairs_of}
 use Rattle.template_check.proofs.building.Builder.controls.Given as goal
 

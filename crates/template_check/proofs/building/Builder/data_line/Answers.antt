@@ -1,6 +1,6 @@
 use Rattle.std.proofs.Common.{sym}
-use Rattle.template_check.specs.GraphTexts.{text_of}
-use Rattle.template_check.specs.Leaves.{table_leaves}
+use Rattle.text_graphs.specs.GraphTexts.{text_of}
+use Rattle.leaf_rules.specs.Leaves.{table_leaves}
 use Rattle.template_check.proofs.Laying.{drawn}
 use Rattle.template_check.proofs.Resolutions.{data_made}
 use Rattle.template_check.proofs.building.Builder.data_line.Goals as goal

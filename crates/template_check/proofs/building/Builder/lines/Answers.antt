@@ -2,11 +2,11 @@ use Rattle.std.proofs.Common.{Option, arith, subst}
 use Rattle.std.proofs.lemmas.List.Elements.{All-push}
 use Rattle.flow_model.specs.declared.graphs.DataLine.{DataLine}
 use Rattle.template_check.specs.Built.{IsDrawn}
-use Rattle.template_check.specs.GraphTexts.{text_of}
-use Rattle.template_check.specs.Leaves.{table_leaves}
+use Rattle.text_graphs.specs.GraphTexts.{text_of}
+use Rattle.leaf_rules.specs.Leaves.{table_leaves}
 use Rattle.template_check.specs.Meant.{NoneLeft, IsDataLine}
-use Rattle.template_check.specs.Texts.{lines_in, IsLineAlong}
-use Rattle.template_check.proofs.Judging.{read_behind}
+use Rattle.text_graphs.specs.Texts.{lines_in, IsLineAlong}
+use Rattle.text_graphs.proofs.Judging.{read_behind}
 use Rattle.template_check.proofs.Meaning.{parts_next, parts_past, parts_all, seen_more, seen_all}
 use Rattle.template_check.proofs.building.Builder.lines.Goals as goal
 use Rattle.template_check.proofs.building.Builder.lines.Goals.{in-None, in-Some+in_ok-push-in-Some}

@@ -1,8 +1,8 @@
 use Rattle.std.proofs.Common.{map, take}
 use Rattle.std.specs.List.{All}
 use Rattle.template_check.specs.Built.{IsDrawn}
-use Rattle.template_check.specs.GraphTexts.{text_of}
-use Rattle.template_check.specs.Leaves.{table_leaves}
+use Rattle.text_graphs.specs.GraphTexts.{text_of}
+use Rattle.leaf_rules.specs.Leaves.{table_leaves}
 use Rattle.template_check.specs.Meant.{AreParts, IsDataLine}
 use Rattle.template_check.proofs.building.Builder.lines.Given as goal
 

@@ -1,8 +1,8 @@
 use Rattle.std.proofs.Common.{sym}
-use Rattle.template_check.specs.GraphTexts.{text_of}
-use Rattle.template_check.specs.Leaves.{table_leaves}
-use Rattle.template_check.specs.Texts.{activities_in}
-use Rattle.template_check.proofs.Naming.{first_below}
+use Rattle.text_graphs.specs.GraphTexts.{text_of}
+use Rattle.leaf_rules.specs.Leaves.{table_leaves}
+use Rattle.text_graphs.specs.Texts.{activities_in}
+use Rattle.text_graphs.proofs.Naming.{first_below}
 use Rattle.template_check.proofs.Resolutions.{round_made}
 use Rattle.template_check.proofs.building.Builder.loop_line.Goals as goal
 

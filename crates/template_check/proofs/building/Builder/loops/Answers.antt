@@ -1,10 +1,10 @@
 use Rattle.std.proofs.Common.{◌<◌, Option, length, arith, subst}
 use Rattle.std.proofs.lemmas.List.Elements.{All-push}
 use Rattle.flow_model.specs.declared.graphs.LoopLine.{LoopLine}
-use Rattle.template_check.specs.GraphTexts.{text_of}
-use Rattle.template_check.specs.Leaves.{table_leaves}
+use Rattle.text_graphs.specs.GraphTexts.{text_of}
+use Rattle.leaf_rules.specs.Leaves.{table_leaves}
 use Rattle.template_check.specs.Meant.{NoneLeft, IsLoopLine}
-use Rattle.template_check.specs.Texts.{activities_in, lines_in}
+use Rattle.text_graphs.specs.Texts.{activities_in, lines_in}
 use Rattle.template_check.proofs.Meaning.{parts_next, parts_past, parts_all, seen_more, seen_all}
 use Rattle.template_check.proofs.building.Builder.loops.Goals as goal
 use Rattle.template_check.proofs.building.Builder.loops.Goals.{in-None, in-Some+in_ok-push-in-Some}

@@ -1,9 +1,9 @@
 use Rattle.std.proofs.Common.{◌<◌, length, map, take}
 use Rattle.std.specs.List.{All}
-use Rattle.template_check.specs.GraphTexts.{text_of}
-use Rattle.template_check.specs.Leaves.{table_leaves}
+use Rattle.text_graphs.specs.GraphTexts.{text_of}
+use Rattle.leaf_rules.specs.Leaves.{table_leaves}
 use Rattle.template_check.specs.Meant.{AreParts, IsLoopLine}
-use Rattle.template_check.specs.Texts.{activities_in}
+use Rattle.text_graphs.specs.Texts.{activities_in}
 use Rattle.template_check.proofs.building.Builder.loops.Given as goal
 
 abbrev pub invariant-loop-line : goal.invariant-loop-line

@@ -1,0 +1,8 @@
+use Rattle.std.proofs.Common.{take}
+use Rattle.connector_rules.specs.Connectors.{IsDouble}
+use Rattle.text_graphs.specs.Graphs.{graph_at}
+use Rattle.text_graphs.specs.Places.{IsLeastOf, AnyAt}
+use Rattle.connector_rules.proofs.connectors.double_connector.Given as goal
+
+abbrev pub invariant-loop-scope : goal.invariant-loop-scope
+invariant-loop-scope l = IsLeastOf (AnyAt (λ s. IsDouble (graph_at s)) (take l.scope-index l.scopes)) l.least

@@ -1,0 +1,2 @@
+pub mod Connectors
+pub mod EdgesMet

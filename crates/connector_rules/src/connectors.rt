@@ -1,0 +1,328 @@
+//! Rules 9 to 12, 15 and 16: connectors and data lines as edges of their graph.
+ghost use Rattle.std.specs.Prelude.{◌≡◌, ◌<◌, ℕ, List, [], ◌∷◌, ◌++◌, None, false, true, IfOk, OnOk};
+ghost use Rattle.std.specs.List.{All};
+ghost use Rattle.flow_model.specs.declared.trees.ControlTree.{ControlTree};
+ghost use Rattle.text_graphs.specs.Graphs.{graph_at};
+ghost use Rattle.connector_rules.specs.Connectors.{IsNobody, IsLoose, IsEndNobody, AreEndsNobody, NamesNobody, IsDouble, IsEmptyGraph};
+ghost use Rattle.connector_rules.specs.EdgesMet.{AreEdgesMet};
+ghost use Rattle.text_graphs.specs.Places.{IsLeastOf, AnyAt};
+ghost use Rattle.graph_check.specs.Walks.{Reaches};
+ghost use Rattle.text_graphs.specs.ClosedWalks.{IsAcyclic};
+ghost use Rattle.text_graphs.specs.GraphEdges.{AreEdgesOf, AreKnown};
+ghost use Rattle.text_graphs.specs.Texts.{controls_in, lines_in, edges_in, line_edge, IsNotClosing, IsLineAlong};
+
+use flow_model::{ControlTree, DataTree, EndTree, EndsTree, NameAt, WhenTree};
+use indexmap::{IndexMap, IndexSet};
+use std::alloc::{AllocError, Global};
+use text_graphs::{Edges, Scope, is_marked, lesser};
+
+/// The place of a name that is no activity's of the graph.
+fn unknown<'a>(scope: &Scope<'a>, name: &'a NameAt) -> Option<u32>
+    ensures { IsLeastOf (IsNobody scope.now.elements.now name.now) result }
+{
+    match scope.number(name) {
+        Some(_) => None,
+        None => Some(name.place),
+    }
+}
+
+fn unknown_end<'a>(scope: &Scope<'a>, end: &'a EndTree) -> Option<u32>
+    ensures { IsLeastOf (IsEndNobody scope.now.elements.now end.now) result }
+{
+    match end {
+        EndTree::Border => None,
+        EndTree::Activity(name) => unknown(scope, name),
+    }
+}
+
+fn unknown_ends<'a>(scope: &Scope<'a>, ends: &'a EndsTree) -> Option<u32>
+    ensures { IsLeastOf (AreEndsNobody scope.now.elements.now ends.now) result }
+{
+    match ends {
+        EndsTree::Line(from, to) => lesser(unknown_end(scope, from), unknown_end(scope, to)),
+        EndsTree::Loop(name) => unknown(scope, name),
+    }
+}
+
+fn unknown_in_control<'a>(scope: &Scope<'a>, control: &'a ControlTree) -> Option<u32>
+    ensures { IsLeastOf (IsLoose scope.now.elements.now control.now) result }
+{
+    lesser(unknown(scope, &control.from), unknown(scope, &control.to))
+}
+
+fn unknown_in_controls(scope: &Scope<'_>) -> Option<u32>
+    ensures { IsLeastOf (AnyAt (IsLoose scope.now.elements.now) (controls_in scope.now.elements.now)) result }
+{
+    let mut least = None;
+    for control in &scope.controls {
+        least = lesser(least, unknown_in_control(scope, control));
+    }
+    least
+}
+
+fn unknown_in_lines(scope: &Scope<'_>) -> Option<u32>
+    ensures { IsLeastOf (AnyAt (λ l. AreEndsNobody scope.now.elements.now l.ends) (lines_in scope.now.elements.now)) result }
+{
+    let mut least = None;
+    for line in &scope.lines {
+        least = lesser(least, unknown_ends(scope, &line.ends));
+    }
+    least
+}
+
+fn unknown_in_graph(scope: &Scope<'_>) -> Option<u32>
+    ensures { IsLeastOf (NamesNobody (graph_at scope.now)) result }
+{
+    lesser(unknown_in_controls(scope), unknown_in_lines(scope))
+}
+
+/// Rule 9: a CONTROL or DATA line names no activity of its own graph.
+pub fn unknown_activity(scopes: &[Scope<'_>]) -> Option<u32>
+    ensures { IsLeastOf (AnyAt (λ s. NamesNobody (graph_at s)) scopes.now) result }
+{
+    let mut least = None;
+    for scope in scopes {
+        least = lesser(least, unknown_in_graph(scope));
+    }
+    least
+}
+
+/// The ends of the connectors that were met, to find the least place of one that comes again.
+#[derive(Drop)]
+struct Doubles {
+    met: IndexSet<(u32, u32)>,
+    first: Option<u32>,
+}
+
+impl Doubles {
+    fn new<'a>(alloc: Global, scope: &Scope<'a>) -> Doubles
+        ensures { AreEdgesMet scope.now.elements.now result [] }
+    {
+        Doubles {
+            met: IndexSet::new(alloc),
+            first: None,
+        }
+    }
+
+    /// Meets a connector.
+    fn meet<'a>(&mut self, scope: &Scope<'a>, control: &'a ControlTree) -> Result<(), AllocError>
+        ensures { OnOk result ((controls : List ControlTree) → AreEdgesMet scope.now.elements.now self.old controls → AreEdgesMet scope.now.elements.now self.new (controls ++ control.now ∷ [])) }
+    {
+        match scope.ends(&control.from, &control.to) {
+            None => Ok(()),
+            Some(ends) => {
+                let (_place, is_new) = self.met.insert_full(ends)?;
+                if is_new {
+                    return Ok(());
+                }
+                self.first = lesser(self.first, Some(control.place));
+                Ok(())
+            }
+        }
+    }
+}
+
+fn double_in_graph(alloc: Global, scope: &Scope<'_>) -> Result<Option<u32>, AllocError>
+    ensures { IfOk result (IsLeastOf (IsDouble (graph_at scope.now))) }
+{
+    let mut doubles = Doubles::new(alloc, scope);
+    for control in &scope.controls {
+        doubles.meet(scope, control)?;
+    }
+    Ok(doubles.first)
+}
+
+/// Rule 10: an earlier CONTROL of the graph has the same source and target.
+pub fn double_connector(alloc: Global, scopes: &[Scope<'_>]) -> Result<Option<u32>, AllocError>
+    ensures { IfOk result (IsLeastOf (AnyAt (λ s. IsDouble (graph_at s)) scopes.now)) }
+{
+    let mut least = None;
+    for scope in scopes {
+        least = lesser(least, double_in_graph(alloc, scope)?);
+    }
+    Ok(least)
+}
+
+/// Whether a connector lies on a closed walk.
+fn closes_walk<'a>(
+    alloc: Global,
+    scope: &Scope<'a>,
+    edges: &Edges,
+    control: &'a ControlTree,
+) -> Result<bool, AllocError>
+    requires { AreEdgesOf scope.now.elements.now edges.now }
+    ensures { IfOk result (λ yes. yes ≡ false → IsNotClosing scope.now.elements.now control.now) }
+{
+    match scope.ends(&control.from, &control.to) {
+        None => Ok(false),
+        Some((from, to)) => {
+            let seen = edges.reaching(alloc, from)?;
+            Ok(is_marked(&seen, to))
+        }
+    }
+}
+
+/// Rule 11: a CONTROL lies on a closed walk of its graph.
+pub fn cycle(alloc: Global, scope: &Scope<'_>) -> Result<Option<u32>, AllocError>
+    ensures { IfOk result (λ place. place ≡ None → IsAcyclic (edges_in scope.now.elements.now)) }
+{
+    let edges = scope.edges(alloc)?;
+    if edges.order(alloc)?.is_some() {
+        return Ok(None);
+    }
+    for control in &scope.controls {
+        if closes_walk(alloc, scope, &edges, control)? {
+            return Ok(Some(control.place));
+        }
+    }
+    Ok(None)
+}
+
+fn empty(scope: &Scope<'_>) -> Option<u32>
+    ensures { IsLeastOf (IsEmptyGraph (graph_at scope.now)) result }
+{
+    if scope.activities.is_empty() {
+        Some(scope.place)
+    } else {
+        None
+    }
+}
+
+/// Rule 12: a PROCESS or BLOCK has no activity.
+pub fn empty_graph(scopes: &[Scope<'_>]) -> Option<u32>
+    ensures { IsLeastOf (AnyAt (λ s. IsEmptyGraph (graph_at s)) scopes.now) result }
+{
+    let mut least = None;
+    for scope in scopes {
+        least = lesser(least, empty(scope));
+    }
+    least
+}
+
+fn is_otherwise(control: &ControlTree) -> bool {
+    matches!(control.when, WhenTree::Otherwise)
+}
+
+/// The activities that have a CONTROL with WHEN.
+fn tested_sources(alloc: Global, scope: &Scope<'_>) -> Result<IndexSet<u32>, AllocError> {
+    let mut sources = IndexSet::new(alloc);
+    for control in &scope.controls {
+        if let WhenTree::Cond(_) = &control.when {
+            if let Some(from) = scope.number(&control.from) {
+                sources.insert_full(from)?;
+            }
+        }
+    }
+    Ok(sources)
+}
+
+/// Rule 15: an OTHERWISE whose source has an earlier one, or no CONTROL with WHEN.
+pub fn otherwise(alloc: Global, scope: &Scope<'_>) -> Result<Option<u32>, AllocError> {
+    let tested = tested_sources(alloc, scope)?;
+    let mut met = IndexSet::new(alloc);
+    for control in &scope.controls {
+        if is_otherwise(control) {
+            if let Some(from) = scope.number(&control.from) {
+                let (_place, is_new) = met.insert_full(from)?;
+                if !is_new || !tested.contains(&from) {
+                    return Ok(Some(control.place));
+                }
+            }
+        }
+    }
+    Ok(None)
+}
+
+/// The numbers of the two activities of a DATA line between activities.
+fn line_ends<'a>(scope: &Scope<'a>, ends: &'a EndsTree) -> Option<(u32, u32)>
+    ensures { result ≡ line_edge scope.now.elements.now ends.now }
+{
+    match ends {
+        EndsTree::Line(from, to) => match from {
+            EndTree::Border => None,
+            EndTree::Activity(from) => match to {
+                EndTree::Border => None,
+                EndTree::Activity(to) => scope.ends(from, to),
+            },
+        },
+        EndsTree::Loop(_) => None,
+    }
+}
+
+/// From which activities of a graph walks lead to others, as far as was asked.
+#[derive(Drop)]
+struct Walks {
+    edges: Edges,
+    known: IndexMap<u32, Vec<bool>>,
+}
+
+impl Walks {
+    fn new(alloc: Global, edges: Edges) -> Walks
+        ensures edges { result.edges ≡ edges }
+        ensures known { AreKnown result.edges result.known }
+    {
+        Walks {
+            edges,
+            known: IndexMap::new(alloc),
+        }
+    }
+
+    /// Sees to it that the walks to an activity are known.
+    fn learn(&mut self, alloc: Global, to: u32) -> Result<(), AllocError>
+        requires { AreKnown self.old.edges self.old.known }
+        ensures edges { self.new.edges ≡ self.old.edges }
+        ensures known { OnOk result (AreKnown self.new.edges self.new.known) }
+    {
+        if !self.known.contains_key(&to) {
+            let seen = self.edges.reaching(alloc, to)?;
+            self.known.insert(to, seen)?;
+        }
+        Ok(())
+    }
+
+    /// Whether a walk is known that leads from one activity to another.
+    fn lead(&self, from: u32, to: u32) -> bool
+        requires { AreKnown self.now.edges self.now.known }
+        ensures { result ≡ true → from < self.now.edges.nodes → to < self.now.edges.nodes → Reaches self.now.edges.pairs.items from to }
+    {
+        match self.known.get(&to) {
+            Some(seen) => is_marked(seen, from),
+            None => false,
+        }
+    }
+
+    /// Whether a DATA line between two activities goes along a walk; true of other lines.
+    fn has_line<'a>(
+        &mut self,
+        alloc: Global,
+        scope: &Scope<'a>,
+        line: &'a DataTree,
+    ) -> Result<bool, AllocError>
+        requires edges { AreEdgesOf scope.now.elements.now self.old.edges }
+        requires known { AreKnown self.old.edges self.old.known }
+        ensures edges { self.new.edges ≡ self.old.edges }
+        ensures known { OnOk result (AreKnown self.new.edges self.new.known) }
+        ensures along { IfOk result (λ yes. yes ≡ true → IsLineAlong scope.now.elements.now line.now) }
+    {
+        match line_ends(scope, &line.ends) {
+            None => Ok(true),
+            Some((from, to)) => {
+                self.learn(alloc, to)?;
+                Ok(self.lead(from, to))
+            }
+        }
+    }
+}
+
+/// Rule 16: a DATA line between two activities whose target isn't reachable from the source.
+pub fn unreachable_data(alloc: Global, scope: &Scope<'_>) -> Result<Option<u32>, AllocError>
+    ensures { IfOk result (λ place. place ≡ None → All (IsLineAlong scope.now.elements.now) (lines_in scope.now.elements.now)) }
+{
+    let mut walks = Walks::new(alloc, scope.edges(alloc)?);
+    for line in &scope.lines {
+        if !walks.has_line(alloc, scope, line)? {
+            return Ok(Some(line.place));
+        }
+    }
+    Ok(None)
+}

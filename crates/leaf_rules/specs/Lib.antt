@@ -1,0 +1,3 @@
+pub mod ReturnCodes
+pub mod Leaves
+pub mod Structures

@@ -1,0 +1,12 @@
+//! Which leaves do the structures of a text have, and do its conditions and maps fit them (rules 6 to 8, 13 and 14)?
+//!
+//! Knows structures and the graphs of a text; never libraries or people. Begin with [`Structures`].
+#![tactic(auto)]
+
+mod forms;
+mod members;
+mod structures;
+
+pub use forms::{StructureLeaves, leaves_copy};
+pub use members::{LeafTable, Search, leaf_fault};
+pub use structures::Structures;

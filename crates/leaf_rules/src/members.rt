@@ -1,0 +1,266 @@
+//! Rules 13 and 14: the leaves that conditions and maps read and write, and their kinds.
+ghost use Rattle.std.specs.Prelude.{◌≡◌, ◌<◌, ◌^◌, length, IfSome, option_map};
+ghost use Rattle.leaf_rules.specs.Leaves.{with_code, table_leaves, input_leaves, output_leaves, source_leaves, target_leaves, line_source, line_target};
+ghost use Rattle.text_graphs.specs.GraphTexts.{text_of};
+
+use crate::forms::{StructureLeaves, both_forms};
+use crate::structures::Structures;
+use conditions::{first_mismatch, first_unknown};
+use containers::find_leaf;
+use flow_model::{
+    AttrTree, Cond, ControlTree, DataTree, EndTree, EndsTree, Kind, LeafAt, Leaves, MapTree,
+    NameAt, WhenTree,
+};
+use indexmap::IndexMap;
+use std::alloc::{AllocError, Global};
+use text_graphs::{Scope, lesser};
+
+/// The leaves of the structures that containers of a text have, with `_RC` and without, each made once.
+#[derive(Drop)]
+pub struct LeafTable<'a> {
+    structures: Structures<'a>,
+    leaves: IndexMap<&'a [u8], StructureLeaves>,
+}
+
+impl<'a> LeafTable<'a> {
+    /// The leaves that the containers of these graphs have.
+    pub fn new(
+        alloc: Global,
+        structures: Structures<'a>,
+        scopes: &[Scope<'a>],
+    ) -> Result<LeafTable<'a>, AllocError> {
+        let mut table = LeafTable {
+            structures,
+            leaves: IndexMap::new(alloc),
+        };
+        for scope in scopes {
+            table.add_scope(alloc, scope)?;
+        }
+        Ok(table)
+    }
+
+    fn add_scope(&mut self, alloc: Global, scope: &Scope<'a>) -> Result<(), AllocError> {
+        self.add(alloc, scope.input)?;
+        self.add(alloc, scope.output)?;
+        for activity in &scope.activities {
+            self.add(alloc, &activity.input)?;
+            self.add(alloc, &activity.output)?;
+        }
+        Ok(())
+    }
+
+    fn add(&mut self, alloc: Global, name: &'a NameAt) -> Result<(), AllocError> {
+        let key = name.name.as_slice();
+        if self.structures.number(name).is_some() && !self.leaves.contains_key(&key) {
+            let plain = self.structures.leaves(alloc, name)?;
+            self.leaves.insert(key, both_forms(alloc, plain)?)?;
+        }
+        Ok(())
+    }
+
+    /// The structures of the text.
+    pub fn structures(&self) -> &Structures<'a> {
+        &self.structures
+    }
+
+    /// The leaves of a structure, without `_RC`.
+    pub fn plain(&self, name: &'a NameAt) -> Option<&Leaves>
+        ensures leaves { option_map (λ l. l.now.leaves) result ≡ table_leaves self.now name.now.name }
+        ensures few { IfSome result (λ l. length l.now.leaves < 2 ^ 32) }
+    {
+        match self.leaves.get(&name.name.as_slice()) {
+            None => None,
+            Some(found) => Some(&found.plain),
+        }
+    }
+
+    /// The leaves of an activity's output structure, with `_RC` before them.
+    pub fn coded(&self, name: &'a NameAt) -> Option<&Leaves>
+        ensures leaves { option_map (λ l. l.now.leaves) result ≡ with_code (table_leaves self.now name.now.name) }
+        ensures few { IfSome result (λ l. length l.now.leaves < 2 ^ 32) }
+    {
+        match self.leaves.get(&name.name.as_slice()) {
+            None => None,
+            Some(found) => Some(&found.coded),
+        }
+    }
+
+    /// The leaves of the output of the activity of this name.
+    fn output_of(&self, scope: &Scope<'a>, name: &'a NameAt) -> Option<&Leaves>
+        ensures leaves { option_map (λ l. l.now.leaves) result ≡ output_leaves (table_leaves self.now) scope.now.elements.now name.now.name }
+        ensures few { IfSome result (λ l. length l.now.leaves < 2 ^ 32) }
+    {
+        match scope.activity(name) {
+            None => None,
+            Some(activity) => self.coded(&activity.output),
+        }
+    }
+
+    /// The leaves of the input of the activity of this name.
+    fn input_of(&self, scope: &Scope<'a>, name: &'a NameAt) -> Option<&Leaves>
+        ensures leaves { option_map (λ l. l.now.leaves) result ≡ input_leaves (table_leaves self.now) scope.now.elements.now name.now.name }
+        ensures few { IfSome result (λ l. length l.now.leaves < 2 ^ 32) }
+    {
+        match scope.activity(name) {
+            None => None,
+            Some(activity) => self.plain(&activity.input),
+        }
+    }
+
+    /// The leaves that a DATA line reads.
+    fn source(&self, scope: &Scope<'a>, end: &'a EndTree) -> Option<&Leaves>
+        ensures leaves { option_map (λ l. l.now.leaves) result ≡ source_leaves (table_leaves self.now) (text_of scope.now) end.now }
+        ensures few { IfSome result (λ l. length l.now.leaves < 2 ^ 32) }
+    {
+        match end {
+            EndTree::Border => self.plain(scope.input),
+            EndTree::Activity(name) => self.output_of(scope, name),
+        }
+    }
+
+    /// The leaves that a DATA line writes.
+    fn target(&self, scope: &Scope<'a>, end: &'a EndTree) -> Option<&Leaves>
+        ensures leaves { option_map (λ l. l.now.leaves) result ≡ target_leaves (table_leaves self.now) (text_of scope.now) end.now }
+        ensures few { IfSome result (λ l. length l.now.leaves < 2 ^ 32) }
+    {
+        match end {
+            EndTree::Border => self.plain(scope.output),
+            EndTree::Activity(name) => self.input_of(scope, name),
+        }
+    }
+
+    /// The leaves that a line reads.
+    pub fn line_source(&self, scope: &Scope<'a>, ends: &'a EndsTree) -> Option<&Leaves>
+        ensures leaves { option_map (λ l. l.now.leaves) result ≡ line_source (table_leaves self.now) (text_of scope.now) ends.now }
+        ensures few { IfSome result (λ l. length l.now.leaves < 2 ^ 32) }
+    {
+        match ends {
+            EndsTree::Line(from, _) => self.source(scope, from),
+            EndsTree::Loop(name) => self.output_of(scope, name),
+        }
+    }
+
+    /// The leaves that a line writes.
+    pub fn line_target(&self, scope: &Scope<'a>, ends: &'a EndsTree) -> Option<&Leaves>
+        ensures leaves { option_map (λ l. l.now.leaves) result ≡ line_target (table_leaves self.now) (text_of scope.now) ends.now }
+        ensures few { IfSome result (λ l. length l.now.leaves < 2 ^ 32) }
+    {
+        match ends {
+            EndsTree::Line(_, to) => self.target(scope, to),
+            EndsTree::Loop(name) => self.input_of(scope, name),
+        }
+    }
+
+    /// The leaves that a transition condition reads.
+    pub fn connector_leaves(&self, scope: &Scope<'a>, control: &'a ControlTree) -> Option<&Leaves>
+        ensures leaves { option_map (λ l. l.now.leaves) result ≡ output_leaves (table_leaves self.now) scope.now.elements.now control.now.from.name }
+        ensures few { IfSome result (λ l. length l.now.leaves < 2 ^ 32) }
+    {
+        self.output_of(scope, &control.from)
+    }
+}
+
+/// What a rule looks for in a condition.
+#[derive(Clone, Copy, Debug, PartialEq, Eq)]
+pub enum Search {
+    /// A leaf that isn't there.
+    Unknown,
+    /// Kinds that don't fit.
+    Mismatch,
+}
+
+fn cond_fault(search: Search, cond: &Cond, leaves: &Leaves) -> Option<u32> {
+    match search {
+        Search::Unknown => first_unknown(cond, leaves),
+        Search::Mismatch => first_mismatch(cond, leaves),
+    }
+}
+
+/// The place of a leaf that isn't one of these.
+fn unknown_leaf(leaves: &Leaves, leaf: &LeafAt) -> Option<u32> {
+    match find_leaf(leaves, leaf) {
+        Some(_) => None,
+        None => Some(leaf.place),
+    }
+}
+
+fn kind_of(leaves: &Leaves, leaf: &LeafAt) -> Option<Kind> {
+    let place = find_leaf(leaves, leaf)?;
+    let found = leaves.leaves.as_slice().get(place as usize)?;
+    Some(found.kind)
+}
+
+fn map_fault(search: Search, map: &MapTree, from: &Leaves, to: &Leaves) -> Option<u32> {
+    match search {
+        Search::Unknown => lesser(unknown_leaf(from, &map.from), unknown_leaf(to, &map.to)),
+        Search::Mismatch => {
+            if kind_of(from, &map.from) == kind_of(to, &map.to) {
+                None
+            } else {
+                Some(map.to.place)
+            }
+        }
+    }
+}
+
+fn line_fault<'a>(
+    search: Search,
+    table: &LeafTable<'a>,
+    scope: &Scope<'a>,
+    line: &'a DataTree,
+) -> Option<u32> {
+    let from = table.line_source(scope, &line.ends)?;
+    let to = table.line_target(scope, &line.ends)?;
+    let mut least = None;
+    for map in line.maps.as_slice() {
+        least = lesser(least, map_fault(search, map, from, to));
+    }
+    least
+}
+
+fn connector_fault<'a>(
+    search: Search,
+    table: &LeafTable<'a>,
+    scope: &Scope<'a>,
+    control: &'a ControlTree,
+) -> Option<u32> {
+    let WhenTree::Cond(cond) = &control.when else {
+        return None;
+    };
+    cond_fault(search, &cond.cond, table.connector_leaves(scope, control)?)
+}
+
+fn exit_fault<'a>(
+    search: Search,
+    table: &LeafTable<'a>,
+    output: &'a NameAt,
+    what: &AttrTree,
+) -> Option<u32> {
+    let AttrTree::Exit(cond) = what else {
+        return None;
+    };
+    cond_fault(search, &cond.cond, table.coded(output)?)
+}
+
+fn exit_faults<'a>(search: Search, table: &LeafTable<'a>, scope: &Scope<'a>) -> Option<u32> {
+    let mut least = None;
+    for activity in &scope.activities {
+        for attribute in activity.attrs.as_slice() {
+            let fault = exit_fault(search, table, &activity.output, &attribute.what);
+            least = lesser(least, fault);
+        }
+    }
+    least
+}
+
+/// Rule 13 or 14: the first place of a graph where its search finds something.
+pub fn leaf_fault<'a>(search: Search, table: &LeafTable<'a>, scope: &Scope<'a>) -> Option<u32> {
+    let mut least = exit_faults(search, table, scope);
+    for control in &scope.controls {
+        least = lesser(least, connector_fault(search, table, scope, control));
+    }
+    for line in &scope.lines {
+        least = lesser(least, line_fault(search, table, scope, line));
+    }
+    least
+}

@@ -1,0 +1,407 @@
+//! The structures of a text with their leaves, and rules 6, 7 and 8 on them.
+ghost use Rattle.std.specs.Prelude.{◌≡◌, ◌⊎◌, map, IfOk};
+ghost use Rattle.text_graphs.specs.Graphs.{graph_at};
+ghost use Rattle.text_graphs.specs.Places.{IsLeastOf, AnyAt};
+ghost use Rattle.leaf_rules.specs.Structures.{AreStructuresNumbered, behind, structure_in, IsNoStructure, IsNoKind, AreNoKinds, AreNoContainers, AreNoContainersIn, NamesNoStructure};
+ghost use Rattle.text_graphs.specs.Texts.{activities_in, structures_in};
+
+use flow_model::{
+    ItemTree, Kind, KindTree, Leaf, LeafName, Leaves, List, Member, NameAt, Step, StructDef, Tree,
+};
+use indexmap::IndexMap;
+use std::alloc::{AllocError, Global};
+use text_graphs::{Edges, Scope, lesser, narrow, small};
+
+/// No structure has more leaves.
+const MOST_LEAVES: u64 = 512;
+
+/// The structures of a text, by name.
+#[derive(Drop)]
+pub struct Structures<'a> {
+    definitions: Vec<&'a StructDef>,
+    numbers: IndexMap<&'a [u8], u32>,
+    /// The number of leaves of each; none where structures lead back to themselves.
+    counts: Vec<u64>,
+    ghost numbered: { AreStructuresNumbered (map (λ s. s.now) definitions.items) numbers },
+}
+
+/// Where a walk over the leaves stands in one structure.
+#[derive(Clone, Copy)]
+struct Visit {
+    structure: u32,
+    member: usize,
+    /// How many elements of the member were begun.
+    begun: u64,
+}
+
+/// How many elements a member has.
+fn element_count(member: &Member) -> u64 {
+    match &member.count {
+        Some(count) => count.size,
+        None => 1,
+    }
+}
+
+/// The structures of a text, in order.
+fn structures_of<'a>(alloc: Global, items: &'a [ItemTree]) -> Result<Vec<&'a StructDef>, AllocError>
+    ensures { IfOk result (λ found. map (λ s. s.now) found.items ≡ structures_in items.now) }
+{
+    let mut structures = Vec::new(alloc);
+    for item in items {
+        match item {
+            ItemTree::Structure(structure) => structures.push(structure)?,
+            ItemTree::Person(_) => {}
+            ItemTree::Process(_) => {}
+        }
+    }
+    Ok(structures)
+}
+
+/// The number of each name; of two structures of one name the first has it.
+fn numbers_of<'a>(
+    alloc: Global,
+    structures: &[&'a StructDef],
+) -> Result<IndexMap<&'a [u8], u32>, AllocError>
+    ensures { IfOk result (λ numbers. AreStructuresNumbered (map (λ s. s.now) structures.now) numbers) }
+{
+    let mut numbers: IndexMap<&'a [u8], u32> = IndexMap::new(alloc);
+    for (i, structure) in structures.iter().enumerate() {
+        let name = structure.name.name.as_slice();
+        if !numbers.contains_key(&name) {
+            numbers.insert(name, narrow(i)?)?;
+        }
+    }
+    Ok(numbers)
+}
+
+impl<'a> Structures<'a> {
+    /// The structures of a text; of two of one name the first counts.
+    pub fn new(alloc: Global, tree: &'a Tree) -> Result<Structures<'a>, AllocError>
+        ensures { IfOk result (λ known. behind known.definitions.items ≡ structures_in tree.now.items) }
+    {
+        let definitions = structures_of(alloc, tree.items.as_slice())?;
+        let numbers = numbers_of(alloc, &definitions)?;
+        Ok(Structures {
+            definitions,
+            numbers,
+            counts: Vec::new(alloc),
+        })
+    }
+
+    /// The number of the structure of this name.
+    pub fn number(&self, name: &'a NameAt) -> Option<u32>
+        ensures { result ≡ structure_in (behind self.now.definitions.items) name.now.name }
+    {
+        self.numbers.get(&name.name.as_slice()).copied()
+    }
+
+    /// The place of a name that names no structure.
+    fn unknown(&self, name: &'a NameAt) -> Option<u32>
+        ensures { IsLeastOf (IsNoStructure (behind self.now.definitions.items) name.now) result }
+    {
+        match self.number(name) {
+            Some(_) => None,
+            None => Some(name.place),
+        }
+    }
+
+    fn unknown_kind(&self, kind: &'a KindTree) -> Option<u32>
+        ensures { IsLeastOf (IsNoKind (behind self.now.definitions.items) kind.now) result }
+    {
+        match kind {
+            KindTree::Long => None,
+            KindTree::Str => None,
+            KindTree::Struct(name) => self.unknown(name),
+        }
+    }
+
+    fn unknown_member(&self, structure: &'a StructDef) -> Option<u32>
+        ensures { IsLeastOf (AreNoKinds (behind self.now.definitions.items) structure.now) result }
+    {
+        let mut least = None;
+        for member in structure.members.as_slice() {
+            least = lesser(least, self.unknown_kind(&member.kind));
+        }
+        least
+    }
+
+    fn unknown_members(&self) -> Option<u32>
+        ensures { IsLeastOf (AnyAt (AreNoKinds (behind self.now.definitions.items)) (behind self.now.definitions.items)) result }
+    {
+        let mut least = None;
+        for structure in &self.definitions {
+            least = lesser(least, self.unknown_member(structure));
+        }
+        least
+    }
+
+    /// An input or output that names no structure.
+    fn unknown_of_two(&self, input: &'a NameAt, output: &'a NameAt) -> Option<u32>
+        ensures { IsLeastOf (λ p. IsNoStructure (behind self.now.definitions.items) input.now p ⊎ IsNoStructure (behind self.now.definitions.items) output.now p) result }
+    {
+        lesser(self.unknown(input), self.unknown(output))
+    }
+
+    fn unknown_of_activities(&self, scope: &Scope<'a>) -> Option<u32>
+        ensures { IsLeastOf (AnyAt (AreNoContainers (behind self.now.definitions.items)) (activities_in scope.now.elements.now)) result }
+    {
+        let mut least = None;
+        for activity in &scope.activities {
+            least = lesser(
+                least,
+                self.unknown_of_two(&activity.input, &activity.output),
+            );
+        }
+        least
+    }
+
+    fn unknown_container(&self, scope: &Scope<'a>) -> Option<u32>
+        ensures { IsLeastOf (AreNoContainersIn (behind self.now.definitions.items) (graph_at scope.now)) result }
+    {
+        let own = self.unknown_of_two(scope.input, scope.output);
+        lesser(own, self.unknown_of_activities(scope))
+    }
+
+    fn unknown_containers(&self, scopes: &[Scope<'a>]) -> Option<u32>
+        ensures { IsLeastOf (AnyAt (λ s. AreNoContainersIn (behind self.now.definitions.items) (graph_at s)) scopes.now) result }
+    {
+        let mut least = None;
+        for scope in scopes {
+            least = lesser(least, self.unknown_container(scope));
+        }
+        least
+    }
+
+    /// Rule 6: a member kind or a container names no structure of the text.
+    pub fn unknown_structure(&self, scopes: &[Scope<'a>]) -> Option<u32>
+        ensures { IsLeastOf (NamesNoStructure (behind self.now.definitions.items) (AnyAt (λ s. AreNoContainersIn (behind self.now.definitions.items) (graph_at s)) scopes.now)) result }
+    {
+        lesser(self.unknown_members(), self.unknown_containers(scopes))
+    }
+
+    /// An edge from each structure to the kinds of its members.
+    fn edges(&self, alloc: Global) -> Result<Edges, AllocError> {
+        let mut edges = Edges::new(alloc, small(self.definitions.len()));
+        for (i, structure) in self.definitions.iter().enumerate() {
+            self.add_kinds(&mut edges, small(i), structure)?;
+        }
+        Ok(edges)
+    }
+
+    fn add_kinds(
+        &self,
+        edges: &mut Edges,
+        from: u32,
+        structure: &'a StructDef,
+    ) -> Result<(), AllocError> {
+        for member in structure.members.as_slice() {
+            if let KindTree::Struct(name) = &member.kind {
+                if let Some(to) = self.number(name) {
+                    edges.add(from, to)?;
+                }
+            }
+        }
+        Ok(())
+    }
+
+    /// Rule 7: a structure reaches itself through member kinds. Where none does, leaves are counted.
+    pub fn cycle(&mut self, alloc: Global) -> Result<Option<u32>, AllocError>
+        ensures { behind self.new.definitions.items ≡ behind self.old.definitions.items }
+    {
+        let edges = self.edges(alloc)?;
+        if let Some(order) = edges.order(alloc)? {
+            self.count(alloc, order.as_slice())?;
+            return Ok(None);
+        }
+        for (i, structure) in self.definitions.iter().enumerate() {
+            if edges.on_cycle(alloc, small(i))? {
+                return Ok(Some(structure.name.place));
+            }
+        }
+        Ok(None)
+    }
+
+    /// Counts the leaves of all structures, in an order in which each comes before its kinds.
+    fn count(&mut self, alloc: Global, order: &[u32]) -> Result<(), AllocError>
+        ensures { behind self.new.definitions.items ≡ behind self.old.definitions.items }
+    {
+        self.counts = vec![in alloc; 0; self.definitions.len()]?;
+        for number in order.iter().rev() {
+            self.count_one(*number);
+        }
+        Ok(())
+    }
+
+    /// Counts the leaves of a structure whose kinds are counted.
+    fn count_one(&mut self, number: u32)
+        ensures { behind self.new.definitions.items ≡ behind self.old.definitions.items }
+    {
+        let count = self.count_of(number);
+        if let Some(place) = self.counts.get_mut(number as usize) {
+            *place = count;
+        }
+    }
+
+    /// The number of leaves of a structure whose kinds are counted.
+    fn count_of(&self, number: u32) -> u64 {
+        let Some(structure) = self.definitions.get(number as usize) else {
+            return 0;
+        };
+        let mut count = 0u64;
+        for member in structure.members.as_slice() {
+            let each = match &member.kind {
+                KindTree::Long => 1,
+                KindTree::Str => 1,
+                KindTree::Struct(name) => self.leaf_count(name),
+            };
+            count = count.saturating_add(each.saturating_mul(element_count(member)));
+        }
+        count
+    }
+
+    /// The number of leaves of the structure of this name, once they are counted.
+    fn leaf_count(&self, name: &'a NameAt) -> u64 {
+        match self.number(name) {
+            Some(number) => self.counts.get(number as usize).copied().unwrap_or(0),
+            None => 0,
+        }
+    }
+
+    /// Rule 8: a structure has more than 512 leaves.
+    pub fn too_many_leaves(&self) -> Option<u32> {
+        for (i, structure) in self.definitions.iter().enumerate() {
+            if self.counts.get(i).copied().unwrap_or(0) > MOST_LEAVES {
+                return Some(structure.name.place);
+            }
+        }
+        None
+    }
+
+    /// The member that a visit stands at.
+    fn member(&self, visit: Visit) -> Option<&'a Member> {
+        let structure = self.definitions.get(visit.structure as usize)?;
+        structure.members.as_slice().get(visit.member)
+    }
+
+    /// The steps of the leaf that visits lead to.
+    fn leaf_name(&self, alloc: Global, visits: &[Visit]) -> Result<LeafName, AllocError> {
+        let mut steps = List::new(alloc);
+        for visit in visits {
+            if let Some(member) = self.member(*visit) {
+                steps.push(Step::Member(member.name.name.copy(alloc)?))?;
+                if member.count.is_some() {
+                    let place = visit.begun.saturating_sub(1);
+                    steps.push(Step::Place(u32::try_from(place).unwrap_or(u32::MAX)))?;
+                }
+            }
+        }
+        Ok(LeafName { steps })
+    }
+
+    /// The structure to go into, if a member's kind is one that has leaves.
+    fn inner(&self, kind: &'a KindTree) -> Option<u32> {
+        match kind {
+            KindTree::Struct(name) if self.leaf_count(name) > 0 => self.number(name),
+            _ => None,
+        }
+    }
+
+    /// The kind of the leaf that a member is, if it is one.
+    fn leaf_kind(kind: &KindTree) -> Option<Kind> {
+        match kind {
+            KindTree::Long => Some(Kind::Long),
+            KindTree::Str => Some(Kind::Str),
+            KindTree::Struct(_) => None,
+        }
+    }
+
+    /// One step of the walk over the leaves.
+    fn advance(
+        &self,
+        alloc: Global,
+        visits: &mut Vec<Visit>,
+        leaves: &mut List<Leaf>,
+    ) -> Result<(), AllocError> {
+        let Some(visit) = visits.pop() else {
+            return Ok(());
+        };
+        let Some(member) = self.member(visit) else {
+            return Ok(());
+        };
+        let kind = Self::leaf_kind(&member.kind);
+        let inner = self.inner(&member.kind);
+        let is_over = kind.is_none() && inner.is_none() || visit.begun >= element_count(member);
+        if is_over {
+            visits.push(Visit {
+                structure: visit.structure,
+                member: visit.member.saturating_add(1),
+                begun: 0,
+            })?;
+            return Ok(());
+        }
+        visits.push(Visit {
+            structure: visit.structure,
+            member: visit.member,
+            begun: visit.begun.saturating_add(1),
+        })?;
+        if let Some(kind) = kind {
+            let name = self.leaf_name(alloc, visits)?;
+            leaves.push(Leaf { name, kind })?;
+        }
+        if let Some(structure) = inner {
+            visits.push(Visit {
+                structure,
+                member: 0,
+                begun: 0,
+            })?;
+        }
+        Ok(())
+    }
+
+    /// Adds the leaves of the structure of this name, depth first, arrays by place from 0.
+    fn add_leaves(
+        &self,
+        alloc: Global,
+        name: &'a NameAt,
+        leaves: &mut List<Leaf>,
+    ) -> Result<(), AllocError> {
+        let Some(structure) = self.number(name) else {
+            return Ok(());
+        };
+        let mut visits = Vec::new(alloc);
+        visits.push(Visit {
+            structure,
+            member: 0,
+            begun: 0,
+        })?;
+        for _ in 0..u64::MAX {
+            if visits.is_empty() {
+                break;
+            }
+            self.advance(alloc, &mut visits, leaves)?;
+        }
+        Ok(())
+    }
+
+    /// The leaves of the structure of this name.
+    pub fn leaves(&self, alloc: Global, name: &'a NameAt) -> Result<Leaves, AllocError> {
+        let mut leaves = List::new(alloc);
+        self.add_leaves(alloc, name, &mut leaves)?;
+        Ok(Leaves { leaves })
+    }
+
+    /// The place of the first array count outside 1 to 512.
+    pub fn count_fault(&self) -> Option<u32> {
+        let mut least = None;
+        for structure in &self.definitions {
+            for member in structure.members.as_slice() {
+                if let Some(count) = &member.count {
+                    if count.size < 1 || count.size > MOST_LEAVES {
+                        least = lesser(least, Some(count.place));
+                    }
+                }
+            }
+        }
+        least
+    }
+}

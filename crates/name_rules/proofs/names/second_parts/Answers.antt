@@ -1,0 +1,10 @@
+use Rattle.text_graphs.proofs.Finding.{least_more, least_all}
+use Rattle.name_rules.specs.Names.{IsPartAgain}
+use Rattle.name_rules.proofs.names.second_parts.Goals as goal
+
+pub loop-item-preserved : goal.loop-item-preserved
+loop-item-preserved c =
+    least_more IsPartAgain c.args.items.now c.loop-item.item-index c.item-item.result c.loop-item.least c.in_ok-second_part.field-0 c.lesser-least.result c.loop-item-test.true c.item-item.is c.lesser-least.ensures.least c.loop-item.invariant c.in_ok-second_part.ensures
+
+pub returns : goal.returns
+returns c = least_all IsPartAgain c.args.items.now c.loop-item.item-index c.loop-item.least c.loop-item-test.false c.loop-item.invariant

@@ -1,0 +1,35 @@
+-- What the names of processes stand for in a text: those that stand before in it, else the newest of the library.
+use Rattle.std.specs.Borrow.{Bor}
+use Rattle.std.specs.Prelude.{◌≡◌, ℕ, Option, List, bytes_eq, length, slice_get, vec_len}
+use Rattle.std.specs.Option.{option_map, option_and_then}
+use Rattle.std.specs.HashMap as hash
+use Rattle.std.specs.HashMap.{HashMap}
+use Rattle.flow_model.specs.declared.graphs.Library.{Library}
+use Rattle.flow_model.specs.declared.trees.ProcessTree.{ProcessTree}
+use Rattle.process_rules.specs.Calling.{before_this, text_or, place_among}
+use Rattle.process_rules.specs.Imports.{last_place, newest_place}
+use Rattle.process_rules.specs.declared.catalog.Catalog.{Catalog}
+use Rattle.process_rules.specs.declared.people.Callee.{Callee}
+use Rattle.process_rules.specs.declared.people.Callee.TheVariants as callee
+use Rattle.process_rules.specs.declared.people.Known.{Known}
+
+-- names lead to the last process of each
+abbrev pub AreLast : {S : Type 0} → List ProcessTree → HashMap (Bor (List ℕ)) ℕ S → Type 0
+AreLast processes numbers = (key : List ℕ) → hash.get_by (λ k. bytes_eq key k.now) numbers ≡ last_place (λ p. bytes_eq p.name.name key) processes
+
+-- these are the processes that are known
+pub record IsKnowing (known : Known) (processes : List ProcessTree) : Type 0 where
+  pub numbered : AreLast processes known.numbers
+  pub counted : vec_len known.processes ≡ length processes
+
+-- the newest template of a name in the library
+abbrev pub stored_named : Library → List ℕ → Option Callee
+stored_named library name = option_and_then (λ place. option_map (λ t. callee.Library place) (slice_get library.templates place)) (newest_place library name)
+
+-- what an activity in the process of this number runs by a name: the process of the text, where it stands before
+abbrev pub callee_named : Library → List ProcessTree → ℕ → List ℕ → Option Callee
+callee_named library processes number name = text_or (before_this number (last_place (λ p. bytes_eq p.name.name name) processes)) (stored_named library name)
+
+-- its place in the library, once the text is added
+abbrev pub place_named : Catalog → List ProcessTree → ℕ → List ℕ → Option ℕ
+place_named earlier processes number name = option_map (place_among earlier) (callee_named earlier.library processes number name)

@@ -1,0 +1,122 @@
+//! The library of the imports so far, with its names.
+ghost use Rattle.std.specs.Prelude.{◌≡◌, ◌≤◌, ◌<◌, ◌-◌, ◌^◌, ◌++◌, ◌∷◌, [], min, length, slice_get, option_copied, OnOk};
+ghost use Rattle.process_rules.specs.Imports.{IsIndexed, newest_place, newest_listed, latest_place, latest_person};
+
+use flow_model::{Library, List, Name, PersonDef, Template};
+use indexmap::IndexMap;
+use std::alloc::{AllocError, Global};
+
+/// A library and where the newest of each name stands in it.
+#[derive(Drop)]
+pub struct Catalog {
+    library: Library,
+    templates: IndexMap<Vec<u8>, u32>,
+    people: IndexMap<Vec<u8>, u32>,
+}
+
+/// The place of the next element of a list.
+fn next_place(len: usize) -> u32
+    ensures { result ≡ min len (2 ^ 32 - 1) }
+{
+    u32::try_from(len).unwrap_or(u32::MAX)
+}
+
+impl Catalog {
+    /// An empty library.
+    pub fn new(alloc: Global) -> Catalog
+        ensures indexed { IsIndexed result }
+        ensures empty { result.library ≡ record { templates = []; people = [] } }
+    {
+        Catalog {
+            library: Library {
+                templates: List::new(alloc),
+                people: List::new(alloc),
+            },
+            templates: IndexMap::new(alloc),
+            people: IndexMap::new(alloc),
+        }
+    }
+
+    /// The library.
+    pub fn library(&self) -> &Library
+        ensures { result.now ≡ self.now.library }
+    {
+        &self.library
+    }
+
+    /// The place of the newest template of this name; None exactly where there is none.
+    pub fn newest(&self, name: &Name) -> Option<u32>
+        ensures newest { IsIndexed self.now → result ≡ newest_place self.now.library name.now }
+        ensures listed { result ≡ newest_listed self.now name.now }
+    {
+        self.templates.get(name.as_slice()).copied()
+    }
+
+    /// The template at a place.
+    pub fn template(&self, place: u32) -> Option<&Template>
+        ensures { option_copied result ≡ slice_get self.now.library.templates place }
+    {
+        self.library.templates.as_slice().get(place as usize)
+    }
+
+    /// The version that the next template of this name has.
+    pub fn next_version(&self, name: &Name) -> u32 {
+        match self.newest(name) {
+            None => 1,
+            Some(place) => match self.template(place) {
+                None => 1,
+                Some(template) => template.version.saturating_add(1),
+            },
+        }
+    }
+
+    /// The latest declaration of the person of this name; None exactly where there is none.
+    pub fn person(&self, name: &Name) -> Option<&PersonDef>
+        ensures { IsIndexed self.now → option_copied result ≡ latest_person self.now.library name.now }
+    {
+        match self.latest(name) {
+            None => None,
+            Some(place) => self.person_at(place),
+        }
+    }
+
+    /// The place of the latest declaration of a name.
+    fn latest(&self, name: &Name) -> Option<u32>
+        ensures { IsIndexed self.now → result ≡ latest_place self.now.library name.now }
+    {
+        self.people.get(name.as_slice()).copied()
+    }
+
+    /// The person at a place.
+    fn person_at(&self, place: u32) -> Option<&PersonDef>
+        ensures { option_copied result ≡ slice_get self.now.library.people place }
+    {
+        self.library.people.as_slice().get(place as usize)
+    }
+
+    /// Adds a template, which is the newest of its name from now on. Without memory it may have been added with
+    /// no name that leads to it.
+    pub fn add_template(&mut self, alloc: Global, template: Template) -> Result<(), AllocError>
+        ensures added { OnOk result (self.new.library ≡ record { templates = self.old.library.templates ++ template ∷ []; people = self.old.library.people }) }
+        ensures indexed { OnOk result (length self.old.library.templates < 2 ^ 32 → IsIndexed self.old → IsIndexed self.new) }
+    {
+        let place = next_place(self.library.templates.len());
+        let name = Vec::from_slice(alloc, template.name.as_slice())?;
+        self.library.templates.push(template)?;
+        self.templates.insert(name, place)?;
+        Ok(())
+    }
+
+    /// Adds a person, whose roles count from now on. Without memory it may have been added with no name that
+    /// leads to it.
+    pub fn add_person(&mut self, alloc: Global, person: PersonDef) -> Result<(), AllocError>
+        ensures added { OnOk result (self.new.library ≡ record { templates = self.old.library.templates; people = self.old.library.people ++ person ∷ [] }) }
+        ensures indexed { OnOk result (length self.old.library.people < 2 ^ 32 → IsIndexed self.old → IsIndexed self.new) }
+    {
+        let place = next_place(self.library.people.len());
+        let name = Vec::from_slice(alloc, person.name.as_slice())?;
+        self.library.people.push(person)?;
+        self.people.insert(name, place)?;
+        Ok(())
+    }
+}

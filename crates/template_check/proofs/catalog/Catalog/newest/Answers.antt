@@ -1,8 +1,0 @@
-use Rattle.std.proofs.Common.{ap, ◌∙◌, bytes_eq}
-use Rattle.std.specs.HashMap as hash
-use Rattle.template_check.proofs.catalog.Catalog.newest.Goals as goal
-
-pub returns-clause-newest : goal.returns-clause-newest
-returns-clause-newest c = λ indexed.
-    c.copied.ensures ∙ c.get.ensures.value
-    ∙ ap (λ bs. hash.get_by (λ k. bytes_eq bs k.items) c.args.self.now.templates) c.as_slice.ensures ∙ indexed.0 c.args.name.now

@@ -1,5 +1,0 @@
-use Rattle.template_check.proofs.Finding.{least_either}
-use Rattle.template_check.proofs.connectors.unknown_in_graph.Goals as goal
-
-pub returns : goal.returns
-returns c = rw c.lesser.ensures.least (least_either _ _ c.unknown_in_controls.result c.unknown_in_lines.result c.unknown_in_controls.ensures c.unknown_in_lines.ensures)

@@ -1,7 +1,0 @@
-use Rattle.std.proofs.Common.{take}
-use Rattle.template_check.specs.Places.{IsLeastOf, AnyAt}
-use Rattle.template_check.specs.Names.{IsOtherEnd}
-use Rattle.template_check.proofs.names.activity_ends.Given as goal
-
-abbrev pub invariant-loop-activity : goal.invariant-loop-activity
-invariant-loop-activity l = IsLeastOf (AnyAt (λ a. IsOtherEnd a.now.name a.now.end) (take l.activity-index l.scope.activities.items)) l.least

@@ -1,6 +1,0 @@
-use Rattle.std.proofs.Common.{take, map}
-use Rattle.template_check.specs.Meeting.{AreMet}
-use Rattle.template_check.proofs.names.second_activity.Given as goal
-
-abbrev pub invariant-loop-activity : goal.invariant-loop-activity
-invariant-loop-activity l = AreMet l.activities (map (λ a. a.now.name) (take l.activity-index l.scope.activities.items))

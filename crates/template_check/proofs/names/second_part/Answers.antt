@@ -1,4 +1,0 @@
-use Rattle.template_check.proofs.names.second_part.Goals as goal
-
-pub returns-in-Structure : goal.returns-in-Structure
-returns-in-Structure c = rw c.in-Structure.is c.second_member.ensures

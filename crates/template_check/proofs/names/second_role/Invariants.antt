@@ -1,6 +1,0 @@
-use Rattle.std.proofs.Common.{take}
-use Rattle.template_check.specs.Meeting.{AreMet}
-use Rattle.template_check.proofs.names.second_role.Given as goal
-
-abbrev pub invariant-loop-role : goal.invariant-loop-role
-invariant-loop-role l = AreMet l.roles (take l.role-index l.person.roles)

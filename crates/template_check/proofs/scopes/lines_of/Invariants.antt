@@ -1,6 +1,0 @@
-use Rattle.std.proofs.Common.{◌≡◌, map, take}
-use Rattle.template_check.specs.Texts.{lines_in}
-use Rattle.template_check.proofs.scopes.lines_of.Given as goal
-
-abbrev pub invariant-loop-element : goal.invariant-loop-element
-invariant-loop-element l = map (λ x. x.now) l.lines.items ≡ lines_in (take l.element-index l.elements)

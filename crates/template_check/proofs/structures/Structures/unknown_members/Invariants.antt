@@ -1,7 +1,0 @@
-use Rattle.std.proofs.Common.{take}
-use Rattle.template_check.specs.Places.{IsLeastOf, AnyAt}
-use Rattle.template_check.specs.Structures.{behind, AreNoKinds}
-use Rattle.template_check.proofs.structures.Structures.unknown_members.Given as goal
-
-abbrev pub invariant-loop-structure : goal.invariant-loop-structure
-invariant-loop-structure l = IsLeastOf (AnyAt (λ x. AreNoKinds (behind l.self.definitions.items) x.now) (take l.structure-index l.self.definitions.items)) l.least

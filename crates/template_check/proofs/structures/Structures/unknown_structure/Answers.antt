@@ -1,5 +1,0 @@
-use Rattle.template_check.proofs.Finding.{least_either}
-use Rattle.template_check.proofs.structures.Structures.unknown_structure.Goals as goal
-
-pub returns : goal.returns
-returns c = rw c.lesser.ensures.least (least_either _ _ c.unknown_members.result c.unknown_containers.result c.unknown_members.ensures c.unknown_containers.ensures)

@@ -1,0 +1,9 @@
+pub mod Sorting
+pub mod Finding
+pub mod Again
+pub mod Meetings
+pub mod Differing
+pub mod Naming
+pub mod Judging
+pub mod Listing
+pub mod Graphs

@@ -1,0 +1,9 @@
+pub mod ClosedWalks
+pub mod Texts
+pub mod GraphTexts
+pub mod Attributes
+pub mod Places
+pub mod Meeting
+pub mod GraphEdges
+pub mod Blocks
+pub mod Graphs
