@@ -17,7 +17,7 @@ use flow_core::{AdoptFault, Core};
 use flow_disk::Disk;
 use flow_io::Source;
 use flow_model::Numbered;
-use flow_session::{Journal, Stored, open};
+use flow_session::{Journal, Stop, Stored, open};
 use flow_txn::{RecordFault, decode};
 use std::alloc::Global;
 use txn_log::{Log, LogStop, MAX_PAYLOAD};
@@ -65,6 +65,16 @@ fn follow_from<S: Source, D: Disk + Drop>(
     (followed, journal.into_disk())
 }
 
+/// Why following ends where the journal keeps no record.
+fn unkept(stop: Stop) -> FollowStop
+    ensures { (count : ℕ) → FollowEnd count count result }
+{
+    match stop {
+        Stop::StoreFault => FollowStop::Store(LogStop::StoreFault),
+        Stop::NoMemory => FollowStop::NoMemory,
+    }
+}
+
 impl<D: Disk + Drop> Standby<D> {
     /// Takes a transaction: it is passed over where the store has it, else adopted and then appended.
     fn take(&mut self, numbered: Numbered, payload: &[u8]) -> Result<(), FollowStop>
@@ -88,7 +98,7 @@ impl<D: Disk + Drop> Standby<D> {
         }
         match self.journal.keep(payload) {
             Ok(()) => {}
-            Err(_) => return Err(FollowStop::Store(LogStop::StoreFault)),
+            Err(stop) => return Err(unkept(stop)),
         }
         self.taken = self.taken.saturating_add(1);
         Ok(())
