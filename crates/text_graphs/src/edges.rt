@@ -1,11 +1,12 @@
 //! The connectors of a graph as pairs of numbers.
 ghost use Rattle.std.specs.Prelude.{◌≡◌, ◌<◌, ◌++◌, ◌∷◌, [], IfOk, OnOk, MatchOption, slice_index_or, false};
+ghost use Rattle.graph_check.specs.Components.{AreComponents};
 ghost use Rattle.graph_check.specs.Spreading.{AreReaching};
 ghost use Rattle.graph_check.specs.Walks.{AreNodes, IsOrder};
 ghost use Rattle.text_graphs.specs.ClosedWalks.{IsCyclic};
 
 use flow_model::List;
-use graph_check::{GraphFault, order, reaching};
+use graph_check::{GraphFault, components, order, reaching};
 use std::alloc::{AllocError, Global};
 
 /// Whether a node is marked.
@@ -49,6 +50,13 @@ impl Edges {
     /// The edges in the order in which they were added.
     pub fn pairs(&self) -> &[(u32, u32)] {
         &self.pairs
+    }
+
+    /// A number for each node: an edge lies on a closed walk exactly where its ends have one number.
+    pub fn cyclic(&self, alloc: Global) -> Result<Vec<u32>, AllocError>
+        ensures { IfOk result (λ groups. AreComponents self.now.nodes self.now.pairs.items groups.items) }
+    {
+        components(alloc, self.nodes, &self.pairs)
     }
 
     /// The nodes in an order in which each edge goes forward; None where a closed walk is there.
