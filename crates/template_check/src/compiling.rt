@@ -94,7 +94,7 @@ fn first_names<'a>(
     requires graphs { AreGraphsOf tree.now.items (graphs_in scopes.now) }
     requires structures { behind structures.old.definitions.items ≡ structures_in tree.now.items }
     ensures named { IfOk result (λ fault. fault ≡ None → All (λ s. AreNamesApart s.elements.now) scopes.now) }
-    ensures first { IfOk result (IsFoundTo tree.now.items 8) }
+    ensures first { IfOk result (IsFirstBroken (name_rules tree.now.items)) }
 {
     if let Some(place) = end_name(tree, scopes) {
         return Ok(Some((4, place)));
@@ -105,53 +105,18 @@ fn first_names<'a>(
     if let Some(place) = structures.unknown_structure(scopes) {
         return Ok(Some((6, place)));
     }
-    if let Some(place) = structures.cycle(alloc)? {
-        return Ok(Some((7, place)));
-    }
-    match structures.too_many_leaves() {
-        Some(place) => Ok(Some((8, place))),
-        None => Ok(None),
-    }
-}
-
-/// The least place that a rule on single graphs finds.
-#[derive(Clone, Copy, Debug, PartialEq, Eq)]
-enum GraphRule {
-    Cycle,
-    Otherwise,
-    UnreachableData,
-    Performer,
-}
-
-fn graph_fault(alloc: Global, rule: GraphRule, scope: &Scope<'_>) -> Result<Option<u32>, AllocError>
-    ensures { IfOk result (λ place. place ≡ None → IsPassed rule scope.now.elements.now) }
-{
-    match rule {
-        GraphRule::Cycle => cycle(alloc, scope),
-        GraphRule::Otherwise => otherwise(alloc, scope),
-        GraphRule::UnreachableData => unreachable_data(alloc, scope),
-        GraphRule::Performer => performer(alloc, scope),
-    }
-}
-
-fn over_graphs(
-    alloc: Global,
-    rule: GraphRule,
-    scopes: &[Scope<'_>],
-) -> Result<Option<u32>, AllocError>
-    ensures { IfOk result (λ place. place ≡ None → All (λ s. IsPassed rule s.elements.now) scopes.now) }
-{
-    let mut least = None;
-    for scope in scopes {
-        least = lesser(least, graph_fault(alloc, rule, scope)?);
-    }
-    Ok(least)
+    Ok(None)
 }
 
 /// Rules 9 to 12.
-fn first_connectors(alloc: Global, scopes: &[Scope<'_>]) -> Result<Broken, AllocError>
+fn first_connectors(
+    alloc: Global,
+    tree: &Tree,
+    scopes: &[Scope<'_>],
+) -> Result<Broken, AllocError>
+    requires graphs { AreGraphsOf tree.now.items (graphs_in scopes.now) }
     ensures connected { IfOk result (λ fault. fault ≡ None → All (λ s. IsConnected s.elements.now) scopes.now) }
-    ensures first { IfOk result (λ fault. (items : List ItemTree) → AreGraphsOf items (graphs_in scopes.now) → NoneTo items 8 → IsFoundTo items 12 fault) }
+    ensures first { IfOk result (IsFirstBroken (connector_rules tree.now.items)) }
 {
     if let Some(place) = unknown_activity(scopes) {
         return Ok(Some((9, place)));
@@ -159,7 +124,7 @@ fn first_connectors(alloc: Global, scopes: &[Scope<'_>]) -> Result<Broken, Alloc
     if let Some(place) = double_connector(alloc, scopes)? {
         return Ok(Some((10, place)));
     }
-    if let Some(place) = over_graphs(alloc, GraphRule::Cycle, scopes)? {
+    if let Some(place) = cycle(alloc, scopes)? {
         return Ok(Some((11, place)));
     }
     match empty_graph(scopes) {
