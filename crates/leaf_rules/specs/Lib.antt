@@ -1,3 +1,6 @@
 pub mod ReturnCodes
 pub mod Leaves
 pub mod Structures
+pub mod StructureLeaves
+pub mod KindEdges
+pub mod Counts
