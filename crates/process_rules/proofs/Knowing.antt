@@ -7,9 +7,10 @@ use Rattle.std.specs.HashMap as hash
 use Rattle.std.specs.HashMap.{HashMap}
 use Rattle.std.proofs.lemmas.List.{length-append}
 use Rattle.flow_model.specs.declared.trees.ProcessTree.{ProcessTree}
-use Rattle.process_rules.specs.Calling.{before_this, text_or, place_among, place_meant, stored_meant}
+use Rattle.process_rules.specs.Calling.{before_this, text_or, place_among, place_meant, stored_meant, callee_meant}
 use Rattle.process_rules.specs.Imports.{last_place, IsIndexed}
-use Rattle.process_rules.specs.Knowing.{AreLast, IsKnowing, place_named}
+use Rattle.process_rules.specs.Knowing.{AreLast, IsKnowing, callee_named, place_named}
+use Rattle.process_rules.specs.declared.people.Callee.{Callee}
 use Rattle.process_rules.specs.declared.people.Callee.TheVariants as callee
 use Rattle.process_rules.specs.declared.people.Known.{Known}
 use Rattle.process_rules.proofs.Indexing.{last_pushed}
@@ -29,9 +30,17 @@ last_more ps p bs number m n listed named counted h key =
 pub counted_more : {B : Type 0} (old new : ℕ) (ps : List B) (p : B) → new ≡ old + 1 → old ≡ length ps → new ≡ length (ps ++ p ∷ [])
 counted_more old new ps p now same = now ∙ ap (λ (n : ℕ). n + 1) same ∙ sym (length-append ps (p ∷ []))
 
--- where a name leads by what is known, it leads by the text and the library
+-- what a name stands for by what is known, it stands for by the text and the library
+pub callee_known : (known : Known) (ps : List ProcessTree) → IsKnowing known ps → IsIndexed known.catalog.now → (number : ℕ) (name : List ℕ) → callee_meant known number name ≡ callee_named known.catalog.now.library ps number name
+callee_known known ps h indexed number name =
+    ap (λ (o : Option ℕ). text_or (before_this number o) (stored_meant known.catalog.now name)) (h.numbered name)
+    ∙ ap (λ (o : Option ℕ). text_or (before_this number (last_place (λ p. bytes_eq p.name.name name) ps))
+    (option_and_then (λ place. option_map (λ t. callee.Library place) (slice_get known.catalog.now.library.templates place)) o)) (indexed.0 name)
+
+-- so do all names
+pub calls_known : (known : Known) (ps : List ProcessTree) → IsKnowing known ps → IsIndexed known.catalog.now → callee_meant known ≡ callee_named known.catalog.now.library ps
+calls_known known ps h indexed = λ j number name. callee_known known ps h indexed number name j
+
+-- and where it leads
 pub place_known : (known : Known) (ps : List ProcessTree) → IsKnowing known ps → IsIndexed known.catalog.now → (number : ℕ) (name : List ℕ) → place_meant known number name ≡ place_named known.catalog.now ps number name
-place_known known ps h indexed number name =
-    ap (λ (o : Option ℕ). option_map (place_among known.catalog.now) (text_or (before_this number o) (stored_meant known.catalog.now name))) (h.numbered name)
-    ∙ ap (λ (o : Option ℕ). option_map (place_among known.catalog.now) (text_or (before_this number (last_place (λ p. bytes_eq p.name.name name) ps))
-    (option_and_then (λ place. option_map (λ t. callee.Library place) (slice_get known.catalog.now.library.templates place)) o))) (indexed.0 name)
+place_known known ps h indexed number name = ap (λ (o : Option Callee). option_map (place_among known.catalog.now) o) (callee_known known ps h indexed number name)

@@ -1,3 +1,4 @@
 pub mod Imports
 pub mod Calling
 pub mod Knowing
+pub mod Callees

@@ -129,19 +129,6 @@ impl<'a> Known<'a> {
     }
 }
 
-/// Rule 17: a PROCESS_ACTIVITY names a process that isn't there yet.
-pub fn unknown_process<'a>(known: &Known<'a>, scope: &Scope<'a>) -> Option<u32> {
-    let mut least = None;
-    for activity in &scope.activities {
-        if let WorkTree::Process(name) = &activity.work {
-            if known.callee(scope.process, name).is_none() {
-                least = lesser(least, Some(name.place));
-            }
-        }
-    }
-    least
-}
-
 fn same_step(first: &Step, second: &Step) -> bool {
     match (first, second) {
         (Step::Member(a), Step::Member(b)) => a.as_slice() == b.as_slice(),
