@@ -1,2 +1,4 @@
 pub mod Indexing
 pub mod Knowing
+pub mod Numbering
+pub mod Performing

@@ -8,8 +8,9 @@ ghost use Rattle.process_rules.specs.Knowing.{IsKnowing};
 ghost use Rattle.text_graphs.specs.Graphs.{graph_at};
 ghost use Rattle.text_graphs.specs.Places.{IsLeastOf, AnyAt};
 
-use crate::people::Known;
-use flow_model::{NameAt, WorkTree};
+use crate::people::{Callee, Known};
+use flow_model::{ActivityTree, Leaf, Leaves, NameAt, Step, WorkTree};
+use leaf_rules::LeafTable;
 use text_graphs::{Scope, lesser};
 
 /// The name of the process that an activity runs; None of other activities.
@@ -61,4 +62,79 @@ pub fn unknown_processes<'a>(known: &Known<'a>, scopes: &[Scope<'a>]) -> Option<
     ensures { (processes : List ProcessTree) → IsKnowing known.now processes → IsIndexed known.now.catalog.now → IsLeastOf (AnyAt (λ s. NamesNoProcess known.now.catalog.now.library processes (graph_at s)) scopes.now) result }
 {
     unknown_in_graphs(known, scopes)
+}
+
+fn same_step(first: &Step, second: &Step) -> bool {
+    match (first, second) {
+        (Step::Member(a), Step::Member(b)) => a.as_slice() == b.as_slice(),
+        (Step::Rc, Step::Rc) => true,
+        (Step::Place(a), Step::Place(b)) => a == b,
+        _ => false,
+    }
+}
+
+fn same_leaf(first: &Leaf, second: &Leaf) -> bool {
+    let (a, b) = (first.name.steps.as_slice(), second.name.steps.as_slice());
+    first.kind == second.kind
+        && a.len() == b.len()
+        && a.iter().zip(b.iter()).all(|(x, y)| same_step(x, y))
+}
+
+/// Whether two containers have the same leaves in the same order.
+fn same_leaves(first: &Leaves, second: &Leaves) -> bool {
+    let (a, b) = (first.leaves.as_slice(), second.leaves.as_slice());
+    a.len() == b.len() && a.iter().zip(b.iter()).all(|(x, y)| same_leaf(x, y))
+}
+
+fn fits(ours: Option<&Leaves>, theirs: Option<&Leaves>) -> bool {
+    match (ours, theirs) {
+        (Some(ours), Some(theirs)) => same_leaves(ours, theirs),
+        _ => false,
+    }
+}
+
+/// Whether the containers of a process activity have the leaves of the process's.
+fn fits_callee<'a>(
+    known: &Known<'a>,
+    table: &LeafTable<'a>,
+    activity: &'a ActivityTree,
+    callee: Callee,
+) -> bool {
+    let input = table.plain(&activity.input);
+    let output = table.plain(&activity.output);
+    match callee {
+        Callee::Text(number) => match known.processes().get(number as usize) {
+            None => false,
+            Some(process) => {
+                fits(input, table.plain(&process.input))
+                    && fits(output, table.plain(&process.output))
+            }
+        },
+        Callee::Library(place) => match known.catalog().template(place) {
+            None => false,
+            Some(template) => {
+                fits(input, Some(&template.graph.input))
+                    && fits(output, Some(&template.graph.output))
+            }
+        },
+    }
+}
+
+/// Rule 18: the leaves of a process activity's containers and of the process's differ.
+pub fn container_mismatch<'a>(
+    known: &Known<'a>,
+    table: &LeafTable<'a>,
+    scope: &Scope<'a>,
+) -> Option<u32> {
+    let mut least = None;
+    for activity in &scope.activities {
+        if let WorkTree::Process(name) = &activity.work {
+            if let Some(callee) = known.callee(scope.process, name) {
+                if !fits_callee(known, table, activity, callee) {
+                    least = lesser(least, Some(activity.place));
+                }
+            }
+        }
+    }
+    least
 }

@@ -5,10 +5,12 @@
 
 mod callees;
 mod catalog;
+mod doers;
 mod people;
 mod sizes;
 
-pub use callees::unknown_processes;
+pub use callees::{container_mismatch, unknown_processes};
 pub use catalog::Catalog;
-pub use people::{Callee, Known, container_mismatch, is_manual, performer, unknown_person};
+pub use doers::{is_manual, unknown_people, wrong_performers};
+pub use people::{Callee, Known};
 pub use sizes::{Shape, count_limit, expanded_size, nesting, number, shapes};
