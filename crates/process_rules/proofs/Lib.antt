@@ -2,3 +2,5 @@ pub mod Indexing
 pub mod Knowing
 pub mod Numbering
 pub mod Performing
+pub mod Extra
+pub mod Counted

@@ -4,3 +4,7 @@ pub mod Knowing
 pub mod Callees
 pub mod Numbering
 pub mod Doers
+pub mod Said
+pub mod Numbers
+pub mod Counts
+pub mod Search

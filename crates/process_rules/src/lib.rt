@@ -5,12 +5,17 @@
 
 mod callees;
 mod catalog;
+mod counts;
 mod doers;
+mod numbers;
 mod people;
+mod said;
 mod sizes;
 
 pub use callees::{container_mismatch, unknown_processes};
 pub use catalog::Catalog;
+pub use counts::count_limit;
 pub use doers::{is_manual, unknown_people, wrong_performers};
+pub use numbers::{graph_numbers, number};
 pub use people::{Callee, Known};
-pub use sizes::{Shape, count_limit, expanded_size, nesting, number, shapes};
+pub use sizes::{Shape, expanded_size, nesting, shapes};
