@@ -1,2 +1,6 @@
 pub mod Indexing
 pub mod Knowing
+pub mod Numbering
+pub mod Performing
+pub mod Extra
+pub mod Counted

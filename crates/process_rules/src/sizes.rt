@@ -1,35 +1,13 @@
-//! Rules 21 to 24: nesting, expanded size, numbers and counts.
-ghost use Rattle.std.specs.Prelude.{◌≡◌, None};
-ghost use Rattle.std.specs.List.{All};
-ghost use Rattle.text_graphs.specs.Texts.{IsLimited};
+//! Rules 21 and 22: nesting and expanded size.
 
 use crate::people::{Callee, Known};
-use conditions::{first_number_fault, size_of};
-use flow_model::{
-    ActivityTree, AttrTree, CondAt, ElementTree, JoinTree, NumberAt, ProcessTree, WhenTree,
-    WorkTree,
-};
-use leaf_rules::Structures;
+use flow_model::{ElementTree, ProcessTree, WorkTree};
 use std::alloc::{AllocError, Global};
-use text_graphs::{Scope, lesser, small};
+use text_graphs::small;
 
 const MOST_DEPTH: u32 = 16;
 
 const MOST_SIZE: u64 = 65_536;
-
-const MOST_MINUTES: u64 = 2_147_483_647;
-
-const MOST_PROCESSES: usize = 256;
-
-const MOST_ACTIVITIES: usize = 1_024;
-
-const MOST_CONTROLS: usize = 4_096;
-
-const MOST_LINES: usize = 4_096;
-
-const MOST_OPERANDS: u64 = 64;
-
-const MOST_NODES: u64 = 256;
 
 /// How deep a graph nests, and its expanded size.
 #[derive(Clone, Copy, Debug, PartialEq, Eq)]
@@ -127,126 +105,4 @@ pub fn expanded_size(processes: &[&ProcessTree], shapes: &[Shape]) -> Option<u32
         }
     }
     None
-}
-
-/// The place of a number outside 1 to the most.
-fn outside(number: &NumberAt, most: u64) -> Option<u32> {
-    if number.size < 1 || number.size > most {
-        Some(number.place)
-    } else {
-        None
-    }
-}
-
-/// For each activity of a graph, the number of connectors that lead to it.
-fn incoming(alloc: Global, scope: &Scope<'_>) -> Result<Vec<u64>, AllocError> {
-    let mut counts = vec![in alloc; 0u64; scope.activities.len()]?;
-    for control in &scope.controls {
-        if let Some(to) = scope.number(&control.to) {
-            if let Some(count) = counts.get_mut(to as usize) {
-                *count = count.saturating_add(1);
-            }
-        }
-    }
-    Ok(counts)
-}
-
-fn attribute_number_fault(what: &AttrTree, connectors: u64) -> Option<u32> {
-    match what {
-        AttrTree::When(JoinTree::AtLeast(number)) => outside(number, connectors),
-        AttrTree::Exit(cond) => first_number_fault(&cond.cond),
-        AttrTree::Expires(number) => outside(number, MOST_MINUTES),
-        _ => None,
-    }
-}
-
-fn activity_number_fault(activity: &ActivityTree, connectors: u64) -> Option<u32> {
-    let mut least = None;
-    for attribute in activity.attrs.as_slice() {
-        least = lesser(least, attribute_number_fault(&attribute.what, connectors));
-    }
-    least
-}
-
-/// The numbers of a graph that are out of range.
-fn graph_number_fault(alloc: Global, scope: &Scope<'_>) -> Result<Option<u32>, AllocError> {
-    let connectors = incoming(alloc, scope)?;
-    let mut least = None;
-    for (activity, count) in scope.activities.iter().zip(connectors.iter()) {
-        least = lesser(least, activity_number_fault(activity, *count));
-    }
-    for control in &scope.controls {
-        if let WhenTree::Cond(cond) = &control.when {
-            least = lesser(least, first_number_fault(&cond.cond));
-        }
-    }
-    Ok(least)
-}
-
-/// Rule 23: a number is out of its range.
-pub fn number(
-    alloc: Global,
-    structures: &Structures<'_>,
-    scopes: &[Scope<'_>],
-) -> Result<Option<u32>, AllocError> {
-    let mut least = structures.count_fault();
-    for scope in scopes {
-        least = lesser(least, graph_number_fault(alloc, scope)?);
-    }
-    Ok(least)
-}
-
-fn large_condition(cond: &CondAt) -> Option<u32> {
-    let size = size_of(&cond.cond);
-    if size.operands > MOST_OPERANDS || size.nodes > MOST_NODES {
-        Some(cond.place)
-    } else {
-        None
-    }
-}
-
-fn large_conditions(scope: &Scope<'_>) -> Option<u32> {
-    let mut least = None;
-    for activity in &scope.activities {
-        for attribute in activity.attrs.as_slice() {
-            if let AttrTree::Exit(cond) = &attribute.what {
-                least = lesser(least, large_condition(cond));
-            }
-        }
-    }
-    for control in &scope.controls {
-        if let WhenTree::Cond(cond) = &control.when {
-            least = lesser(least, large_condition(cond));
-        }
-    }
-    least
-}
-
-fn graph_too_large(scope: &Scope<'_>) -> Option<u32>
-    ensures { result ≡ None → IsLimited scope.now.elements.now }
-{
-    let activity = scope
-        .activities
-        .get(MOST_ACTIVITIES)
-        .map(|activity| activity.place);
-    let control = scope
-        .controls
-        .get(MOST_CONTROLS)
-        .map(|control| control.place);
-    let line = scope.lines.get(MOST_LINES).map(|line| line.place);
-    lesser(
-        lesser(activity, control),
-        lesser(line, large_conditions(scope)),
-    )
-}
-
-/// Rule 24: more than is allowed of processes, of a graph's activities or lines, or of a condition's parts.
-pub fn count_limit(processes: &[&ProcessTree], scopes: &[Scope<'_>]) -> Option<u32>
-    ensures { result ≡ None → All (λ s. IsLimited s.elements.now) scopes.now }
-{
-    let mut least = processes.get(MOST_PROCESSES).map(|process| process.place);
-    for scope in scopes {
-        least = lesser(least, graph_too_large(scope));
-    }
-    least
 }
