@@ -176,7 +176,7 @@ fn groups(alloc: Global, scope: &Scope<'_>) -> Result<Vec<u32>, AllocError>
     ensures { IfOk result (λ groups. AreGroupsOf scope.now.elements.now groups.items) }
 {
     let edges = scope.edges(alloc)?;
-    let groups = edges.cyclic(alloc)?;
+    let groups = edges.components(alloc)?;
     Ok(groups)
 }
 

@@ -1,11 +1,22 @@
 -- The rules that a text may break, each a set of its places, in the order in which they are judged; and which of them is broken first.
-use Rattle.std.specs.Prelude.{◌≡◌, ◌⊎◌, ℕ, ◌≤◌, Option, Some, None, List, [], ◌∷◌, ◌++◌}
+use Rattle.std.specs.Prelude.{◌≡◌, ◌⊎◌, ℕ, ◌≤◌, Option, Some, None, Result, Ok, Err, List, [], ◌∷◌, ◌++◌}
+use Rattle.flow_model.specs.declared.graphs.Library.{Library}
 use Rattle.flow_model.specs.declared.trees.ItemTree.{ItemTree}
-use Rattle.connector_rules.specs.Connectors.{NamesNobody, IsDouble, IsOnCycle, IsEmptyGraph}
+use Rattle.connector_rules.specs.Connectors.{NamesNobody, IsDouble, IsOnCycle, IsEmptyGraph, IsOtherwiseWrong, IsUnreachableData}
+use Rattle.leaf_rules.specs.Counts.{HasTooManyLeaves}
+use Rattle.leaf_rules.specs.KindEdges.{IsInStructureCycle}
+use Rattle.leaf_rules.specs.Reading.{ReadsUnknownLeaf, MixesKinds}
+use Rattle.leaf_rules.specs.ArrayCounts.{IsCountOutside}
+use Rattle.leaf_rules.specs.StructureLeaves.{leaves_in}
 use Rattle.leaf_rules.specs.Structures.{AreNoContainersIn, NamesNoStructure}
 use Rattle.name_rules.specs.Names.{AreActivityEnds, IsEndWrong, IsInsideAgain, IsTwice}
+use Rattle.process_rules.specs.Callees.{NamesNoProcess, HasOtherLeaves}
+use Rattle.process_rules.specs.Counts.{IsTooMuch, IsTooMuchOf}
+use Rattle.process_rules.specs.Doers.{NamesNoPerson, NamesNoPerformer}
+use Rattle.process_rules.specs.Numbers.{IsNumberWrong}
+use Rattle.process_rules.specs.Shapes.{NestsTooDeep, IsTooLarge}
 use Rattle.text_graphs.specs.Graphs.{InGraphs}
-use Rattle.text_graphs.specs.Texts.{structures_in}
+use Rattle.text_graphs.specs.Texts.{people_in, processes_in, structures_in}
 
 -- a rule: its number, and the places that break it
 abbrev pub Rule : Type 1
@@ -20,7 +31,14 @@ abbrev pub IsFirstBroken : List Rule → Option (ℕ × ℕ) → Type 0
 IsFirstBroken [] found = found ≡ None
 IsFirstBroken (rule ∷ rules) found = IsFoundAt rule found ⊎ (((p : ℕ) → rule.1 p → ⊥) × IsFirstBroken rules found)
 
--- rules 4 to 6
+-- the fault, if there is one
+abbrev pub fault_in : {T : Type 0} → Result T (ℕ × ℕ) → Option (ℕ × ℕ)
+fault_in (Ok done) = None
+fault_in (Err fault) = Some fault
+
+-- ---- the rules on a text with these items, behind a library
+
+-- a name after END is another one; something is declared twice; a name is no structure's
 abbrev pub name_rules : List ItemTree → List Rule
 name_rules items =
     (4, IsEndWrong items (InGraphs items AreActivityEnds))
@@ -28,7 +46,11 @@ name_rules items =
     ∷ (6, NamesNoStructure (structures_in items) (InGraphs items (AreNoContainersIn (structures_in items))))
     ∷ []
 
--- rules 9 to 12
+-- a structure reaches itself, or has too many leaves
+abbrev pub structure_rules : List ItemTree → List Rule
+structure_rules items = (7, IsInStructureCycle (structures_in items)) ∷ (8, HasTooManyLeaves (structures_in items)) ∷ []
+
+-- a line names no activity; a connector comes twice, or lies on a closed walk; a graph is empty
 abbrev pub connector_rules : List ItemTree → List Rule
 connector_rules items =
     (9, InGraphs items NamesNobody)
@@ -36,3 +58,54 @@ connector_rules items =
     ∷ (11, InGraphs items IsOnCycle)
     ∷ (12, InGraphs items IsEmptyGraph)
     ∷ []
+
+-- a leaf isn't there; kinds don't fit
+abbrev pub leaf_rules : List ItemTree → List Rule
+leaf_rules items =
+    (13, InGraphs items (ReadsUnknownLeaf (leaves_in (structures_in items))))
+    ∷ (14, InGraphs items (MixesKinds (leaves_in (structures_in items))))
+    ∷ []
+
+-- an OTHERWISE stands alone, or is the second; a data line goes along no connectors
+abbrev pub line_rules : List ItemTree → List Rule
+line_rules items = (15, InGraphs items IsOtherwiseWrong) ∷ (16, InGraphs items IsUnreachableData) ∷ []
+
+-- a process isn't there; its leaves are others
+abbrev pub callee_rules : Library → List ItemTree → List Rule
+callee_rules library items =
+    (17, InGraphs items (NamesNoProcess library (processes_in items)))
+    ∷ (18, InGraphs items (HasOtherLeaves library (processes_in items) (leaves_in (structures_in items))))
+    ∷ []
+
+-- a person isn't there; a performer is none
+abbrev pub people_rules : Library → List ItemTree → List Rule
+people_rules library items = (19, InGraphs items (NamesNoPerson library (people_in items))) ∷ (20, InGraphs items NamesNoPerformer) ∷ []
+
+-- a process nests too deep, or is too large
+abbrev pub size_rules : Library → List ItemTree → List Rule
+size_rules library items = (21, NestsTooDeep library (processes_in items)) ∷ (22, IsTooLarge library (processes_in items)) ∷ []
+
+-- a number is out of range; there is too much of something
+abbrev pub count_rules : List ItemTree → List Rule
+count_rules items =
+    (23, λ p. IsCountOutside (structures_in items) p ⊎ InGraphs items IsNumberWrong p)
+    ∷ (24, IsTooMuchOf (processes_in items) (InGraphs items IsTooMuch))
+    ∷ []
+
+-- ---- the order
+
+abbrev pub from_sizes : Library → List ItemTree → List Rule
+from_sizes library items = size_rules library items ++ count_rules items
+
+abbrev pub from_callees : Library → List ItemTree → List Rule
+from_callees library items = callee_rules library items ++ people_rules library items ++ from_sizes library items
+
+abbrev pub from_leaves : Library → List ItemTree → List Rule
+from_leaves library items = leaf_rules items ++ line_rules items ++ from_callees library items
+
+abbrev pub from_connectors : Library → List ItemTree → List Rule
+from_connectors library items = connector_rules items ++ from_leaves library items
+
+-- rules 4 to 24
+abbrev pub later_rules : Library → List ItemTree → List Rule
+later_rules library items = name_rules items ++ structure_rules items ++ from_connectors library items

@@ -66,7 +66,7 @@ impl Edges {
     }
 
     /// A number for each node: an edge lies on a closed walk exactly where its ends have one number.
-    pub fn cyclic(&self, alloc: Global) -> Result<Vec<u32>, AllocError>
+    pub fn components(&self, alloc: Global) -> Result<Vec<u32>, AllocError>
         ensures { IfOk result (λ groups. AreComponents self.now.nodes self.now.pairs.items groups.items) }
     {
         components(alloc, self.nodes, &self.pairs)

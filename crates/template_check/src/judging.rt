@@ -1,0 +1,96 @@
+//! The rules in their order, group by group: of each group the first that is broken, at its least place.
+ghost use Rattle.std.specs.Prelude.{◌≡◌, None, IfOk};
+ghost use Rattle.std.specs.List.{All};
+ghost use Rattle.leaf_rules.specs.Counts.{AreCounted};
+ghost use Rattle.leaf_rules.specs.Structures.{behind};
+ghost use Rattle.process_rules.specs.Imports.{IsIndexed};
+ghost use Rattle.process_rules.specs.Knowing.{ArePeople, IsKnowing};
+ghost use Rattle.process_rules.specs.Shapes.{AreShapes};
+ghost use Rattle.template_check.specs.Rules.{name_rules, structure_rules, connector_rules, leaf_rules, line_rules, callee_rules, people_rules, size_rules, count_rules, IsFirstBroken};
+ghost use Rattle.text_graphs.specs.Graphs.{graphs_in, AreGraphsOf};
+ghost use Rattle.text_graphs.specs.Texts.{lines_in, people_in, processes_in, structures_in, AreNamesApart, IsConnected, IsLimited, IsLineAlong};
+
+use connector_rules::{
+    cycle, double_connector, empty_graph, otherwise, unknown_activity, unreachable_data,
+};
+use flow_model::Tree;
+use leaf_rules::{LeafTable, Structures, mixed_kinds, unknown_leaves};
+use name_rules::{duplicate, end_name};
+use process_rules::{
+    Known, Shape, count_limit, deep_processes, large_processes, mismatched_containers, number,
+    unknown_people, unknown_processes, wrong_performers,
+};
+use std::alloc::{AllocError, Global};
+use text_graphs::Scope;
+
+/// A broken rule and its place.
+pub type Broken = Option<(u8, u32)>;
+
+/// Rules 4 to 6.
+pub fn first_of_names<'a>(
+    alloc: Global,
+    tree: &Tree,
+    structures: &Structures<'a>,
+    scopes: &[Scope<'a>],
+) -> Result<Broken, AllocError>
+    requires graphs { AreGraphsOf tree.now.items (graphs_in scopes.now) }
+    requires structures { behind structures.now.definitions.items ≡ structures_in tree.now.items }
+    ensures named { IfOk result (λ fault. fault ≡ None → All (λ s. AreNamesApart s.elements.now) scopes.now) }
+    ensures first { IfOk result (IsFirstBroken (name_rules tree.now.items)) }
+{
+    if let Some(place) = end_name(tree, scopes) {
+        return Ok(Some((4, place)));
+    }
+    if let Some(place) = duplicate(alloc, tree, scopes)? {
+        return Ok(Some((5, place)));
+    }
+    match structures.unknown_structure(scopes) {
+        Some(place) => Ok(Some((6, place))),
+        None => Ok(None),
+    }
+}
+
+/// Rules 7 and 8; where neither is broken, the leaves of the structures are counted.
+pub fn first_of_structures<'a>(
+    alloc: Global,
+    structures: &mut Structures<'a>,
+    tree: &Tree,
+) -> Result<Broken, AllocError>
+    requires { behind structures.old.definitions.items ≡ structures_in tree.now.items }
+    ensures kept { behind structures.new.definitions.items ≡ structures_in tree.now.items }
+    ensures counted { IfOk result (λ fault. fault ≡ None → AreCounted (behind structures.new.definitions.items) structures.new.counts.items) }
+    ensures first { IfOk result (IsFirstBroken (structure_rules tree.now.items)) }
+{
+    if let Some(place) = structures.cycle(alloc)? {
+        return Ok(Some((7, place)));
+    }
+    match structures.too_many_leaves() {
+        Some(place) => Ok(Some((8, place))),
+        None => Ok(None),
+    }
+}
+
+/// Rules 9 to 12.
+pub fn first_of_connectors(
+    alloc: Global,
+    tree: &Tree,
+    scopes: &[Scope<'_>],
+) -> Result<Broken, AllocError>
+    requires { AreGraphsOf tree.now.items (graphs_in scopes.now) }
+    ensures connected { IfOk result (λ fault. fault ≡ None → All (λ s. IsConnected s.elements.now) scopes.now) }
+    ensures first { IfOk result (IsFirstBroken (connector_rules tree.now.items)) }
+{
+    if let Some(place) = unknown_activity(scopes) {
+        return Ok(Some((9, place)));
+    }
+    if let Some(place) = double_connector(alloc, scopes)? {
+        return Ok(Some((10, place)));
+    }
+    if let Some(place) = cycle(alloc, scopes)? {
+        return Ok(Some((11, place)));
+    }
+    match empty_graph(scopes) {
+        Some(place) => Ok(Some((12, place))),
+        None => Ok(None),
+    }
+}
