@@ -4,3 +4,4 @@ pub mod Numbering
 pub mod Performing
 pub mod Extra
 pub mod Counted
+pub mod Shaping

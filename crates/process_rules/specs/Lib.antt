@@ -8,3 +8,4 @@ pub mod Said
 pub mod Numbers
 pub mod Counts
 pub mod Search
+pub mod Shapes

@@ -18,4 +18,4 @@ pub use counts::count_limit;
 pub use doers::{is_manual, unknown_people, wrong_performers};
 pub use numbers::{graph_numbers, number};
 pub use people::{Callee, Known};
-pub use sizes::{Shape, expanded_size, nesting, shapes};
+pub use sizes::{Shape, deep_processes, large_processes, shapes};
