@@ -14,7 +14,7 @@ use Rattle.process_rules.specs.Callees.{NamesNoProcess, HasOtherLeaves}
 use Rattle.process_rules.specs.Counts.{IsTooMuch, IsTooMuchOf}
 use Rattle.process_rules.specs.Doers.{NamesNoPerson, NamesNoPerformer}
 use Rattle.process_rules.specs.Numbers.{IsNumberWrong}
-use Rattle.process_rules.specs.Shapes.{NestsTooDeep, IsTooLarge}
+use Rattle.process_rules.specs.Shapes.{IsDeep, IsLargeProcess}
 use Rattle.text_graphs.specs.Graphs.{InGraphs}
 use Rattle.text_graphs.specs.Texts.{people_in, processes_in, structures_in}
 
@@ -83,7 +83,7 @@ people_rules library items = (19, InGraphs items (NamesNoPerson library (people_
 
 -- a process nests too deep, or is too large
 abbrev pub size_rules : Library → List ItemTree → List Rule
-size_rules library items = (21, NestsTooDeep library (processes_in items)) ∷ (22, IsTooLarge library (processes_in items)) ∷ []
+size_rules library items = (21, IsDeep library (processes_in items)) ∷ (22, IsLargeProcess library (processes_in items)) ∷ []
 
 -- a number is out of range; there is too much of something
 abbrev pub count_rules : List ItemTree → List Rule

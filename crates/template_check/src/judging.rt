@@ -94,3 +94,116 @@ pub fn first_of_connectors(
         None => Ok(None),
     }
 }
+
+/// Rules 13 and 14.
+pub fn first_of_leaves<'a>(tree: &Tree, table: &LeafTable<'a>, scopes: &[Scope<'a>]) -> Broken
+    requires graphs { AreGraphsOf tree.now.items (graphs_in scopes.now) }
+    requires leaves { All (λ s. HasLeavesOf table.now (structures_in tree.now.items) (graph_at s)) scopes.now }
+    ensures { IsFirstBroken (leaf_rules tree.now.items) result }
+{
+    if let Some(place) = unknown_leaves(table, scopes) {
+        return Some((13, place));
+    }
+    match mixed_kinds(table, scopes) {
+        Some(place) => Some((14, place)),
+        None => None,
+    }
+}
+
+/// Rules 15 and 16.
+pub fn first_of_lines(
+    alloc: Global,
+    tree: &Tree,
+    scopes: &[Scope<'_>],
+) -> Result<Broken, AllocError>
+    requires { AreGraphsOf tree.now.items (graphs_in scopes.now) }
+    ensures along { IfOk result (λ fault. fault ≡ None → All (λ s. All (IsLineAlong s.elements.now) (lines_in s.elements.now)) scopes.now) }
+    ensures first { IfOk result (IsFirstBroken (line_rules tree.now.items)) }
+{
+    if let Some(place) = otherwise(alloc, scopes)? {
+        return Ok(Some((15, place)));
+    }
+    match unreachable_data(alloc, scopes)? {
+        Some(place) => Ok(Some((16, place))),
+        None => Ok(None),
+    }
+}
+
+/// Rules 17 and 18.
+pub fn first_of_callees<'a>(
+    known: &Known<'a>,
+    tree: &Tree,
+    table: &LeafTable<'a>,
+    scopes: &[Scope<'a>],
+) -> Broken
+    requires graphs { AreGraphsOf tree.now.items (graphs_in scopes.now) }
+    requires leaves { All (λ s. HasLeavesOf table.now (structures_in tree.now.items) (graph_at s)) scopes.now }
+    requires knowing { IsKnowing known.now (processes_in tree.now.items) }
+    ensures { IsIndexed known.now.catalog.now → IsFirstBroken (callee_rules known.now.catalog.now.library tree.now.items) result }
+{
+    if let Some(place) = unknown_processes(known, scopes) {
+        return Some((17, place));
+    }
+    match mismatched_containers(known, table, scopes) {
+        Some(place) => Some((18, place)),
+        None => None,
+    }
+}
+
+/// Rules 19 and 20.
+pub fn first_of_people<'a>(
+    alloc: Global,
+    known: &Known<'a>,
+    tree: &Tree,
+    scopes: &[Scope<'a>],
+) -> Result<Broken, AllocError>
+    requires graphs { AreGraphsOf tree.now.items (graphs_in scopes.now) }
+    requires people { ArePeople known.now (people_in tree.now.items) }
+    ensures { IsIndexed known.now.catalog.now → IfOk result (IsFirstBroken (people_rules known.now.catalog.now.library tree.now.items)) }
+{
+    if let Some(place) = unknown_people(known, scopes) {
+        return Ok(Some((19, place)));
+    }
+    match wrong_performers(alloc, scopes)? {
+        Some(place) => Ok(Some((20, place))),
+        None => Ok(None),
+    }
+}
+
+/// Rules 21 and 22.
+pub fn first_of_sizes(known: &Known<'_>, tree: &Tree, shapes: &[Shape]) -> Broken
+    requires knowing { IsKnowing known.now (processes_in tree.now.items) }
+    requires shapes { IsIndexed known.now.catalog.now → shapes.now ≡ map told_shape (shapes_of known.now.catalog.now.library (processes_in tree.now.items)) }
+    ensures { IsIndexed known.now.catalog.now → IsFirstBroken (size_rules known.now.catalog.now.library tree.now.items) result }
+{
+    if let Some(place) = deep_processes(known, shapes) {
+        return Some((21, place));
+    }
+    match large_processes(known, shapes) {
+        Some(place) => Some((22, place)),
+        None => None,
+    }
+}
+
+/// Rules 23 and 24.
+pub fn first_of_counts<'a>(
+    alloc: Global,
+    tree: &Tree,
+    structures: &Structures<'a>,
+    known: &Known<'a>,
+    scopes: &[Scope<'a>],
+) -> Result<Broken, AllocError>
+    requires graphs { AreGraphsOf tree.now.items (graphs_in scopes.now) }
+    requires structures { behind structures.now.definitions.items ≡ structures_in tree.now.items }
+    requires knowing { IsKnowing known.now (processes_in tree.now.items) }
+    ensures limited { IfOk result (λ fault. fault ≡ None → All (λ s. IsLimited s.elements.now) scopes.now) }
+    ensures first { IfOk result (IsFirstBroken (count_rules tree.now.items)) }
+{
+    if let Some(place) = lesser(structures.count_fault(), graph_numbers(alloc, scopes)?) {
+        return Ok(Some((23, place)));
+    }
+    match count_limit(known, scopes) {
+        Some(place) => Ok(Some((24, place))),
+        None => Ok(None),
+    }
+}
