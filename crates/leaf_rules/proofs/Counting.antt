@@ -4,6 +4,7 @@ use Rattle.std.specs.Prelude.{slice_get, slice_index}
 use Rattle.std.specs.List.{Contains, flat_map, range_with_len}
 use Rattle.std.specs.Option.{option_and_then}
 use Rattle.std.proofs.Math.ListN.{length-set}
+use Rattle.std.proofs.Math.Nat.{mul-le-mul_right}
 use Rattle.std.proofs.lemmas.Bool.{cases_eq, cases_lt}
 use Rattle.std.proofs.lemmas.List.{length-map, length-append, length-replicate, get_or-set_same, get_or-set_other}
 use Rattle.std.proofs.lemmas.Option.{slice_get_within, slice_get-get_or}
@@ -185,3 +186,66 @@ large_where structures counts h i s found is least =
 
 pub told_whole : (count n : ℕ) → count < 2 ^ 64 → told (count + 0) ≡ told n → count ≡ told n
 told_whole count n fits same = omega arith
+
+-- ---- structures with no leaves
+
+members_grow : (f g : List ℕ → List Leaf) → ((name : List ℕ) → length (f name) ≤ length (g name)) → (members : List Member) → length (members_leaves f members) ≤ length (members_leaves g members)
+members_grow f g more [] = omega arith
+members_grow f g more (m ∷ later) =
+    let rest = members_grow f g more later in
+    let here = mul-le-mul_right (element_count m) (kinds m.kind) in
+    let a = members_length f m later in
+    let b = members_length g m later in
+    omega arith
+  where
+    kinds : (k : KindTree) → length (kind_leaves f k) ≤ length (kind_leaves g k)
+    kinds kind.Long = omega arith
+    kinds kind.Str = omega arith
+    kinds (kind.Struct name) = more name.name
+
+-- deeper there are no fewer
+leaves_grow : (structures : List StructDef) (depth more : ℕ) (name : List ℕ) → length (leaves_to structures depth name) ≤ length (leaves_to structures (depth + more) name)
+leaves_grow structures zero more name = let e = ap (length {A = Leaf}) (leaves_to-zero structures name) in omega arith
+leaves_grow structures (suc depth) more name =
+    let step = members_grow (leaves_to structures depth) (leaves_to structures (depth + more)) (leaves_grow structures depth more) (members_named structures name) in
+    let at : suc depth + more ≡ suc (depth + more) = omega arith in
+    let from = ap (length {A = Leaf}) (leaves_to-suc structures depth name) in
+    let to = ap (length {A = Leaf}) (ap (λ (d : ℕ). leaves_to structures d name) at ∙ leaves_to-suc structures (depth + more) name) in
+    omega arith
+
+no_element : {X : Type 0} (xs : List X) → length xs ≤ 0 → xs ≡ []
+no_element [] h = refl
+no_element (x ∷ xs) h = absurd (omega arith)
+
+unnamed_leaves : (structures : List StructDef) (depth : ℕ) (name : List ℕ) → structure_in structures name ≡ None → leaves_to structures depth name ≡ []
+unnamed_leaves structures zero name none = leaves_to-zero structures name
+unnamed_leaves structures (suc depth) name none =
+    leaves_to-suc structures depth name ∙ ap (λ (o : Option ℕ). members_leaves (leaves_to structures depth) (members_said (option_and_then (λ n. slice_get structures n) o))) none
+
+-- one that counts none has none at any depth
+pub empty_where : (structures : List StructDef) (counts : List ℕ) → AreCounted structures counts → (name : List ℕ) → count_at counts (structure_in structures name) ≡ 0 → (depth : ℕ) → leaves_to structures depth name ≡ []
+empty_where structures counts h name none depth = by (structure_in structures name) refl none
+  where
+    by_structure : (number : ℕ) (o : Option StructDef) → structure_in structures name ≡ Some number → slice_get structures number ≡ o → get_or counts number 0 ≡ 0 → leaves_to structures depth name ≡ []
+    by_structure number None known is zero_ = let less = first_below _ structures number known in absurd (missing structures number less is)
+      where
+        missing : (ss : List StructDef) (n : ℕ) → n < length ss → slice_get ss n ≡ None → ⊥
+        missing [] n less e = omega arith
+        missing (s ∷ ss) zero less e = cc
+        missing (s ∷ ss) (suc n) less e = missing ss n (omega arith) e
+    by_structure number (Some s) known is zero_ =
+        let far = depth + length structures in
+        let members : members_named structures name ≡ s.members = ap (λ (o : Option ℕ). members_said (option_and_then (λ n. slice_get structures n) o)) known ∙ ap members_said is in
+        let told_none : told (length (members_leaves (leaves_to structures far) s.members)) ≡ 0 = sym (h.right number far s is (omega arith)) ∙ zero_ in
+        let whole = ap (length {A = Leaf}) (leaves_to-suc structures far name ∙ ap (λ (ms : List Member). members_leaves (leaves_to structures far) ms) members) in
+        let grown = leaves_grow structures depth (length structures + 1) name in
+        let at : depth + (length structures + 1) ≡ suc far = omega arith in
+        let same = ap (λ (d : ℕ). length (leaves_to structures d name)) at in
+        no_element (leaves_to structures depth name) (at_most (length (leaves_to structures depth name)) (length (leaves_to structures (depth + (length structures + 1)) name)) (length (members_leaves (leaves_to structures far) s.members)) grown (same ∙ whole) told_none)
+      where
+        at_most : (a b n : ℕ) → a ≤ b → b ≡ n → told n ≡ 0 → a ≤ 0
+        at_most a b n le e z = omega arith
+
+    by : (o : Option ℕ) → structure_in structures name ≡ o → count_at counts o ≡ 0 → leaves_to structures depth name ≡ []
+    by None known zero_ = unnamed_leaves structures depth name known
+    by (Some number) known zero_ = by_structure number (slice_get structures number) known refl zero_

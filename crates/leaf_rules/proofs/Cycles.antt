@@ -73,7 +73,7 @@ module _ (structures : List StructDef) where
   start_below within a (c ∷ through) walk = source_below within a c walk.0
 
   -- the structure of a number that is small enough
-  there_is : (ss : List StructDef) (a : ℕ) → a < length ss → (s : StructDef) × (slice_get ss a ≡ Some s)
+  pub there_is : (ss : List StructDef) (a : ℕ) → a < length ss → (s : StructDef) × (slice_get ss a ≡ Some s)
   there_is [] a less = absurd (omega arith)
   there_is (s ∷ ss) zero less = (s, refl)
   there_is (s ∷ ss) (suc a) less = there_is ss a (omega arith)

@@ -2,3 +2,5 @@
 pub mod Edging
 pub mod Cycles
 pub mod Counting
+pub mod Turns
+pub mod Filling

@@ -4,3 +4,5 @@ pub mod Structures
 pub mod StructureLeaves
 pub mod KindEdges
 pub mod Counts
+pub mod Walking
+pub mod Tables

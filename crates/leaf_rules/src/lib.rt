@@ -6,6 +6,7 @@
 mod forms;
 mod members;
 mod structures;
+mod walks;
 
 pub use forms::{StructureLeaves, leaves_copy};
 pub use members::{LeafTable, Search, leaf_fault};

@@ -1,7 +1,13 @@
 //! Rules 13 and 14: the leaves that conditions and maps read and write, and their kinds.
-ghost use Rattle.std.specs.Prelude.{◌≡◌, ◌<◌, ◌^◌, length, IfSome, option_map};
-ghost use Rattle.leaf_rules.specs.Leaves.{with_code, table_leaves, input_leaves, output_leaves, source_leaves, target_leaves, line_source, line_target};
+ghost use Rattle.std.specs.Prelude.{◌≡◌, ◌<◌, ◌^◌, length, IfOk, IfSome, OnOk, option_map};
+ghost use Rattle.std.specs.List.{All};
+ghost use Rattle.text_graphs.specs.Graphs.{graph_at};
 ghost use Rattle.text_graphs.specs.GraphTexts.{text_of};
+ghost use Rattle.leaf_rules.specs.Structures.{behind};
+ghost use Rattle.leaf_rules.specs.StructureLeaves.{leaves_in};
+ghost use Rattle.leaf_rules.specs.Counts.{AreCounted};
+ghost use Rattle.leaf_rules.specs.Leaves.{with_code, table_leaves, input_leaves, output_leaves, source_leaves, target_leaves, line_source, line_target};
+ghost use Rattle.leaf_rules.specs.Tables.{HasContainers, IsTrueTo, IsGrown};
 
 use crate::forms::{StructureLeaves, both_forms};
 use crate::structures::Structures;
@@ -23,12 +29,16 @@ pub struct LeafTable<'a> {
 }
 
 impl<'a> LeafTable<'a> {
-    /// The leaves that the containers of these graphs have.
+    /// The leaves that the containers of these graphs have. Leaves have to be counted: see `Structures::cycle`.
     pub fn new(
         alloc: Global,
         structures: Structures<'a>,
         scopes: &[Scope<'a>],
-    ) -> Result<LeafTable<'a>, AllocError> {
+    ) -> Result<LeafTable<'a>, AllocError>
+        requires { AreCounted (behind structures.definitions.items) structures.counts.items }
+        ensures kept { IfOk result (λ table. behind table.structures.definitions.items ≡ behind structures.entry.definitions.items) }
+        ensures there { IfOk result (λ table. All (λ s. HasContainers (leaves_in (behind structures.entry.definitions.items)) (table_leaves table) (graph_at s)) scopes.now) }
+    {
         let mut table = LeafTable {
             structures,
             leaves: IndexMap::new(alloc),
@@ -39,22 +49,57 @@ impl<'a> LeafTable<'a> {
         Ok(table)
     }
 
-    fn add_scope(&mut self, alloc: Global, scope: &Scope<'a>) -> Result<(), AllocError> {
+    /// Adds the leaves of the containers of a graph.
+    fn add_scope(&mut self, alloc: Global, scope: &Scope<'a>) -> Result<(), AllocError>
+        requires counted { AreCounted (behind self.old.structures.definitions.items) self.old.structures.counts.items }
+        requires right { IsTrueTo (leaves_in (behind self.old.structures.definitions.items)) (table_leaves self.old) }
+        ensures kept { OnOk result (self.new.structures ≡ self.old.structures) }
+        ensures grown { OnOk result (IsGrown (leaves_in (behind self.old.structures.definitions.items)) (table_leaves self.old) (table_leaves self.new)) }
+        ensures there { OnOk result (HasContainers (leaves_in (behind self.old.structures.definitions.items)) (table_leaves self.new) (graph_at scope.now)) }
+    {
         self.add(alloc, scope.input)?;
         self.add(alloc, scope.output)?;
         for activity in &scope.activities {
-            self.add(alloc, &activity.input)?;
-            self.add(alloc, &activity.output)?;
+            self.add_both(alloc, &activity.input, &activity.output)?;
         }
         Ok(())
     }
 
-    fn add(&mut self, alloc: Global, name: &'a NameAt) -> Result<(), AllocError> {
+    fn add_both(
+        &mut self,
+        alloc: Global,
+        input: &'a NameAt,
+        output: &'a NameAt,
+    ) -> Result<(), AllocError>
+        requires counted { AreCounted (behind self.old.structures.definitions.items) self.old.structures.counts.items }
+        requires right { IsTrueTo (leaves_in (behind self.old.structures.definitions.items)) (table_leaves self.old) }
+        ensures kept { OnOk result (self.new.structures ≡ self.old.structures) }
+        ensures grown { OnOk result (IsGrown (leaves_in (behind self.old.structures.definitions.items)) (table_leaves self.old) (table_leaves self.new)) }
+        ensures input { OnOk result (table_leaves self.new input.now.name ≡ leaves_in (behind self.old.structures.definitions.items) input.now.name) }
+        ensures output { OnOk result (table_leaves self.new output.now.name ≡ leaves_in (behind self.old.structures.definitions.items) output.now.name) }
+    {
+        self.add(alloc, input)?;
+        self.add(alloc, output)?;
+        Ok(())
+    }
+
+    /// Adds the leaves of the structure of this name, if it has one and they are not there.
+    fn add(&mut self, alloc: Global, name: &'a NameAt) -> Result<(), AllocError>
+        requires counted { AreCounted (behind self.old.structures.definitions.items) self.old.structures.counts.items }
+        requires right { IsTrueTo (leaves_in (behind self.old.structures.definitions.items)) (table_leaves self.old) }
+        ensures kept { OnOk result (self.new.structures ≡ self.old.structures) }
+        ensures grown { OnOk result (IsGrown (leaves_in (behind self.old.structures.definitions.items)) (table_leaves self.old) (table_leaves self.new)) }
+        ensures there { OnOk result (table_leaves self.new name.now.name ≡ leaves_in (behind self.old.structures.definitions.items) name.now.name) }
+    {
         let key = name.name.as_slice();
-        if self.structures.number(name).is_some() && !self.leaves.contains_key(&key) {
-            let plain = self.structures.leaves(alloc, name)?;
-            self.leaves.insert(key, both_forms(alloc, plain)?)?;
+        let Some(_number) = self.structures.number(name) else {
+            return Ok(());
+        };
+        if self.leaves.contains_key(&key) {
+            return Ok(());
         }
+        let plain = self.structures.leaves(alloc, name)?;
+        self.leaves.insert(key, both_forms(alloc, plain)?)?;
         Ok(())
     }
 

@@ -1,5 +1,5 @@
 //! The structures of a text with their leaves, and rules 6, 7 and 8 on them.
-ghost use Rattle.std.specs.Prelude.{◌≡◌, ◌⊎◌, ◌<◌, ◌++◌, map, length, false, replicate, slice_index, slice_index_or, slice_set, IfOk, IsTrue, OnOk};
+ghost use Rattle.std.specs.Prelude.{◌≡◌, ◌⊎◌, ℕ, ◌<◌, ◌++◌, [], map, length, false, replicate, slice_index, slice_index_or, slice_set, IfOk, IsTrue, OnOk};
 ghost use Rattle.std.specs.List.{filter_map};
 ghost use Rattle.graph_check.specs.Walks.{IsOrder};
 ghost use Rattle.text_graphs.specs.ClosedWalks.{AreClosed};
@@ -7,13 +7,11 @@ ghost use Rattle.text_graphs.specs.Graphs.{graph_at};
 ghost use Rattle.text_graphs.specs.Places.{IsLeastOf, AnyAt};
 ghost use Rattle.text_graphs.specs.Texts.{activities_in, structures_in};
 ghost use Rattle.leaf_rules.specs.Structures.{AreStructuresNumbered, behind, structure_in, IsNoStructure, IsNoKind, AreNoKinds, AreNoContainers, AreNoContainersIn, NamesNoStructure};
-ghost use Rattle.leaf_rules.specs.StructureLeaves.{element_count};
+ghost use Rattle.leaf_rules.specs.StructureLeaves.{element_count, members_named, leaves_to};
 ghost use Rattle.leaf_rules.specs.KindEdges.{kind_in, kind_edge, kind_edges, IsInStructureCycle};
 ghost use Rattle.leaf_rules.specs.Counts.{told, AreCounted, count_at, kind_count, members_count, HasTooManyLeaves};
 
-use flow_model::{
-    ItemTree, Kind, KindTree, Leaf, LeafName, Leaves, List, Member, NameAt, Step, StructDef, Tree,
-};
+use flow_model::{ItemTree, KindTree, Member, NameAt, StructDef, Tree};
 use indexmap::IndexMap;
 use std::alloc::{AllocError, Global};
 use text_graphs::{Edges, Scope, lesser, narrow};
@@ -31,17 +29,8 @@ pub struct Structures<'a> {
     ghost numbered: { AreStructuresNumbered (map (λ s. s.now) definitions.items) numbers },
 }
 
-/// Where a walk over the leaves stands in one structure.
-#[derive(Clone, Copy)]
-struct Visit {
-    structure: u32,
-    member: usize,
-    /// How many elements of the member were begun.
-    begun: u64,
-}
-
 /// How many elements a member has.
-fn element_count(member: &Member) -> u64
+pub(crate) fn element_count(member: &Member) -> u64
     ensures { result ≡ element_count member.now }
 {
     match &member.count {
@@ -356,119 +345,29 @@ impl<'a> Structures<'a> {
         least
     }
 
-    /// The member that a visit stands at.
-    fn member(&self, visit: Visit) -> Option<&'a Member> {
-        let structure = self.definitions.get(visit.structure as usize)?;
-        structure.members.as_slice().get(visit.member)
+    /// How many structures the text has.
+    pub(crate) fn len(&self) -> usize
+        ensures { result ≡ length (behind self.now.definitions.items) }
+    {
+        self.definitions.len()
     }
 
-    /// The steps of the leaf that visits lead to.
-    fn leaf_name(&self, alloc: Global, visits: &[Visit]) -> Result<LeafName, AllocError> {
-        let mut steps = List::new(alloc);
-        for visit in visits {
-            if let Some(member) = self.member(*visit) {
-                steps.push(Step::Member(member.name.name.copy(alloc)?))?;
-                if member.count.is_some() {
-                    let place = visit.begun.saturating_sub(1);
-                    steps.push(Step::Place(u32::try_from(place).unwrap_or(u32::MAX)))?;
-                }
-            }
-        }
-        Ok(LeafName { steps })
-    }
-
-    /// The structure to go into, if a member's kind is one that has leaves.
-    fn inner(&self, kind: &'a KindTree) -> Option<u32> {
-        match kind {
-            KindTree::Struct(name) if count_at(&self.counts, self.number(name)) > 0 => {
-                self.number(name)
-            }
-            _ => None,
+    /// The members of the structure of this name; none where no structure has it.
+    pub(crate) fn members(&self, name: &'a NameAt) -> &'a [Member]
+        ensures { result.now ≡ members_named (behind self.now.definitions.items) name.now.name }
+    {
+        match self.number(name) {
+            None => &[],
+            Some(number) => self.definitions[number as usize].members.as_slice(),
         }
     }
 
-    /// The kind of the leaf that a member is, if it is one.
-    fn leaf_kind(kind: &KindTree) -> Option<Kind> {
-        match kind {
-            KindTree::Long => Some(Kind::Long),
-            KindTree::Str => Some(Kind::Str),
-            KindTree::Struct(_) => None,
-        }
-    }
-
-    /// One step of the walk over the leaves.
-    fn advance(
-        &self,
-        alloc: Global,
-        visits: &mut Vec<Visit>,
-        leaves: &mut List<Leaf>,
-    ) -> Result<(), AllocError> {
-        let Some(visit) = visits.pop() else {
-            return Ok(());
-        };
-        let Some(member) = self.member(visit) else {
-            return Ok(());
-        };
-        let kind = Self::leaf_kind(&member.kind);
-        let inner = self.inner(&member.kind);
-        let is_over = kind.is_none() && inner.is_none() || visit.begun >= element_count(member);
-        if is_over {
-            visits.push(Visit {
-                structure: visit.structure,
-                member: visit.member.saturating_add(1),
-                begun: 0,
-            })?;
-            return Ok(());
-        }
-        visits.push(Visit {
-            structure: visit.structure,
-            member: visit.member,
-            begun: visit.begun.saturating_add(1),
-        })?;
-        if let Some(kind) = kind {
-            let name = self.leaf_name(alloc, visits)?;
-            leaves.push(Leaf { name, kind })?;
-        }
-        if let Some(structure) = inner {
-            visits.push(Visit {
-                structure,
-                member: 0,
-                begun: 0,
-            })?;
-        }
-        Ok(())
-    }
-
-    /// Adds the leaves of the structure of this name, depth first, arrays by place from 0.
-    fn add_leaves(
-        &self,
-        alloc: Global,
-        name: &'a NameAt,
-        leaves: &mut List<Leaf>,
-    ) -> Result<(), AllocError> {
-        let Some(structure) = self.number(name) else {
-            return Ok(());
-        };
-        let mut visits = Vec::new(alloc);
-        visits.push(Visit {
-            structure,
-            member: 0,
-            begun: 0,
-        })?;
-        for _ in 0..u64::MAX {
-            if visits.is_empty() {
-                break;
-            }
-            self.advance(alloc, &mut visits, leaves)?;
-        }
-        Ok(())
-    }
-
-    /// The leaves of the structure of this name.
-    pub fn leaves(&self, alloc: Global, name: &'a NameAt) -> Result<Leaves, AllocError> {
-        let mut leaves = List::new(alloc);
-        self.add_leaves(alloc, name, &mut leaves)?;
-        Ok(Leaves { leaves })
+    /// Whether the structure of this name has leaves.
+    pub(crate) fn has_leaves(&self, name: &'a NameAt) -> bool
+        requires { AreCounted (behind self.now.definitions.items) self.now.counts.items }
+        ensures { result ≡ false → (depth : ℕ) → leaves_to (behind self.now.definitions.items) depth name.now.name ≡ [] }
+    {
+        count_at(&self.counts, self.number(name)) > 0
     }
 
     /// The place of the first array count outside 1 to 512.
