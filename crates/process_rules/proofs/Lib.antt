@@ -5,3 +5,4 @@ pub mod Performing
 pub mod Extra
 pub mod Counted
 pub mod Shaping
+pub mod Deciding

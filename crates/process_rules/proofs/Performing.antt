@@ -1,5 +1,5 @@
 -- Which names are those of manual activities that lead to another one.
-use Rattle.std.proofs.Common.{◌≡◌, ℕ, ◌<◌, Bool, true, false, List, [], ◌∷◌, length, Option, Some, refl, sym, ap, subst, ◌∙◌, inl, inr, ⊎_elim, arith}
+use Rattle.std.proofs.Common.{◌≡◌, ℕ, ◌<◌, Bool, true, false, List, [], ◌∷◌, length, Some, refl, sym, subst, ◌∙◌, ⊎_elim, arith}
 use Rattle.std.specs.Prelude.{slice_index_or}
 use Rattle.std.specs.Bool.{Decides}
 use Rattle.std.specs.List.{list_any}
@@ -13,11 +13,11 @@ use Rattle.graph_check.specs.Spreading.{AreReaching}
 use Rattle.graph_check.specs.Walks.{Reaches}
 use Rattle.text_graphs.specs.Attributes.{is_start_manual}
 use Rattle.text_graphs.specs.GraphEdges.{AreEdgesOf}
-use Rattle.text_graphs.specs.Places.{IsLeastOf, AnyAt}
+use Rattle.text_graphs.specs.Places.{AnyAt}
 use Rattle.text_graphs.specs.declared.edges.Edges.{Edges}
 use Rattle.text_graphs.specs.Texts.{activities_in, activity_named, edges_in, number_in}
 use Rattle.text_graphs.proofs.Naming.{first_below}
-use Rattle.process_rules.specs.Doers.{Leads, IsManual, IsPerformer, IsNoPerformer, is_performer}
+use Rattle.process_rules.specs.Doers.{Leads, IsManual, IsNoPerformer, is_performer}
 
 some_same : {X : Type 0} (a b : X) → Some a ≡ Some b → a ≡ b
 some_same a b e = cc
@@ -41,13 +41,6 @@ decides_manual elements name a b is tells = (
       let same : manual.0 ≡ a = some_same manual.0 a (sym manual.1 ∙ sym is) in
       tells ∙ subst (λ (x : ActivityTree). list_any (λ y. is_start_manual y.what) x.attrs ≡ true) same manual.2,
 )
-
--- a test behind another one
-pub decides_second : (P Q : Type 0) (a b : Bool) → a ≡ true → Decides a P → Decides b Q → Decides b (P × Q)
-decides_second P Q a b is h k = (λ e. (h.0 is, k.0 e), λ both. k.1 both.1)
-
-pub decides_neither : (P Q : Type 0) (a : Bool) → a ≡ false → Decides a P → Decides a (P × Q)
-decides_neither P Q a off h = (λ e. absurd (both_ways a off e), λ both. h.1 both.0)
 
 -- the walks that were looked for are those of the graph
 pub reaching_here : (elements : List ElementTree) (edges : Edges) (to : ℕ) (found seen : List Bool) → AreEdgesOf elements edges → to < length (activities_in elements) → seen ≡ found

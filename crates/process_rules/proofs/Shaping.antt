@@ -1,16 +1,15 @@
 -- The shapes of graphs and processes, one after another.
-use Rattle.std.proofs.Common.{◌≡◌, ℕ, suc, ◌+◌, ◌-◌, ◌^◌, ◌<◌, ◌≤◌, min, max, List, [], ◌∷◌, ◌++◌, length, get_or, take, map, fold, Option, Some, None, refl, sym, ap, subst, ◌∙◌, arith, add-one}
+use Rattle.std.proofs.Common.{◌≡◌, ℕ, ◌+◌, ◌-◌, ◌^◌, ◌<◌, min, max, List, [], ◌∷◌, ◌++◌, length, get_or, take, map, fold, Option, Some, None, refl, sym, ap, ◌∙◌, arith, add-one}
 use Rattle.std.specs.Prelude.{slice_get, unwrap_or}
-use Rattle.std.specs.List.{sum_by, cons_option}
+use Rattle.std.specs.List.{cons_option}
 use Rattle.std.specs.Option.{option_map}
-use Rattle.std.proofs.lemmas.List.{map-append, take_more, take_all}
+use Rattle.std.proofs.lemmas.List.{map-append, take_more}
 use Rattle.std.proofs.lemmas.List.Sums.{fold_push, sum_by_push}
 use Rattle.std.proofs.lemmas.Option.{slice_get-map}
 use Rattle.flow_model.specs.declared.graphs.Library.{Library}
-use Rattle.flow_model.specs.declared.trees.ElementTree.{ElementTree}
 use Rattle.flow_model.specs.declared.trees.ProcessTree.{ProcessTree}
 use Rattle.process_rules.specs.Callees.{Calls}
-use Rattle.process_rules.specs.Shapes.{nothing, nested, graph_of, element_adds, graph_shape, shape_at, named_shape, shapes_to, told_shape}
+use Rattle.process_rules.specs.Shapes.{nothing, nested, graph_of, graph_shape, shape_at, named_shape, shapes_to, told_shape}
 use Rattle.process_rules.specs.declared.sizes.Shape.{Shape}
 
 same_shape : (a b : Shape) → a.depth ≡ b.depth → a.size ≡ b.size → a ≡ b

@@ -1,20 +1,24 @@
 //! Rules 17 and 18: the processes that activities name, and the leaves of their containers.
-ghost use Rattle.std.specs.Prelude.{◌≡◌, List, option_copied};
+ghost use Rattle.std.specs.Prelude.{◌≡◌, List, map, option_copied};
+ghost use Rattle.std.specs.Bool.{Decides};
+ghost use Rattle.std.specs.Option.{option_map};
 ghost use Rattle.flow_model.specs.declared.trees.ProcessTree.{ProcessTree};
-ghost use Rattle.process_rules.specs.Callees.{process_named, IsNoProcess, NamesNone, NamesNoProcess};
+ghost use Rattle.leaf_rules.specs.Leaves.{table_leaves};
+ghost use Rattle.process_rules.specs.Callees.{process_named, IsNoProcess, NamesNone, NamesNoProcess, called, callee_input, callee_output, IsFitting, IsMisfit, HasMisfitBy, HasMisfit};
 ghost use Rattle.process_rules.specs.Calling.{callee_meant};
 ghost use Rattle.process_rules.specs.Imports.{IsIndexed};
 ghost use Rattle.process_rules.specs.Knowing.{IsKnowing};
 ghost use Rattle.text_graphs.specs.Graphs.{graph_at};
 ghost use Rattle.text_graphs.specs.Places.{IsLeastOf, AnyAt};
 
+use crate::alike::are_alike;
 use crate::people::{Callee, Known};
-use flow_model::{ActivityTree, Leaf, Leaves, NameAt, Step, WorkTree};
+use flow_model::{ActivityTree, Leaves, NameAt, WorkTree};
 use leaf_rules::LeafTable;
 use text_graphs::{Scope, lesser};
 
 /// The name of the process that an activity runs; None of other activities.
-pub fn process_name(work: &WorkTree) -> Option<&NameAt>
+fn process_name(work: &WorkTree) -> Option<&NameAt>
     ensures { option_copied result ≡ process_named work.now }
 {
     match work {
@@ -64,77 +68,123 @@ pub fn unknown_processes<'a>(known: &Known<'a>, scopes: &[Scope<'a>]) -> Option<
     unknown_in_graphs(known, scopes)
 }
 
-fn same_step(first: &Step, second: &Step) -> bool {
-    match (first, second) {
-        (Step::Member(a), Step::Member(b)) => a.as_slice() == b.as_slice(),
-        (Step::Rc, Step::Rc) => true,
-        (Step::Place(a), Step::Place(b)) => a == b,
-        _ => false,
+/// What an activity in the process of this number runs.
+fn called<'a>(known: &Known<'a>, process: u32, work: &'a WorkTree) -> Option<Callee>
+    ensures { result ≡ called (callee_meant known.now) process work.now }
+{
+    match process_name(work) {
+        None => None,
+        Some(name) => known.callee(process, name),
     }
 }
 
-fn same_leaf(first: &Leaf, second: &Leaf) -> bool {
-    let (a, b) = (first.name.steps.as_slice(), second.name.steps.as_slice());
-    first.kind == second.kind
-        && a.len() == b.len()
-        && a.iter().zip(b.iter()).all(|(x, y)| same_step(x, y))
-}
-
-/// Whether two containers have the same leaves in the same order.
-fn same_leaves(first: &Leaves, second: &Leaves) -> bool {
-    let (a, b) = (first.leaves.as_slice(), second.leaves.as_slice());
-    a.len() == b.len() && a.iter().zip(b.iter()).all(|(x, y)| same_leaf(x, y))
-}
-
-fn fits(ours: Option<&Leaves>, theirs: Option<&Leaves>) -> bool {
-    match (ours, theirs) {
-        (Some(ours), Some(theirs)) => same_leaves(ours, theirs),
-        _ => false,
+/// The leaves of the input of a process.
+fn callee_input<'t, 'a>(
+    known: &'t Known<'a>,
+    table: &'t LeafTable<'a>,
+    callee: Callee,
+) -> Option<&'t Leaves>
+    ensures { option_map (λ l. l.now.leaves) result ≡ callee_input (table_leaves table.now) known.now.catalog.now.library (map (λ p. p.now) known.now.processes.items) callee }
+{
+    match callee {
+        Callee::Text(number) => match known.process(number) {
+            None => None,
+            Some(process) => table.plain(&process.input),
+        },
+        Callee::Library(place) => match known.catalog().template(place) {
+            None => None,
+            Some(template) => Some(&template.graph.input),
+        },
     }
 }
 
-/// Whether the containers of a process activity have the leaves of the process's.
-fn fits_callee<'a>(
+/// The leaves of its output.
+fn callee_output<'t, 'a>(
+    known: &'t Known<'a>,
+    table: &'t LeafTable<'a>,
+    callee: Callee,
+) -> Option<&'t Leaves>
+    ensures { option_map (λ l. l.now.leaves) result ≡ callee_output (table_leaves table.now) known.now.catalog.now.library (map (λ p. p.now) known.now.processes.items) callee }
+{
+    match callee {
+        Callee::Text(number) => match known.process(number) {
+            None => None,
+            Some(process) => table.plain(&process.output),
+        },
+        Callee::Library(place) => match known.catalog().template(place) {
+            None => None,
+            Some(template) => Some(&template.graph.output),
+        },
+    }
+}
+
+/// Whether the containers of an activity are like those of a process.
+fn fits<'a>(
     known: &Known<'a>,
     table: &LeafTable<'a>,
     activity: &'a ActivityTree,
     callee: Callee,
-) -> bool {
+) -> bool
+    ensures { Decides result (IsFitting (table_leaves table.now) known.now.catalog.now.library (map (λ p. p.now) known.now.processes.items) activity.now callee) }
+{
     let input = table.plain(&activity.input);
     let output = table.plain(&activity.output);
-    match callee {
-        Callee::Text(number) => match known.processes().get(number as usize) {
-            None => false,
-            Some(process) => {
-                fits(input, table.plain(&process.input))
-                    && fits(output, table.plain(&process.output))
-            }
-        },
-        Callee::Library(place) => match known.catalog().template(place) {
-            None => false,
-            Some(template) => {
-                fits(input, Some(&template.graph.input))
-                    && fits(output, Some(&template.graph.output))
-            }
-        },
-    }
+    are_alike(input, callee_input(known, table, callee))
+        && are_alike(output, callee_output(known, table, callee))
 }
 
-/// Rule 18: the leaves of a process activity's containers and of the process's differ.
-pub fn container_mismatch<'a>(
+/// The place of an activity whose containers aren't like those of the process that it runs.
+fn misfit<'a>(
     known: &Known<'a>,
     table: &LeafTable<'a>,
-    scope: &Scope<'a>,
-) -> Option<u32> {
-    let mut least = None;
-    for activity in &scope.activities {
-        if let WorkTree::Process(name) = &activity.work {
-            if let Some(callee) = known.callee(scope.process, name) {
-                if !fits_callee(known, table, activity, callee) {
-                    least = lesser(least, Some(activity.place));
-                }
+    process: u32,
+    activity: &'a ActivityTree,
+) -> Option<u32>
+    ensures { IsLeastOf (IsMisfit (table_leaves table.now) known.now.catalog.now.library (map (λ p. p.now) known.now.processes.items) activity.now (called (callee_meant known.now) process activity.now.work)) result }
+{
+    match called(known, process, &activity.work) {
+        None => None,
+        Some(callee) => {
+            if fits(known, table, activity, callee) {
+                None
+            } else {
+                Some(activity.place)
             }
         }
     }
+}
+
+fn misfit_in_graph<'a>(known: &Known<'a>, table: &LeafTable<'a>, scope: &Scope<'a>) -> Option<u32>
+    ensures { IsLeastOf (HasMisfitBy (callee_meant known.now) (table_leaves table.now) known.now.catalog.now.library (map (λ p. p.now) known.now.processes.items) (graph_at scope.now)) result }
+{
+    let mut least = None;
+    for activity in &scope.activities {
+        least = lesser(least, misfit(known, table, scope.process, activity));
+    }
     least
+}
+
+fn misfit_in_graphs<'a>(
+    known: &Known<'a>,
+    table: &LeafTable<'a>,
+    scopes: &[Scope<'a>],
+) -> Option<u32>
+    ensures { IsLeastOf (AnyAt (λ s. HasMisfitBy (callee_meant known.now) (table_leaves table.now) known.now.catalog.now.library (map (λ p. p.now) known.now.processes.items) (graph_at s)) scopes.now) result }
+{
+    let mut least = None;
+    for scope in scopes {
+        least = lesser(least, misfit_in_graph(known, table, scope));
+    }
+    least
+}
+
+/// Rule 18: the leaves of a process activity's containers and of the process's differ.
+pub fn mismatched_containers<'a>(
+    known: &Known<'a>,
+    table: &LeafTable<'a>,
+    scopes: &[Scope<'a>],
+) -> Option<u32>
+    ensures { (processes : List ProcessTree) → IsKnowing known.now processes → IsIndexed known.now.catalog.now → IsLeastOf (AnyAt (λ s. HasMisfit (table_leaves table.now) known.now.catalog.now.library processes (graph_at s)) scopes.now) result }
+{
+    misfit_in_graphs(known, table, scopes)
 }

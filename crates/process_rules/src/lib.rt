@@ -3,6 +3,7 @@
 //! Knows the graphs of a text and the library of earlier imports; never instances. Begin with [`Known`].
 #![tactic(auto)]
 
+mod alike;
 mod callees;
 mod catalog;
 mod counts;
@@ -12,7 +13,7 @@ mod people;
 mod said;
 mod sizes;
 
-pub use callees::{container_mismatch, unknown_processes};
+pub use callees::{mismatched_containers, unknown_processes};
 pub use catalog::Catalog;
 pub use counts::count_limit;
 pub use doers::{is_manual, unknown_people, wrong_performers};

@@ -1,5 +1,5 @@
 //! What the names of processes and people stand for in a text.
-ghost use Rattle.std.specs.Prelude.{◌≡◌, ℕ, ◌<◌, List, [], ◌∷◌, ◌++◌, IfOk, OnOk, IfSome};
+ghost use Rattle.std.specs.Prelude.{◌≡◌, ℕ, ◌<◌, List, [], ◌∷◌, ◌++◌, IfOk, OnOk, IfSome, map, slice_get, option_copied};
 ghost use Rattle.std.specs.List.{cons_option};
 ghost use Rattle.flow_model.specs.declared.trees.PersonTree.{PersonTree};
 ghost use Rattle.flow_model.specs.declared.trees.ProcessTree.{ProcessTree};
@@ -88,6 +88,13 @@ impl<'a> Known<'a> {
         ensures { result.now ≡ self.now.processes.items }
     {
         &self.processes
+    }
+
+    /// The process of a number.
+    pub fn process(&self, number: u32) -> Option<&'a ProcessTree>
+        ensures { option_copied result ≡ slice_get (map (λ p. p.now) self.now.processes.items) number }
+    {
+        self.processes.get(number as usize).copied()
     }
 
     /// The library of earlier imports.

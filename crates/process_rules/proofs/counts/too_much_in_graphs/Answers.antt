@@ -1,4 +1,3 @@
-use Rattle.std.proofs.Common.{◌≡◌, None}
 use Rattle.std.proofs.lemmas.List.Elements.{AllWithin-more, at_read}
 use Rattle.process_rules.specs.Counts.{IsTooMuch}
 use Rattle.text_graphs.specs.Graphs.{graph_at}

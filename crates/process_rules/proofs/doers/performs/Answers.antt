@@ -1,5 +1,5 @@
 use Rattle.process_rules.specs.Doers.{Leads, IsManual}
-use Rattle.process_rules.proofs.Performing.{decides_second, decides_neither}
+use Rattle.process_rules.proofs.Deciding.{decides_second, decides_neither}
 use Rattle.process_rules.proofs.doers.performs.Goals as goal
 
 pub returns-then-leads : goal.returns-then-leads

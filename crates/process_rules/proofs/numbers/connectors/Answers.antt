@@ -1,4 +1,4 @@
-use Rattle.std.proofs.Common.{Bor, length, arith, ◌≡◌, ◌∙◌}
+use Rattle.std.proofs.Common.{Bor, arith, ◌∙◌}
 use Rattle.flow_model.specs.declared.trees.ControlTree.{ControlTree}
 use Rattle.process_rules.specs.Numbers.{is_to}
 use Rattle.process_rules.proofs.Counted.{counted_room, counted_more, counted_all}

@@ -1,4 +1,4 @@
-use Rattle.std.proofs.Common.{◌≡◌, ℕ, get_or, length, map, take}
+use Rattle.std.proofs.Common.{◌≡◌, ℕ, get_or, length, take}
 use Rattle.std.specs.List.{count_by}
 use Rattle.process_rules.specs.Numbers.{is_to}
 use Rattle.text_graphs.specs.Texts.{activities_in}

@@ -1,4 +1,4 @@
-use Rattle.std.proofs.Common.{ℕ, Bor, List, map, length, ap, subst, sym, ◌∙◌, ◌≡◌, refl, arith}
+use Rattle.std.proofs.Common.{ℕ, Bor, List, map, length, ap, ◌∙◌, ◌≡◌, refl, arith}
 use Rattle.std.proofs.lemmas.List.{length-map}
 use Rattle.flow_model.specs.declared.trees.ElementTree.{ElementTree}
 use Rattle.flow_model.specs.declared.trees.ProcessTree.{ProcessTree}
