@@ -1,6 +1,6 @@
 -- The number of leaves of structures, counted kinds first.
-use Rattle.std.proofs.Common.{◌≡◌, ◌≢◌, ℕ, zero, suc, ◌+◌, ◌-◌, ◌*◌, ◌^◌, ◌<◌, ◌≤◌, min, List, [], ◌∷◌, ◌++◌, length, get_or, set, replicate, map, Option, Some, None, refl, sym, ap, subst, ◌∙◌, ⊎_elim, arith}
-use Rattle.std.specs.Prelude.{slice_get, slice_index}
+use Rattle.std.proofs.Common.{◌≡◌, ◌≢◌, ℕ, zero, suc, ◌+◌, ◌-◌, ◌*◌, ◌^◌, ◌<◌, ◌≤◌, min, List, [], ◌∷◌, length, get_or, set, replicate, Option, Some, None, refl, sym, ap, ◌∙◌, ⊎_elim, arith}
+use Rattle.std.specs.Prelude.{slice_get}
 use Rattle.std.specs.List.{Contains, flat_map, range_with_len}
 use Rattle.std.specs.Option.{option_and_then}
 use Rattle.std.proofs.Math.ListN.{length-set}
@@ -12,12 +12,11 @@ use Rattle.flow_model.specs.declared.graphs.Leaf.{Leaf}
 use Rattle.flow_model.specs.declared.trees.KindTree.{KindTree}
 use Rattle.flow_model.specs.declared.trees.KindTree.TheVariants as kind
 use Rattle.flow_model.specs.declared.trees.Member.{Member}
-use Rattle.flow_model.specs.declared.trees.NameAt.{NameAt}
 use Rattle.flow_model.specs.declared.trees.StructDef.{StructDef}
 use Rattle.graph_check.specs.Walks.{IsOrder}
 use Rattle.text_graphs.proofs.Naming.{first_below}
 use Rattle.leaf_rules.specs.Structures.{structure_in}
-use Rattle.leaf_rules.specs.StructureLeaves.{element_count, below, element_steps, kind_leaves, element_leaves, member_leaves, members_leaves, members_said, members_named, structure_named, leaves_to, leaves_of}
+use Rattle.leaf_rules.specs.StructureLeaves.{element_count, below, element_steps, kind_leaves, element_leaves, member_leaves, members_leaves, members_said, members_named, leaves_to, leaves_of}
 use Rattle.leaf_rules.specs.KindEdges.{kind_in, kind_edges}
 use Rattle.text_graphs.specs.Places.{IsLeastOf}
 use Rattle.text_graphs.proofs.Finding.{least_same}

@@ -1,5 +1,5 @@
 -- The edges from kinds to structures, structure by structure.
-use Rattle.std.proofs.Common.{◌≡◌, ℕ, zero, suc, ◌+◌, ◌<◌, ◌≤◌, List, [], ◌∷◌, ◌++◌, length, get_or, drop, take, map, Option, Some, None, Bor, refl, sym, ap, subst, ◌∙◌, append_assoc, add-one, arith}
+use Rattle.std.proofs.Common.{◌≡◌, ℕ, zero, suc, ◌+◌, ◌<◌, List, [], ◌∷◌, ◌++◌, length, get_or, drop, take, Option, Some, None, Bor, sym, ap, subst, ◌∙◌, append_assoc, arith}
 use Rattle.std.specs.Prelude.{slice_get}
 use Rattle.std.specs.List.{Contains, filter_map, cons_option}
 use Rattle.std.specs.Option.{option_map}
@@ -12,7 +12,7 @@ use Rattle.flow_model.specs.declared.trees.Member.{Member}
 use Rattle.flow_model.specs.declared.trees.StructDef.{StructDef}
 use Rattle.graph_check.specs.Walks.{HasEdge}
 use Rattle.leaf_rules.specs.KindEdges.{kind_in, kind_edge, edges_from, kind_edges}
-use Rattle.leaf_rules.specs.Structures.{behind, structure_in}
+use Rattle.leaf_rules.specs.Structures.{behind}
 use Rattle.text_graphs.proofs.Judging.{kept_in}
 use Rattle.text_graphs.proofs.Naming.{first_below}
 use Rattle.text_graphs.proofs.Sorting.{one_more}

@@ -6,3 +6,6 @@ pub mod KindEdges
 pub mod Counts
 pub mod Walking
 pub mod Tables
+pub mod ArrayCounts
+pub mod LeafUses
+pub mod Searches

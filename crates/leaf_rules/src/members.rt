@@ -1,4 +1,4 @@
-//! Rules 13 and 14: the leaves that conditions and maps read and write, and their kinds.
+//! The leaves of the containers of graphs, each structure's made once.
 ghost use Rattle.std.specs.Prelude.{◌≡◌, ◌<◌, ◌^◌, length, IfOk, IfSome, OnOk, option_map};
 ghost use Rattle.std.specs.List.{All};
 ghost use Rattle.text_graphs.specs.Graphs.{graph_at};
@@ -11,15 +11,10 @@ ghost use Rattle.leaf_rules.specs.Tables.{HasContainers, IsTrueTo, IsGrown};
 
 use crate::forms::{StructureLeaves, both_forms};
 use crate::structures::Structures;
-use conditions::{first_mismatch, first_unknown};
-use containers::find_leaf;
-use flow_model::{
-    AttrTree, Cond, ControlTree, DataTree, EndTree, EndsTree, Kind, LeafAt, Leaves, MapTree,
-    NameAt, WhenTree,
-};
+use flow_model::{ControlTree, EndTree, EndsTree, Leaves, NameAt};
 use indexmap::IndexMap;
 use std::alloc::{AllocError, Global};
-use text_graphs::{Scope, lesser};
+use text_graphs::Scope;
 
 /// The leaves of the structures that containers of a text have, with `_RC` and without, each made once.
 #[derive(Drop)]
@@ -203,109 +198,4 @@ impl<'a> LeafTable<'a> {
     {
         self.output_of(scope, &control.from)
     }
-}
-
-/// What a rule looks for in a condition.
-#[derive(Clone, Copy, Debug, PartialEq, Eq)]
-pub enum Search {
-    /// A leaf that isn't there.
-    Unknown,
-    /// Kinds that don't fit.
-    Mismatch,
-}
-
-fn cond_fault(search: Search, cond: &Cond, leaves: &Leaves) -> Option<u32> {
-    match search {
-        Search::Unknown => first_unknown(cond, leaves),
-        Search::Mismatch => first_mismatch(cond, leaves),
-    }
-}
-
-/// The place of a leaf that isn't one of these.
-fn unknown_leaf(leaves: &Leaves, leaf: &LeafAt) -> Option<u32> {
-    match find_leaf(leaves, leaf) {
-        Some(_) => None,
-        None => Some(leaf.place),
-    }
-}
-
-fn kind_of(leaves: &Leaves, leaf: &LeafAt) -> Option<Kind> {
-    let place = find_leaf(leaves, leaf)?;
-    let found = leaves.leaves.as_slice().get(place as usize)?;
-    Some(found.kind)
-}
-
-fn map_fault(search: Search, map: &MapTree, from: &Leaves, to: &Leaves) -> Option<u32> {
-    match search {
-        Search::Unknown => lesser(unknown_leaf(from, &map.from), unknown_leaf(to, &map.to)),
-        Search::Mismatch => {
-            if kind_of(from, &map.from) == kind_of(to, &map.to) {
-                None
-            } else {
-                Some(map.to.place)
-            }
-        }
-    }
-}
-
-fn line_fault<'a>(
-    search: Search,
-    table: &LeafTable<'a>,
-    scope: &Scope<'a>,
-    line: &'a DataTree,
-) -> Option<u32> {
-    let from = table.line_source(scope, &line.ends)?;
-    let to = table.line_target(scope, &line.ends)?;
-    let mut least = None;
-    for map in line.maps.as_slice() {
-        least = lesser(least, map_fault(search, map, from, to));
-    }
-    least
-}
-
-fn connector_fault<'a>(
-    search: Search,
-    table: &LeafTable<'a>,
-    scope: &Scope<'a>,
-    control: &'a ControlTree,
-) -> Option<u32> {
-    let WhenTree::Cond(cond) = &control.when else {
-        return None;
-    };
-    cond_fault(search, &cond.cond, table.connector_leaves(scope, control)?)
-}
-
-fn exit_fault<'a>(
-    search: Search,
-    table: &LeafTable<'a>,
-    output: &'a NameAt,
-    what: &AttrTree,
-) -> Option<u32> {
-    let AttrTree::Exit(cond) = what else {
-        return None;
-    };
-    cond_fault(search, &cond.cond, table.coded(output)?)
-}
-
-fn exit_faults<'a>(search: Search, table: &LeafTable<'a>, scope: &Scope<'a>) -> Option<u32> {
-    let mut least = None;
-    for activity in &scope.activities {
-        for attribute in activity.attrs.as_slice() {
-            let fault = exit_fault(search, table, &activity.output, &attribute.what);
-            least = lesser(least, fault);
-        }
-    }
-    least
-}
-
-/// Rule 13 or 14: the first place of a graph where its search finds something.
-pub fn leaf_fault<'a>(search: Search, table: &LeafTable<'a>, scope: &Scope<'a>) -> Option<u32> {
-    let mut least = exit_faults(search, table, scope);
-    for control in &scope.controls {
-        least = lesser(least, connector_fault(search, table, scope, control));
-    }
-    for line in &scope.lines {
-        least = lesser(least, line_fault(search, table, scope, line));
-    }
-    least
 }

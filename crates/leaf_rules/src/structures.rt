@@ -9,6 +9,7 @@ ghost use Rattle.text_graphs.specs.Texts.{activities_in, structures_in};
 ghost use Rattle.leaf_rules.specs.Structures.{AreStructuresNumbered, behind, structure_in, IsNoStructure, IsNoKind, AreNoKinds, AreNoContainers, AreNoContainersIn, NamesNoStructure};
 ghost use Rattle.leaf_rules.specs.StructureLeaves.{element_count, members_named, leaves_to};
 ghost use Rattle.leaf_rules.specs.KindEdges.{kind_in, kind_edge, kind_edges, IsInStructureCycle};
+ghost use Rattle.leaf_rules.specs.ArrayCounts.{IsOutside, HasCountOutside, IsCountOutside};
 ghost use Rattle.leaf_rules.specs.Counts.{told, AreCounted, count_at, kind_count, members_count, HasTooManyLeaves};
 
 use flow_model::{ItemTree, KindTree, Member, NameAt, StructDef, Tree};
@@ -114,6 +115,32 @@ fn count_at(counts: &[u64], number: Option<u32>) -> u64
         Some(number) => counts.get(number as usize).copied().unwrap_or(0),
         None => 0,
     }
+}
+
+/// The place of an array count that is not from 1 to 512.
+fn count_outside(member: &Member) -> Option<u32>
+    ensures { IsLeastOf (IsOutside member.now.count) result }
+{
+    match &member.count {
+        None => None,
+        Some(count) => {
+            if count.size < 1 || count.size > MOST_LEAVES {
+                Some(count.place)
+            } else {
+                None
+            }
+        }
+    }
+}
+
+fn count_in_structure(structure: &StructDef) -> Option<u32>
+    ensures { IsLeastOf (HasCountOutside structure.now) result }
+{
+    let mut least = None;
+    for member in structure.members.as_slice() {
+        least = lesser(least, count_outside(member));
+    }
+    least
 }
 
 impl<'a> Structures<'a> {
@@ -370,17 +397,13 @@ impl<'a> Structures<'a> {
         count_at(&self.counts, self.number(name)) > 0
     }
 
-    /// The place of the first array count outside 1 to 512.
-    pub fn count_fault(&self) -> Option<u32> {
+    /// Rule 23 on arrays: a count is outside 1 to 512.
+    pub fn count_fault(&self) -> Option<u32>
+        ensures { IsLeastOf (IsCountOutside (behind self.now.definitions.items)) result }
+    {
         let mut least = None;
         for structure in &self.definitions {
-            for member in structure.members.as_slice() {
-                if let Some(count) = &member.count {
-                    if count.size < 1 || count.size > MOST_LEAVES {
-                        least = lesser(least, Some(count.place));
-                    }
-                }
-            }
+            least = lesser(least, count_in_structure(structure));
         }
         least
     }

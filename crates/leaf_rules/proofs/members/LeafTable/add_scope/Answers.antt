@@ -1,5 +1,4 @@
-use Rattle.std.proofs.Common.{◌≡◌, Bor, ℕ, ◌∙◌, List, arith}
-use Rattle.std.specs.List.{All}
+use Rattle.std.proofs.Common.{◌≡◌, Bor, ◌∙◌, arith}
 use Rattle.std.proofs.lemmas.List.Elements.{AllWithin-more, at_read}
 use Rattle.flow_model.specs.declared.trees.ActivityTree.{ActivityTree}
 use Rattle.leaf_rules.specs.Leaves.{table_leaves}

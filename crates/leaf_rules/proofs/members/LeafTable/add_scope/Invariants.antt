@@ -1,4 +1,4 @@
-use Rattle.std.proofs.Common.{◌≡◌, take}
+use Rattle.std.proofs.Common.{◌≡◌}
 use Rattle.std.specs.List.{AllWithin}
 use Rattle.leaf_rules.specs.Leaves.{table_leaves}
 use Rattle.leaf_rules.specs.Structures.{behind}

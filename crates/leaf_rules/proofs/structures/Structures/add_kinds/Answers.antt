@@ -1,7 +1,4 @@
-use Rattle.std.proofs.Common.{◌≡◌, ℕ, List, Some, None, take, ◌++◌, sym, ap, ◌∙◌, append_assoc, append-nil, arith}
-use Rattle.std.specs.List.{filter_map, cons_option}
-use Rattle.std.specs.Option.{option_map}
-use Rattle.leaf_rules.specs.KindEdges.{kind_edge, kind_in}
+use Rattle.std.proofs.Common.{sym, ◌∙◌, arith}
 use Rattle.leaf_rules.specs.Structures.{behind}
 use Rattle.leaf_rules.proofs.Edging.{kind_below, kinds_past, kinds_next}
 use Rattle.leaf_rules.proofs.structures.Structures.add_kinds.Goals as goal

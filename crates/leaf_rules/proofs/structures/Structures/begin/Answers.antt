@@ -1,4 +1,4 @@
-use Rattle.std.proofs.Common.{List, ℕ, ap, ◌∙◌, refl, reverse}
+use Rattle.std.proofs.Common.{ap, ◌∙◌, refl, reverse}
 use Rattle.flow_model.specs.declared.graphs.Kind.TheVariants.{Long, Str}
 use Rattle.leaf_rules.specs.StructureLeaves.{kind_leaves, leaves_to}
 use Rattle.leaf_rules.specs.Structures.{behind}

@@ -1,4 +1,4 @@
-use Rattle.std.proofs.Common.{◌≡◌, ◌+◌, List, ap, sym, ◌∙◌, drop}
+use Rattle.std.proofs.Common.{◌+◌, List, ap, sym, ◌∙◌}
 use Rattle.std.proofs.lemmas.List.{drop_all}
 use Rattle.flow_model.specs.declared.trees.Member.{Member}
 use Rattle.leaf_rules.specs.Counts.{told, members_count}

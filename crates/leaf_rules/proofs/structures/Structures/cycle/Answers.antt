@@ -1,4 +1,4 @@
-use Rattle.std.proofs.Common.{Option, ℕ, subst}
+use Rattle.std.proofs.Common.{subst}
 use Rattle.text_graphs.specs.Places.{IsLeastOf}
 use Rattle.leaf_rules.specs.KindEdges.{IsInStructureCycle}
 use Rattle.leaf_rules.specs.Structures.{behind}

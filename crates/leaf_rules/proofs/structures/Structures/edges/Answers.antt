@@ -1,4 +1,4 @@
-use Rattle.std.proofs.Common.{◌≡◌, ◌++◌, ℕ, List, sym, ap, ◌∙◌, append-nil, drop}
+use Rattle.std.proofs.Common.{◌++◌, List, sym, ap, ◌∙◌, append-nil}
 use Rattle.std.proofs.lemmas.List.{drop_all, length-map}
 use Rattle.flow_model.specs.declared.trees.StructDef.{StructDef}
 use Rattle.leaf_rules.specs.KindEdges.{edges_from, kind_edges}

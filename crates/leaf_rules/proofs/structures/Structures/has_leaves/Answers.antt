@@ -1,4 +1,4 @@
-use Rattle.std.proofs.Common.{◌≡◌, ℕ, ◌≤◌, sym, ap, ◌∙◌, arith}
+use Rattle.std.proofs.Common.{◌≡◌, sym, ◌∙◌, arith}
 use Rattle.std.proofs.lemmas.Bool.{ltb-false}
 use Rattle.leaf_rules.specs.Structures.{behind}
 use Rattle.leaf_rules.proofs.Counting.{empty_where}

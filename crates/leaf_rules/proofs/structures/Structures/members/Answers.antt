@@ -1,4 +1,4 @@
-use Rattle.std.proofs.Common.{◌≡◌, Bor, Option, Some, ℕ, length, sym, ap, ◌∙◌, arith}
+use Rattle.std.proofs.Common.{Bor, Option, ℕ, sym, ap, ◌∙◌, arith}
 use Rattle.std.specs.Option.{option_and_then}
 use Rattle.std.specs.Prelude.{slice_get}
 use Rattle.std.proofs.lemmas.List.{length-map}

@@ -1,4 +1,4 @@
-use Rattle.std.proofs.Common.{Bor, refl, get_or}
+use Rattle.std.proofs.Common.{Bor, refl}
 use Rattle.flow_model.specs.declared.trees.StructDef.{StructDef}
 use Rattle.leaf_rules.specs.Counts.{IsLarge}
 use Rattle.leaf_rules.specs.Structures.{behind}
