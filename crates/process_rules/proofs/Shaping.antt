@@ -1,15 +1,17 @@
 -- The shapes of graphs and processes, one after another.
-use Rattle.std.proofs.Common.{◌≡◌, ℕ, ◌+◌, ◌-◌, ◌^◌, ◌<◌, min, max, List, [], ◌∷◌, ◌++◌, length, get_or, take, map, fold, Option, Some, None, refl, sym, ap, ◌∙◌, arith, add-one}
+use Rattle.std.proofs.Common.{◌≡◌, ℕ, ◌+◌, ◌-◌, ◌^◌, ◌<◌, ◌≤◌, min, max, List, [], ◌∷◌, ◌++◌, length, get_or, take, map, fold, Option, Some, None, refl, sym, ap, ◌∙◌, ⊎_elim, arith, add-one}
 use Rattle.std.specs.Prelude.{slice_get, unwrap_or}
 use Rattle.std.specs.List.{cons_option}
 use Rattle.std.specs.Option.{option_map}
+use Rattle.std.proofs.lemmas.Bool.{cases_lt}
 use Rattle.std.proofs.lemmas.List.{map-append, take_more}
 use Rattle.std.proofs.lemmas.List.Sums.{fold_push, sum_by_push}
 use Rattle.std.proofs.lemmas.Option.{slice_get-map}
 use Rattle.flow_model.specs.declared.graphs.Library.{Library}
 use Rattle.flow_model.specs.declared.trees.ProcessTree.{ProcessTree}
+use Rattle.text_graphs.specs.Places.{IsLeastOf}
 use Rattle.process_rules.specs.Callees.{Calls}
-use Rattle.process_rules.specs.Shapes.{nothing, nested, graph_of, graph_shape, shape_at, named_shape, shapes_to, told_shape}
+use Rattle.process_rules.specs.Shapes.{nothing, nested, graph_of, element_adds, graph_shape, shape_at, named_shape, shapes_to, told_shape, NestsDeep, HasLargeSize}
 use Rattle.process_rules.specs.declared.sizes.Shape.{Shape}
 
 same_shape : (a b : Shape) → a.depth ≡ b.depth → a.size ≡ b.size → a ≡ b
@@ -67,3 +69,18 @@ shapes_next calls library processes n p shapes next shape at now so_far here =
   where
     before : List Shape
     before = shapes_to calls library processes n
+
+-- where rules 21 and 22 find nothing, a process is as deep and as large as they allow
+pub limits_where_none : (shapes : List Shape) (processes : List ProcessTree) (n : ℕ) (p : ProcessTree) → slice_get processes n ≡ Some p → IsLeastOf (NestsDeep shapes processes) None → IsLeastOf (HasLargeSize shapes processes) None
+    → ((shape_at shapes n).depth ≤ 16) × ((shape_at shapes n).size ≤ 65536)
+limits_where_none shapes processes n p at shallow few = (
+  ⊎_elim (λ (deep : 16 < (shape_at shapes n).depth). absurd (shallow p.place (n, p, at, (deep, refl)))) (λ le. le) (cases_lt 16 (shape_at shapes n).depth),
+  ⊎_elim (λ (large : 65536 < (shape_at shapes n).size). absurd (few p.place (n, p, at, (large, refl)))) (λ le. le) (cases_lt 65536 (shape_at shapes n).size),
+)
+
+-- and its shape is told as it is
+pub told_where_none : (shapes : List Shape) (processes : List ProcessTree) (n : ℕ) (p : ProcessTree) → slice_get processes n ≡ Some p → IsLeastOf (NestsDeep shapes processes) None → IsLeastOf (HasLargeSize shapes processes) None
+    → told_shape (shape_at shapes n) ≡ shape_at shapes n
+told_where_none shapes processes n p at shallow few =
+    let limits = limits_where_none shapes processes n p at shallow few in
+    same_shape (told_shape (shape_at shapes n)) (shape_at shapes n) (let d = limits.0 in omega arith) (let s = limits.1 in omega arith)

@@ -18,16 +18,17 @@ use Rattle.process_rules.specs.Knowing.{callee_named}
 use Rattle.process_rules.specs.declared.people.Callee.{Callee}
 use Rattle.process_rules.specs.declared.people.Callee.TheVariants as callee
 
--- the name of the process that an activity runs
+-- the name of the process that an activity runs, by what it does
 abbrev pub named_by : WorkTree-F ElementTree WorkTree ActivityTree → Option NameAt
 named_by WorkTree-F.Program = None
 named_by (WorkTree-F.Process name) = Some name
 named_by (WorkTree-F.Block elements) = None
 
+-- the name of the process that it runs
 abbrev pub process_named : WorkTree → Option NameAt
 process_named work = named_by (out-WorkTree work)
 
--- what the activities in the process of a number run, by name
+-- what the activities in the process of a number run, by the names that they say
 abbrev pub Calls : Type 0
 Calls = ℕ → List ℕ → Option Callee
 
@@ -38,11 +39,11 @@ abbrev pub IsNoProcess : Calls → ℕ → Option NameAt → ℕ → Type 0
 IsNoProcess calls number None p = ⊥
 IsNoProcess calls number (Some name) p = (calls number name.name ≡ None) × (name.place ≡ p)
 
--- of an activity of a graph
+-- in an activity of a graph
 abbrev pub NamesNone : Calls → GraphAt → ℕ → Type 0
 NamesNone calls g = AnyAt (λ a. IsNoProcess calls g.process (process_named a.work)) (activities_in g.elements)
 
--- of a process that neither stands before that of the graph nor is in the library
+-- of one that names a process that neither stands before that of the graph nor is in the library
 abbrev pub NamesNoProcess : Library → List ProcessTree → GraphAt → ℕ → Type 0
 NamesNoProcess library processes = NamesNone (callee_named library processes)
 
@@ -75,9 +76,10 @@ abbrev pub IsMisfit : Leafing → Library → List ProcessTree → ActivityTree 
 IsMisfit leaves library processes a None p = ⊥
 IsMisfit leaves library processes a (Some callee) p = (IsFitting leaves library processes a callee → ⊥) × (a.place ≡ p)
 
--- in a graph
+-- in a graph, where names lead to processes so
 abbrev pub HasMisfitBy : Calls → Leafing → Library → List ProcessTree → GraphAt → ℕ → Type 0
 HasMisfitBy calls leaves library processes g = AnyAt (λ a. IsMisfit leaves library processes a (called calls g.process a.work)) (activities_in g.elements)
 
+-- in a graph of a text
 abbrev pub HasMisfit : Leafing → Library → List ProcessTree → GraphAt → ℕ → Type 0
 HasMisfit leaves library processes = HasMisfitBy (callee_named library processes) leaves library processes

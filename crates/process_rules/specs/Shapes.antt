@@ -35,6 +35,7 @@ work_by runs WorkTree-F.Program = nothing
 work_by runs (WorkTree-F.Process name) = nested (runs name.name)
 work_by runs (WorkTree-F.Block added) = nested (graph_of added)
 
+-- an activity adds what it does
 abbrev pub activity_by : ActivityTree-F Shape Shape Shape → Shape
 activity_by a = a.work
 
@@ -44,9 +45,11 @@ element_by (ElementTree-F.Activity added) = added
 element_by (ElementTree-F.Control c) = record { depth = 0; size = 1 }
 element_by (ElementTree-F.Line l) = nothing
 
+-- what an element of a text adds to its graph
 abbrev pub element_adds : (List ℕ → Shape) → ElementTree → Shape
 element_adds runs = fold-ElementTree Shape Shape Shape element_by (work_by runs) activity_by
 
+-- and an activity, by what it does
 abbrev pub work_adds : (List ℕ → Shape) → WorkTree → Shape
 work_adds runs = fold-WorkTree Shape Shape Shape element_by (work_by runs) activity_by
 
@@ -77,10 +80,11 @@ shapes_to calls library processes (suc n) =
     let before = shapes_to calls library processes n in
     before ++ cons_option (option_map (λ p. graph_shape (named_shape calls library before n) p.elements) (slice_get processes n)) []
 
--- of all
+-- of all processes
 abbrev pub shapes_by : Calls → Library → List ProcessTree → List Shape
 shapes_by calls library processes = shapes_to calls library processes (length processes)
 
+-- of the processes of a text, in order
 abbrev pub shapes_of : Library → List ProcessTree → List Shape
 shapes_of library processes = shapes_by (callee_named library processes) library processes
 

@@ -90,7 +90,7 @@ impl<'a> Known<'a> {
         &self.processes
     }
 
-    /// The process of a number.
+    /// The process of a number; None exactly where there is none.
     pub fn process(&self, number: u32) -> Option<&'a ProcessTree>
         ensures { option_copied result ≡ slice_get (map (λ p. p.now) self.now.processes.items) number }
     {
