@@ -1,5 +1,6 @@
 pub mod Rows
-pub mod Judgements
+pub mod InText
+pub mod FirstBroken
 pub mod Passing
 pub mod Simple
 pub mod Laying

@@ -26,6 +26,16 @@ pub data IsEarly (text : List ℕ) (rule place : ℕ) : Type 0 where
   NoToken : length text ≤ 1048576 → rule ≡ 2 → Faults text (lexed.Token place) → IsEarly text rule place
   NoTree : length text ≤ 1048576 → rule ≡ 3 → (tokens : List Token) → AreTokens text tokens → RefusesFirst text tokens (parsed.At place) → HaveNoTree text tokens (parsed.At place) → IsEarly text rule place
 
+-- a fault names this rule and this place, with its line
+abbrev pub IsFault : List ℕ → ℕ → ℕ → ImportFault → Type 0
+IsFault text rule place (fault.Rule found) = (found.rule ≡ rule) × (found.place ≡ place) × (found.line ≡ line_at text place)
+IsFault text rule place fault.NoMemory = ⊥
+
+-- a fault of a text that has no tree
+abbrev pub IsEarlyFault : List ℕ → ImportFault → Type 0
+IsEarlyFault text (fault.Rule found) = IsEarly text found.rule found.place × (found.line ≡ line_at text found.place)
+IsEarlyFault text fault.NoMemory = Unit {0}
+
 -- a text that is accepted has a tree that breaks none of the other rules
 pub record IsFaultless (library : Library) (text : List ℕ) : Type 0 where
   pub tree : Tree

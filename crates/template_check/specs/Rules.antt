@@ -5,12 +5,12 @@ use Rattle.flow_model.specs.declared.trees.ItemTree.{ItemTree}
 use Rattle.connector_rules.specs.Connectors.{NamesNobody, IsDouble, IsOnCycle, IsEmptyGraph, IsOtherwiseWrong, IsUnreachableData}
 use Rattle.leaf_rules.specs.Counts.{HasTooManyLeaves}
 use Rattle.leaf_rules.specs.KindEdges.{IsInStructureCycle}
-use Rattle.leaf_rules.specs.Reading.{ReadsUnknownLeaf, MixesKinds}
+use Rattle.leaf_rules.specs.LeafUses.{ReadsUnknownLeaf, MixesKinds}
 use Rattle.leaf_rules.specs.ArrayCounts.{IsCountOutside}
 use Rattle.leaf_rules.specs.StructureLeaves.{leaves_in}
 use Rattle.leaf_rules.specs.Structures.{AreNoContainersIn, NamesNoStructure}
 use Rattle.name_rules.specs.Names.{AreActivityEnds, IsEndWrong, IsInsideAgain, IsTwice}
-use Rattle.process_rules.specs.Callees.{NamesNoProcess, HasOtherLeaves}
+use Rattle.process_rules.specs.Callees.{NamesNoProcess, HasMisfit}
 use Rattle.process_rules.specs.Counts.{IsTooMuch, IsTooMuchOf}
 use Rattle.process_rules.specs.Doers.{NamesNoPerson, NamesNoPerformer}
 use Rattle.process_rules.specs.Numbers.{IsNumberWrong}
@@ -39,20 +39,20 @@ fault_in (Err fault) = Some fault
 -- ---- the rules on a text with these items, behind a library
 
 -- a name after END is another one; something is declared twice; a name is no structure's
-abbrev pub name_rules : List ItemTree → List Rule
-name_rules items =
+abbrev pub rules_on_names : List ItemTree → List Rule
+rules_on_names items =
     (4, IsEndWrong items (InGraphs items AreActivityEnds))
     ∷ (5, IsTwice items (InGraphs items IsInsideAgain))
     ∷ (6, NamesNoStructure (structures_in items) (InGraphs items (AreNoContainersIn (structures_in items))))
     ∷ []
 
 -- a structure reaches itself, or has too many leaves
-abbrev pub structure_rules : List ItemTree → List Rule
-structure_rules items = (7, IsInStructureCycle (structures_in items)) ∷ (8, HasTooManyLeaves (structures_in items)) ∷ []
+abbrev pub rules_on_structures : List ItemTree → List Rule
+rules_on_structures items = (7, IsInStructureCycle (structures_in items)) ∷ (8, HasTooManyLeaves (structures_in items)) ∷ []
 
 -- a line names no activity; a connector comes twice, or lies on a closed walk; a graph is empty
-abbrev pub connector_rules : List ItemTree → List Rule
-connector_rules items =
+abbrev pub rules_on_connectors : List ItemTree → List Rule
+rules_on_connectors items =
     (9, InGraphs items NamesNobody)
     ∷ (10, InGraphs items IsDouble)
     ∷ (11, InGraphs items IsOnCycle)
@@ -60,34 +60,34 @@ connector_rules items =
     ∷ []
 
 -- a leaf isn't there; kinds don't fit
-abbrev pub leaf_rules : List ItemTree → List Rule
-leaf_rules items =
+abbrev pub rules_on_leaves : List ItemTree → List Rule
+rules_on_leaves items =
     (13, InGraphs items (ReadsUnknownLeaf (leaves_in (structures_in items))))
     ∷ (14, InGraphs items (MixesKinds (leaves_in (structures_in items))))
     ∷ []
 
 -- an OTHERWISE stands alone, or is the second; a data line goes along no connectors
-abbrev pub line_rules : List ItemTree → List Rule
-line_rules items = (15, InGraphs items IsOtherwiseWrong) ∷ (16, InGraphs items IsUnreachableData) ∷ []
+abbrev pub rules_on_lines : List ItemTree → List Rule
+rules_on_lines items = (15, InGraphs items IsOtherwiseWrong) ∷ (16, InGraphs items IsUnreachableData) ∷ []
 
 -- a process isn't there; its leaves are others
-abbrev pub callee_rules : Library → List ItemTree → List Rule
-callee_rules library items =
+abbrev pub rules_on_callees : Library → List ItemTree → List Rule
+rules_on_callees library items =
     (17, InGraphs items (NamesNoProcess library (processes_in items)))
-    ∷ (18, InGraphs items (HasOtherLeaves library (processes_in items) (leaves_in (structures_in items))))
+    ∷ (18, InGraphs items (HasMisfit (leaves_in (structures_in items)) library (processes_in items)))
     ∷ []
 
 -- a person isn't there; a performer is none
-abbrev pub people_rules : Library → List ItemTree → List Rule
-people_rules library items = (19, InGraphs items (NamesNoPerson library (people_in items))) ∷ (20, InGraphs items NamesNoPerformer) ∷ []
+abbrev pub rules_on_people : Library → List ItemTree → List Rule
+rules_on_people library items = (19, InGraphs items (NamesNoPerson library (people_in items))) ∷ (20, InGraphs items NamesNoPerformer) ∷ []
 
 -- a process nests too deep, or is too large
-abbrev pub size_rules : Library → List ItemTree → List Rule
-size_rules library items = (21, IsDeep library (processes_in items)) ∷ (22, IsLargeProcess library (processes_in items)) ∷ []
+abbrev pub rules_on_sizes : Library → List ItemTree → List Rule
+rules_on_sizes library items = (21, IsDeep library (processes_in items)) ∷ (22, IsLargeProcess library (processes_in items)) ∷ []
 
 -- a number is out of range; there is too much of something
-abbrev pub count_rules : List ItemTree → List Rule
-count_rules items =
+abbrev pub rules_on_counts : List ItemTree → List Rule
+rules_on_counts items =
     (23, λ p. IsCountOutside (structures_in items) p ⊎ InGraphs items IsNumberWrong p)
     ∷ (24, IsTooMuchOf (processes_in items) (InGraphs items IsTooMuch))
     ∷ []
@@ -95,17 +95,17 @@ count_rules items =
 -- ---- the order
 
 abbrev pub from_sizes : Library → List ItemTree → List Rule
-from_sizes library items = size_rules library items ++ count_rules items
+from_sizes library items = rules_on_sizes library items ++ rules_on_counts items
 
 abbrev pub from_callees : Library → List ItemTree → List Rule
-from_callees library items = callee_rules library items ++ people_rules library items ++ from_sizes library items
+from_callees library items = rules_on_callees library items ++ rules_on_people library items ++ from_sizes library items
 
 abbrev pub from_leaves : Library → List ItemTree → List Rule
-from_leaves library items = leaf_rules items ++ line_rules items ++ from_callees library items
+from_leaves library items = rules_on_leaves items ++ rules_on_lines items ++ from_callees library items
 
 abbrev pub from_connectors : Library → List ItemTree → List Rule
-from_connectors library items = connector_rules items ++ from_leaves library items
+from_connectors library items = rules_on_connectors items ++ from_leaves library items
 
 -- rules 4 to 24
 abbrev pub later_rules : Library → List ItemTree → List Rule
-later_rules library items = name_rules items ++ structure_rules items ++ from_connectors library items
+later_rules library items = rules_on_names items ++ rules_on_structures items ++ from_connectors library items

@@ -1,18 +1,21 @@
 //! A text judged by the rules in their order, and what an accepted one compiles to.
-ghost use Rattle.std.specs.Prelude.{◌≡◌, ◌<◌, ◌≤◌, ◌^◌, map, None, length, IfOk, IfErr};
+ghost use Rattle.std.specs.Prelude.{◌≡◌, ◌<◌, ◌≤◌, ◌-◌, ◌^◌, map, None, length, take, IfOk, IfErr, OnOk};
 ghost use Rattle.std.specs.List.{All};
 ghost use Rattle.leaf_rules.specs.Counts.{AreCounted};
+ghost use Rattle.leaf_rules.specs.Leaves.{table_leaves};
+ghost use Rattle.leaf_rules.specs.StructureLeaves.{leaves_in};
 ghost use Rattle.leaf_rules.specs.Structures.{behind};
+ghost use Rattle.leaf_rules.specs.Tables.{HasContainers};
 ghost use Rattle.process_rules.specs.Imports.{IsIndexed};
-ghost use Rattle.process_rules.specs.Knowing.{ArePeople, IsKnowing};
+ghost use Rattle.process_rules.specs.Knowing.{IsKnowing};
 ghost use Rattle.process_rules.specs.Shapes.{shapes_of, told_shape};
 ghost use Rattle.template_check.specs.Built.{AreSoundBehind, AreSoundWithin, IsSound};
 ghost use Rattle.template_check.specs.Compiling.{AreBuilt, HasTree, IsNamedBy, IsMeantBy};
 ghost use Rattle.template_check.specs.Judged.{line_at, IsFault, IsEarlyFault, IsJudged};
-ghost use Rattle.template_check.specs.Rules.{count_rules, fault_in, from_callees, from_connectors, from_leaves, from_sizes, later_rules, IsFirstBroken};
+ghost use Rattle.template_check.specs.Rules.{fault_in, from_callees, from_connectors, from_leaves, from_sizes, later_rules, IsFirstBroken};
 ghost use Rattle.text_graphs.specs.Blocks.{lists_of, IsCovered};
-ghost use Rattle.text_graphs.specs.Graphs.{graphs_in, AreGraphsOf};
-ghost use Rattle.text_graphs.specs.Texts.{people_in, processes_in, structures_in, AreNamesApart, IsConnected};
+ghost use Rattle.text_graphs.specs.Graphs.{graph_at, graphs_in, AreGraphsOf};
+ghost use Rattle.text_graphs.specs.Texts.{processes_in, structures_in, AreNamesApart, IsConnected};
 
 use crate::building::{BuildFault, Builder};
 use crate::faults::{ImportFault, RuleFault};
@@ -26,7 +29,7 @@ use flow_model::{ItemTree, List, PersonDef, Template, Tree};
 use leaf_rules::{LeafTable, Structures};
 use process_rules::{Catalog, Known, Shape, shapes};
 use std::alloc::{AllocError, Global};
-use text_graphs::{Scope, narrow, small, text_scopes};
+use text_graphs::{Scope, narrow, text_scopes};
 
 /// A text has at most so many bytes.
 const MOST_BYTES: usize = 1_048_576;
@@ -39,13 +42,23 @@ pub struct Compiled {
 }
 
 /// The line of a place: 1 and the number of line feeds before it.
-pub fn line_of(text: &[u8], place: u32) -> u32 {
+pub fn line_of(text: &[u8], place: u32) -> u32
+    requires { length (take place text.now) < 2 ^ 32 - 1 }
+    ensures { result ≡ line_at text.now place }
+{
     let before = text.get(..place as usize).unwrap_or(text);
-    small(before.iter().filter(|byte| **byte == b'\n').count()).saturating_add(1)
+    let mut line = 1;
+    for byte in before {
+        if *byte == b'\n' {
+            line += 1;
+        }
+    }
+    line
 }
 
 fn fault(text: &[u8], rule: u8, place: u32) -> ImportFault
-    ensures { IsFault rule place result }
+    requires { length (take place text.now) < 2 ^ 32 - 1 }
+    ensures { IsFault text.now rule place result }
 {
     ImportFault::Rule(RuleFault {
         rule,
@@ -57,7 +70,8 @@ fn fault(text: &[u8], rule: u8, place: u32) -> ImportFault
 /// The tree of a text; else the first of rules 1, 2 and 3 that is broken, or rule 24 of a text that is too long.
 pub fn syntax_tree(alloc: Global, text: &[u8]) -> Result<Tree, ImportFault>
     ensures tree { IfOk result (HasTree text.now) }
-    ensures early { IfErr result (IsEarly text.now) }
+    ensures short { OnOk result (length text.now ≤ 1048576) }
+    ensures early { IfErr result (IsEarlyFault text.now) }
 {
     if text.len() > MOST_BYTES {
         return Err(fault(text, 24, 0));
@@ -155,7 +169,7 @@ fn called_and_built<'a>(
     requires graphs { AreGraphsOf tree.now.items (graphs_in scopes.now) }
     requires sound { AreSoundWithin scopes.now (processes_in tree.now.items) }
     requires structures { behind table.structures.definitions.items ≡ structures_in tree.now.items }
-    requires leaves { All (λ s. HasLeavesOf table (structures_in tree.now.items) (graph_at s)) scopes.now }
+    requires leaves { All (λ s. HasContainers (leaves_in (structures_in tree.now.items)) (table_leaves table) (graph_at s)) scopes.now }
     ensures built { IfOk result (λ judged. IfOk judged (λ compiled. AreBuilt earlier.now tree.now.items compiled.templates)) }
     ensures first { IsIndexed earlier.now → IfOk result (λ judged. IsFirstBroken (from_callees earlier.now.library tree.now.items) (fault_in judged)) }
 {
