@@ -100,7 +100,9 @@ impl<'a> LeafTable<'a> {
     }
 
     /// The structures of the text.
-    pub fn structures(&self) -> &Structures<'a> {
+    pub fn structures(&self) -> &Structures<'a>
+        ensures { result.now ≡ self.now.structures }
+    {
         &self.structures
     }
 
