@@ -16,6 +16,8 @@ use Rattle.leaf_rules.specs.Structures.{structure_in}
 use Rattle.leaf_rules.specs.StructureLeaves.{Leafing, members_leaves, members_said, members_named, structure_named, leaves_to, leaves_of, leaves_in}
 use Rattle.leaf_rules.specs.Tables.{HasContainers, IsTrueTo, IsGrown}
 use Rattle.leaf_rules.specs.declared.forms.StructureLeaves.{StructureLeaves}
+use Rattle.leaf_rules.specs.declared.members.LeafTable.{LeafTable}
+use Rattle.leaf_rules.specs.Leaves.{table_leaves}
 use Rattle.leaf_rules.proofs.Cycles.{there_is}
 
 -- ---- look-ups after a change
@@ -111,3 +113,9 @@ containers_kept wanted old new g grown h = record {
   output = grown.kept g.output.name h.output;
   activities = λ k d less. (grown.kept _ (h.activities k d less).0, grown.kept _ (h.activities k d less).1);
 }
+
+-- ---- a table
+
+pub table_grown : (wanted : Leafing) (old new : LeafTable) (name : List ℕ) (both : StructureLeaves) → IsTrueTo wanted (table_leaves old) → wanted name ≡ Some both.plain.leaves
+    → hash.UpdatesBy (λ x y. bytes_eq x.now y.now) (λ k. bytes_eq name k.now) old.leaves new.leaves (Some both) → IsGrown wanted (table_leaves old) (table_leaves new) × (table_leaves new name ≡ wanted name)
+table_grown wanted old new name both right is h = grown_more wanted (table_leaves old) (table_leaves new) name both.plain.leaves right is (leaves_changed name old.leaves new.leaves both h)

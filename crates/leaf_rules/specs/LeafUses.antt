@@ -38,6 +38,7 @@ IsInCond finds (Some leaves) (Some c) p = finds leaves c.cond ≡ Some p
 abbrev pub IsInExit : (List Leaf → Cond → Option ℕ) → Leafing → ActivityTree → ℕ → Type 0
 IsInExit finds leaves a = AnyAt (λ x. IsInCond finds (with_code (leaves a.output.name)) (exit_said x.what)) a.attrs
 
+-- the condition that stands behind WHEN
 abbrev pub when_said : WhenTree → Option CondAt
 when_said when.Always = None
 when_said (when.Cond c) = Some c

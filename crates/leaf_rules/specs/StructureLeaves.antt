@@ -20,11 +20,12 @@ Leafing = List ℕ → Option (List Leaf)
 
 -- ---- the elements of a member
 
--- one, or as many as the count of an array says
+-- what is said of a count: where nothing is, there is one element
 abbrev pub count_said : Option NumberAt → ℕ
 count_said None = 1
 count_said (Some number) = number.size
 
+-- how many elements a member has
 abbrev pub element_count : MemberTree → ℕ
 element_count m = count_said m.count
 
@@ -71,6 +72,7 @@ members_leaves inner members = flat_map (member_leaves inner) members
 abbrev pub structure_named : List StructDef → List ℕ → Option StructDef
 structure_named structures name = option_and_then (λ number. slice_get structures number) (structure_in structures name)
 
+-- the members of a structure, if there is one
 abbrev pub members_said : Option StructDef → List MemberTree
 members_said None = []
 members_said (Some s) = s.members

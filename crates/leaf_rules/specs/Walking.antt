@@ -52,6 +52,7 @@ kind_work inner (kind.Struct name) = inner name.name
 abbrev pub member_work : (List ℕ → ℕ) → Member → ℕ → ℕ
 member_work inner m begun = 1 + (element_count m - begun) * (1 + kind_work inner m.kind)
 
+-- for some members, the first from an element on
 abbrev pub members_work : (List ℕ → ℕ) → List Member → ℕ → ℕ
 members_work inner [] begun = 0
 members_work inner (m ∷ later) begun = member_work inner m begun + members_work inner later 0
@@ -61,9 +62,11 @@ unfoldable pub work_to : List StructDef → ℕ → List ℕ → ℕ
 work_to structures zero name = 0
 work_to structures (suc depth) name = 1 + members_work (work_to structures depth) (members_named structures name) 0
 
+-- for a visit, with the step that ends it
 abbrev pub visit_work : List StructDef → Visit → ℕ
 visit_work structures v = 1 + members_work (work_to structures v.depth) v.members.now v.begun
 
+-- for some visits
 abbrev pub work_left : List StructDef → List Visit → ℕ
 work_left structures [] = 0
 work_left structures (v ∷ outer) = visit_work structures v + work_left structures outer

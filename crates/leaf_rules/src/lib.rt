@@ -12,4 +12,4 @@ mod walks;
 pub use forms::{StructureLeaves, leaves_copy};
 pub use members::LeafTable;
 pub use structures::Structures;
-pub use uses::{mixed_kinds, unknown_leaf};
+pub use uses::{mixed_kinds, unknown_leaves};

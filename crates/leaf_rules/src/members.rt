@@ -87,19 +87,22 @@ impl<'a> LeafTable<'a> {
         ensures there { OnOk result (table_leaves self.new name.now.name ≡ leaves_in (behind self.old.structures.definitions.items) name.now.name) }
     {
         let key = name.name.as_slice();
-        let Some(_number) = self.structures.number(name) else {
-            return Ok(());
-        };
         if self.leaves.contains_key(&key) {
             return Ok(());
         }
-        let plain = self.structures.leaves(alloc, name)?;
-        self.leaves.insert(key, both_forms(alloc, plain)?)?;
-        Ok(())
+        match self.structures.leaves(alloc, name)? {
+            None => Ok(()),
+            Some(plain) => {
+                self.leaves.insert(key, both_forms(alloc, plain)?)?;
+                Ok(())
+            }
+        }
     }
 
     /// The structures of the text.
-    pub fn structures(&self) -> &Structures<'a> {
+    pub fn structures(&self) -> &Structures<'a>
+        ensures { result.now ≡ self.now.structures }
+    {
         &self.structures
     }
 

@@ -271,7 +271,7 @@ fn graphs_fault<'a>(search: Search, table: &LeafTable<'a>, scopes: &[Scope<'a>])
 }
 
 /// Rule 13: a condition or a map reads or writes a leaf that its container doesn't have.
-pub fn unknown_leaf<'a>(table: &LeafTable<'a>, scopes: &[Scope<'a>]) -> Option<u32>
+pub fn unknown_leaves<'a>(table: &LeafTable<'a>, scopes: &[Scope<'a>]) -> Option<u32>
     ensures { IsLeastOf (AnyAt (λ s. ReadsUnknownLeaf (table_leaves table.now) (graph_at s)) scopes.now) result }
 {
     graphs_fault(Search::Unknown, table, scopes)

@@ -1,7 +1,7 @@
 //! A walk over the leaves of a structure, depth first.
-ghost use Rattle.std.specs.Prelude.{◌≡◌, ◌+◌, ◌^◌, ◌<◌, ◌∷◌, ◌++◌, [], length, reverse, IfOk, MatchOption, OnOk};
+ghost use Rattle.std.specs.Prelude.{◌≡◌, ◌+◌, ◌^◌, ◌<◌, ◌∷◌, ◌++◌, [], length, reverse, IfOk, MatchOption, OnOk, option_map};
 ghost use Rattle.leaf_rules.specs.Structures.{behind};
-ghost use Rattle.leaf_rules.specs.StructureLeaves.{element_count, below, bare_leaf, members_leaves, members_named, leaves_to};
+ghost use Rattle.leaf_rules.specs.StructureLeaves.{element_count, below, bare_leaf, members_leaves, members_named, leaves_to, leaves_in};
 ghost use Rattle.leaf_rules.specs.Counts.{AreCounted};
 ghost use Rattle.leaf_rules.specs.Walking.{steps_at, path, IsVisitTo, IsAdvanced};
 
@@ -11,7 +11,7 @@ use std::alloc::{AllocError, Global};
 
 /// Where a walk stands in one structure: at the first of these members.
 #[derive(Clone, Copy)]
-pub struct Visit<'a> {
+struct Visit<'a> {
     members: &'a [Member],
     /// How many elements of the first member were begun.
     begun: u64,
@@ -37,6 +37,37 @@ fn put_last<'a>(visits: &mut Vec<Visit<'a>>, visit: Visit<'a>) -> Result<(), All
     ensures { OnOk result (reverse visits.new.items ≡ visit.entry ∷ reverse visits.old.items) }
 {
     visits.push(visit)?;
+    Ok(())
+}
+
+/// Leaves the first member, for the later ones.
+fn pass<'a>(
+    visits: &mut Vec<Visit<'a>>,
+    visit: Visit<'a>,
+    later: &'a [Member],
+) -> Result<(), AllocError>
+    ensures { OnOk result (reverse visits.new.items ≡ record { members = later.entry; begun = 0; depth = visit.entry.depth } ∷ reverse visits.old.items) }
+{
+    let past = Visit {
+        members: later,
+        begun: 0,
+        depth: visit.depth,
+    };
+    put_last(visits, past)?;
+    Ok(())
+}
+
+/// Begins one more element of the first member.
+fn go_on<'a>(visits: &mut Vec<Visit<'a>>, visit: Visit<'a>) -> Result<(), AllocError>
+    requires { visit.begun + 1 < 2 ^ 64 }
+    ensures { OnOk result (reverse visits.new.items ≡ record { members = visit.entry.members; begun = visit.entry.begun + 1; depth = visit.entry.depth } ∷ reverse visits.old.items) }
+{
+    let next = Visit {
+        members: visit.members,
+        begun: visit.begun + 1,
+        depth: visit.depth,
+    };
+    put_last(visits, next)?;
     Ok(())
 }
 
@@ -123,34 +154,24 @@ impl<'a> Structures<'a> {
         requires room { visit.begun + 1 < 2 ^ 64 }
         ensures { OnOk result (IsAdvanced (behind self.now.definitions.items) leaves.old (visit.entry ∷ reverse visits.old.items) leaves.new (reverse visits.new.items)) }
     {
-        let past = Visit {
-            members: later,
-            begun: 0,
-            depth: visit.depth,
-        };
-        let next = Visit {
-            members: visit.members,
-            begun: visit.begun + 1,
-            depth: visit.depth,
-        };
         match &member.kind {
             KindTree::Long => {
-                put_last(visits, next)?;
+                go_on(visits, visit)?;
                 add_leaf(alloc, leaves, visits, Kind::Long)?;
                 Ok(())
             }
             KindTree::Str => {
-                put_last(visits, next)?;
+                go_on(visits, visit)?;
                 add_leaf(alloc, leaves, visits, Kind::Str)?;
                 Ok(())
             }
             KindTree::Struct(name) => match self.inner(name, visit.depth) {
                 None => {
-                    put_last(visits, past)?;
+                    pass(visits, visit, later)?;
                     Ok(())
                 }
                 Some(inner) => {
-                    put_last(visits, next)?;
+                    go_on(visits, visit)?;
                     put_last(visits, inner)?;
                     Ok(())
                 }
@@ -173,21 +194,16 @@ impl<'a> Structures<'a> {
             return Ok(());
         };
         if visit.begun >= element_count(member) {
-            let past = Visit {
-                members: later,
-                begun: 0,
-                depth: visit.depth,
-            };
-            put_last(visits, past)?;
+            pass(visits, visit, later)?;
             return Ok(());
         }
         self.begin(alloc, visit, member, later, visits, leaves)
     }
 
-    /// The leaves of the structure of this name.
-    pub fn leaves(&self, alloc: Global, name: &'a NameAt) -> Result<Leaves, AllocError>
+    /// The leaves of the structure of this name, as a walk finds them.
+    fn walked(&self, alloc: Global, name: &'a NameAt) -> Result<List<Leaf>, AllocError>
         requires { AreCounted (behind self.now.definitions.items) self.now.counts.items }
-        ensures { IfOk result (λ found. found.leaves ≡ members_leaves (leaves_to (behind self.now.definitions.items) (length (behind self.now.definitions.items))) (members_named (behind self.now.definitions.items) name.now.name)) }
+        ensures { IfOk result (λ leaves. leaves ≡ members_leaves (leaves_to (behind self.now.definitions.items) (length (behind self.now.definitions.items))) (members_named (behind self.now.definitions.items) name.now.name)) }
     {
         let mut leaves = List::new(alloc);
         let mut visits = Vec::new(alloc);
@@ -200,6 +216,20 @@ impl<'a> Structures<'a> {
         while let Some(visit) = take_last(&mut visits) {
             self.advance(alloc, visit, &mut visits, &mut leaves)?;
         }
-        Ok(Leaves { leaves })
+        Ok(leaves)
+    }
+
+    /// The leaves of the structure of this name; None where no structure has it. Leaves have to be counted: see `cycle`.
+    pub fn leaves(&self, alloc: Global, name: &'a NameAt) -> Result<Option<Leaves>, AllocError>
+        requires { AreCounted (behind self.now.definitions.items) self.now.counts.items }
+        ensures { IfOk result (λ found. option_map (λ l. l.leaves) found ≡ leaves_in (behind self.now.definitions.items) name.now.name) }
+    {
+        match self.number(name) {
+            None => Ok(None),
+            Some(_number) => {
+                let leaves = self.walked(alloc, name)?;
+                Ok(Some(Leaves { leaves }))
+            }
+        }
     }
 }

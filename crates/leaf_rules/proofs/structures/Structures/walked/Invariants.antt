@@ -2,7 +2,7 @@ use Rattle.std.proofs.Common.{◌≡◌, ◌++◌, length, reverse}
 use Rattle.leaf_rules.specs.Structures.{behind}
 use Rattle.leaf_rules.specs.StructureLeaves.{members_leaves, members_named, leaves_to}
 use Rattle.leaf_rules.specs.Walking.{left_leaves, work_left}
-use Rattle.leaf_rules.proofs.structures.Structures.leaves.Given as goal
+use Rattle.leaf_rules.proofs.structures.Structures.walked.Given as goal
 
 abbrev pub invariant-loop-visit : goal.invariant-loop-visit
 invariant-loop-visit l =
