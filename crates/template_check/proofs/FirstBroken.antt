@@ -1,7 +1,8 @@
 -- Rules are judged one after another.
-use Rattle.std.proofs.Common.{◌≡◌, ℕ, List, [], ◌∷◌, ◌++◌, Option, Some, None, refl, inl, inr, ⊎_elim}
+use Rattle.std.proofs.Common.{◌≡◌, ℕ, List, [], ◌∷◌, ◌++◌, Option, Some, None, Result, Ok, Err, refl, inl, inr, ⊎_elim}
+use Rattle.std.specs.Prelude.{IfOk}
 use Rattle.text_graphs.specs.Places.{IsLeastOf}
-use Rattle.template_check.specs.Rules.{Rule, IsFoundAt, IsFirstBroken}
+use Rattle.template_check.specs.Rules.{Rule, fault_in, IsFoundAt, IsFirstBroken}
 
 -- the first of some rules is broken
 pub found_here : (rule : Rule) (rules : List Rule) (p : ℕ) → IsLeastOf rule.1 (Some p) → IsFirstBroken (rule ∷ rules) (Some (rule.0, p))
@@ -20,3 +21,8 @@ none_then (rule ∷ rules) second found none rest = ⊎_elim (λ here. let e : N
 pub some_then : (first second : List Rule) (fault : ℕ × ℕ) → IsFirstBroken first (Some fault) → IsFirstBroken (first ++ second) (Some fault)
 some_then [] second fault some = let e : Some fault ≡ None = some in cc
 some_then (rule ∷ rules) second fault some = ⊎_elim (λ here. inl here) (λ past. inr (past.0, some_then rules second fault past.1)) some
+
+-- so it is of what judging the others comes to
+pub then_first : {T E : Type 0} (first second : List Rule) (result : Result (Result T (ℕ × ℕ)) E) → IsFirstBroken first None → IfOk result (λ judged. IsFirstBroken second (fault_in judged)) → IfOk result (λ judged. IsFirstBroken (first ++ second) (fault_in judged))
+then_first first second (Ok judged) none rest = none_then first second (fault_in judged) none rest
+then_first first second (Err e) none rest = tt

@@ -15,7 +15,7 @@ contained {X} R (y ∷ xs) x p has r = go has.0 has.1 has.2 (λ h. contained R x
     go zero less is rest = inl (subst (λ (z : X). R z p) (sym is) r)
     go (suc k) less is rest = inr (rest (k, omega arith, is))
 
-container : {X : Type 0} (R : X → ℕ → Type 0) (xs : List X) (p : ℕ) → AnyAt R xs p → (x : X) × Contains xs x × R x p
+pub container : {X : Type 0} (R : X → ℕ → Type 0) (xs : List X) (p : ℕ) → AnyAt R xs p → (x : X) × Contains xs x × R x p
 container R [] p h = absurd h
 container {X} R (x ∷ xs) p h =
     ⊎_elim

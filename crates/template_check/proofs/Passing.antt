@@ -12,9 +12,13 @@ use Rattle.connector_rules.specs.Connectors.{NamesNobody, IsDouble, IsEmptyGraph
 use Rattle.text_graphs.specs.Graphs.{graph_at, graphs_in, AreGraphsOf, InGraphs}
 use Rattle.text_graphs.specs.Meeting.{IsAgainAt}
 use Rattle.name_rules.specs.Names.{AreActivityEnds, IsItemEnd, IsEndWrong, IsInsideAgain, IsItemAgain, IsPartAgain, IsTwice}
-use Rattle.text_graphs.specs.Places.{IsLeastOf, AnyAt, PairAt}
+use Rattle.process_rules.specs.Counts.{IsExtra, IsTooMuch, IsTooMuchOf}
+use Rattle.process_rules.specs.Numbers.{IsNumberWrong}
+use Rattle.text_graphs.specs.Places.{IsLeastOf, AnyAt, PairAt, lesser_of}
+use Rattle.text_graphs.proofs.Finding.{least_either, least_is}
+use Rattle.leaf_rules.specs.ArrayCounts.{IsCountOutside}
 use Rattle.leaf_rules.specs.Structures.{AreNoKinds, AreNoContainersIn, NamesNoStructure}
-use Rattle.text_graphs.specs.Texts.{activities_in, controls_in, edges_in, AllDiffer, AreNamesApart, IsConnected, structures_in}
+use Rattle.text_graphs.specs.Texts.{activities_in, controls_in, edges_in, AllDiffer, AreNamesApart, IsConnected, processes_in, structures_in}
 use Rattle.text_graphs.specs.declared.scopes.Scope.{Scope}
 use Rattle.connector_rules.proofs.Doubling.{edges_differ}
 use Rattle.template_check.proofs.InText.{contained, in_both}
@@ -73,6 +77,20 @@ module _ (items : List ItemTree) (scopes : List Scope) (graphs : AreGraphsOf ite
   unknown_found structures found same h =
       in_both items scopes graphs (AnyAt (AreNoKinds (structures_in items)) (structures_in items)) (AreNoContainersIn (structures_in items)) found
       (subst (λ (ss : List StructDef). IsLeastOf (NamesNoStructure ss (AnyAt (λ s. AreNoContainersIn ss (graph_at s)) scopes)) found) same h)
+
+-- ---- rules 23 and 24
+
+module _ (items : List ItemTree) (scopes : List Scope) (graphs : AreGraphsOf items (graphs_in scopes)) where
+  pub numbers_found : (structures : List StructDef) (a b found : Option ℕ) → structures ≡ structures_in items → IsLeastOf (IsCountOutside structures) a → IsLeastOf (AnyAt (λ s. IsNumberWrong (graph_at s)) scopes) b → found ≡ lesser_of a b
+      → IsLeastOf (λ p. IsCountOutside (structures_in items) p ⊎ InGraphs items IsNumberWrong p) found
+  numbers_found structures a b found same outside wrong is =
+      let counts = IsCountOutside (structures_in items) in
+      let numbers = AnyAt (λ (s : Scope). IsNumberWrong (graph_at s)) scopes in
+      in_both items scopes graphs counts IsNumberWrong found
+      (least_is (λ p. counts p ⊎ numbers p) (lesser_of a b) found is (least_either counts numbers a b (subst (λ (ss : List StructDef). IsLeastOf (IsCountOutside ss) a) same outside) wrong))
+
+  pub extra_found : (found : Option ℕ) → IsLeastOf (IsTooMuchOf (processes_in items) (AnyAt (λ s. IsTooMuch (graph_at s)) scopes)) found → IsLeastOf (IsTooMuchOf (processes_in items) (InGraphs items IsTooMuch)) found
+  extra_found found h = in_both items scopes graphs (IsExtra (λ q. q.place) 256 (processes_in items)) IsTooMuch found h
 
 -- ---- what is found, and what is not
 

@@ -17,7 +17,7 @@ use connector_rules::{
     cycle, double_connector, empty_graph, otherwise, unknown_activity, unreachable_data,
 };
 use flow_model::Tree;
-use leaf_rules::{LeafTable, Structures, mixed_kinds, unknown_leaf};
+use leaf_rules::{LeafTable, Structures, mixed_kinds, unknown_leaves};
 use name_rules::{duplicate, end_name};
 use process_rules::{
     Known, Shape, count_limit, deep_processes, graph_numbers, large_processes,
@@ -104,7 +104,7 @@ pub fn first_of_leaves<'a>(tree: &Tree, table: &LeafTable<'a>, scopes: &[Scope<'
     requires leaves { All (λ s. HasContainers (leaves_in (structures_in tree.now.items)) (table_leaves table.now) (graph_at s)) scopes.now }
     ensures { IsFirstBroken (rules_on_leaves tree.now.items) result }
 {
-    if let Some(place) = unknown_leaf(table, scopes) {
+    if let Some(place) = unknown_leaves(table, scopes) {
         return Some((13, place));
     }
     match mixed_kinds(table, scopes) {

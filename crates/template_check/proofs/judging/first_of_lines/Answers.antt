@@ -15,11 +15,11 @@ returns-in-Some-2-clause-first c =
     let found = in_text c.args.tree.now.items c.args.scopes.now c.requires in
     let none = found IsOtherwiseWrong None (none_found _ c.in_ok-place.field-0 c.in_default.not-Some c.in_ok-place.ensures) in
     let p = c.in-Some-2.place in
-    let h = found IsUnreachableData (Some p) (some_found _ c.in_ok-unreachable_data.field-0 p c.in-Some-2.is c.in_ok-unreachable_data.ensures.least) in
+    let h = found IsUnreachableData (Some p) (some_found _ c.in_ok-place-2.field-0 p c.in-Some-2.is c.in_ok-place-2.ensures.least) in
     inr (none, inl (p, refl, h.0, h.1))
 
 pub returns-in-None-clause-first : goal.returns-in-None-clause-first
 returns-in-None-clause-first c =
     let found = in_text c.args.tree.now.items c.args.scopes.now c.requires in
     let none = found IsOtherwiseWrong None (none_found _ c.in_ok-place.field-0 c.in_default.not-Some c.in_ok-place.ensures) in
-    inr (none, inr (found IsUnreachableData None (none_is _ c.in_ok-unreachable_data.field-0 c.in-None.is c.in_ok-unreachable_data.ensures.least), refl))
+    inr (none, inr (found IsUnreachableData None (none_is _ c.in_ok-place-2.field-0 c.in-None.is c.in_ok-place-2.ensures.least), refl))

@@ -18,7 +18,7 @@ returns-in-Some-2 c = λ indexed.
     let found = in_text c.args.tree.now.items c.args.scopes.now c.requires.graphs in
     let none = found (NamesNoPerson c.args.known.now.catalog.now.library people) None (none_found _ c.unknown_people.result c.in_default.not-Some (c.unknown_people.ensures people c.requires.people indexed)) in
     let p = c.in-Some-2.place in
-    let h = found NamesNoPerformer (Some p) (some_found _ c.in_ok-wrong_performers.field-0 p c.in-Some-2.is c.in_ok-wrong_performers.ensures) in
+    let h = found NamesNoPerformer (Some p) (some_found _ c.in_ok-place.field-0 p c.in-Some-2.is c.in_ok-place.ensures) in
     inr (none, inl (p, refl, h.0, h.1))
 
 pub returns-in-None : goal.returns-in-None
@@ -26,4 +26,4 @@ returns-in-None c = λ indexed.
     let people = people_in c.args.tree.now.items in
     let found = in_text c.args.tree.now.items c.args.scopes.now c.requires.graphs in
     let none = found (NamesNoPerson c.args.known.now.catalog.now.library people) None (none_found _ c.unknown_people.result c.in_default.not-Some (c.unknown_people.ensures people c.requires.people indexed)) in
-    inr (none, inr (found NamesNoPerformer None (none_is _ c.in_ok-wrong_performers.field-0 c.in-None.is c.in_ok-wrong_performers.ensures), refl))
+    inr (none, inr (found NamesNoPerformer None (none_is _ c.in_ok-place.field-0 c.in-None.is c.in_ok-place.ensures), refl))
