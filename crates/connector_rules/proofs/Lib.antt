@@ -1,1 +1,5 @@
 pub mod Doubling
+pub mod Nowhere
+pub mod Closing
+pub mod Testing
+pub mod Alongside

@@ -1,2 +1,3 @@
 pub mod Connectors
 pub mod EdgesMet
+pub mod EdgesGrouped

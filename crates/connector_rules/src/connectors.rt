@@ -1,17 +1,19 @@
-//! Rules 9 to 12, 15 and 16: connectors and data lines as edges of their graph.
-ghost use Rattle.std.specs.Prelude.{◌≡◌, ◌<◌, ℕ, List, [], ◌∷◌, ◌++◌, None, false, true, IfOk, OnOk};
-ghost use Rattle.std.specs.List.{All};
+//! Rules 9 to 12 and 16: connectors and data lines as edges of their graph.
+ghost use Rattle.std.specs.Prelude.{◌≡◌, ◌<◌, ◌↔◌, ℕ, List, [], ◌∷◌, ◌++◌, None, IsTrue, MatchBool, IfOk, OnOk, length};
+ghost use Rattle.std.specs.List.{All, Contains};
 ghost use Rattle.flow_model.specs.declared.trees.ControlTree.{ControlTree};
 ghost use Rattle.text_graphs.specs.Graphs.{graph_at};
-ghost use Rattle.connector_rules.specs.Connectors.{IsNobody, IsLoose, IsEndNobody, AreEndsNobody, NamesNobody, IsDouble, IsEmptyGraph};
+ghost use Rattle.connector_rules.specs.Connectors.{IsNobody, IsLoose, IsEndNobody, AreEndsNobody, NamesNobody, IsDouble, IsClosing, IsOnCycle, IsEmptyGraph, IsUnreachable, IsUnreachableData};
 ghost use Rattle.connector_rules.specs.EdgesMet.{AreEdgesMet};
 ghost use Rattle.text_graphs.specs.Places.{IsLeastOf, AnyAt};
 ghost use Rattle.graph_check.specs.Walks.{Reaches};
 ghost use Rattle.text_graphs.specs.ClosedWalks.{IsAcyclic};
 ghost use Rattle.text_graphs.specs.GraphEdges.{AreEdgesOf, AreKnown};
-ghost use Rattle.text_graphs.specs.Texts.{controls_in, lines_in, edges_in, line_edge, IsNotClosing, IsLineAlong};
+ghost use Rattle.graph_check.specs.Components.{same_number};
+ghost use Rattle.connector_rules.specs.EdgesGrouped.{AreGroupsOf};
+ghost use Rattle.text_graphs.specs.Texts.{controls_in, lines_in, edges_in, line_edge, IsLineAlong};
 
-use flow_model::{ControlTree, DataTree, EndTree, EndsTree, NameAt, WhenTree};
+use flow_model::{ControlTree, DataTree, EndTree, EndsTree, NameAt};
 use indexmap::{IndexMap, IndexSet};
 use std::alloc::{AllocError, Global};
 use text_graphs::{Edges, Scope, is_marked, lesser};
@@ -143,39 +145,62 @@ pub fn double_connector(alloc: Global, scopes: &[Scope<'_>]) -> Result<Option<u3
     Ok(least)
 }
 
-/// Whether a connector lies on a closed walk.
-fn closes_walk<'a>(
-    alloc: Global,
-    scope: &Scope<'a>,
-    edges: &Edges,
-    control: &'a ControlTree,
-) -> Result<bool, AllocError>
-    requires { AreEdgesOf scope.now.elements.now edges.now }
-    ensures { IfOk result (λ yes. yes ≡ false → IsNotClosing scope.now.elements.now control.now) }
+/// Whether two activities are in one group.
+fn is_together(groups: &[u32], from: u32, to: u32) -> bool
+    requires from { from < length groups.now }
+    requires to { to < length groups.now }
+    ensures { result ≡ same_number groups.now (from, to) }
+{
+    groups[from as usize] == groups[to as usize]
+}
+
+/// The place of a connector that lies on a closed walk.
+fn closing<'a>(scope: &Scope<'a>, groups: &[u32], control: &'a ControlTree) -> Option<u32>
+    requires groups { AreGroupsOf scope.now.elements.now groups.now }
+    requires listed { Contains (controls_in scope.now.elements.now) control.now }
+    ensures { IsLeastOf (IsClosing scope.now.elements.now control.now) result }
 {
     match scope.ends(&control.from, &control.to) {
-        None => Ok(false),
+        None => None,
         Some((from, to)) => {
-            let seen = edges.reaching(alloc, from)?;
-            Ok(is_marked(&seen, to))
+            if is_together(groups, from, to) {
+                Some(control.place)
+            } else {
+                None
+            }
         }
     }
 }
 
-/// Rule 11: a CONTROL lies on a closed walk of its graph.
-pub fn cycle(alloc: Global, scope: &Scope<'_>) -> Result<Option<u32>, AllocError>
-    ensures { IfOk result (λ place. place ≡ None → IsAcyclic (edges_in scope.now.elements.now)) }
+fn groups(alloc: Global, scope: &Scope<'_>) -> Result<Vec<u32>, AllocError>
+    ensures { IfOk result (λ groups. AreGroupsOf scope.now.elements.now groups.items) }
 {
     let edges = scope.edges(alloc)?;
-    if edges.order(alloc)?.is_some() {
-        return Ok(None);
-    }
+    let groups = edges.components(alloc)?;
+    Ok(groups)
+}
+
+fn cycle_in_graph(alloc: Global, scope: &Scope<'_>) -> Result<Option<u32>, AllocError>
+    ensures { IfOk result (IsLeastOf (IsOnCycle (graph_at scope.now))) }
+{
+    let groups = groups(alloc, scope)?;
+    let mut least = None;
     for control in &scope.controls {
-        if closes_walk(alloc, scope, &edges, control)? {
-            return Ok(Some(control.place));
-        }
+        least = lesser(least, closing(scope, &groups, control));
     }
-    Ok(None)
+    Ok(least)
+}
+
+/// Rule 11: a CONTROL lies on a closed walk of its graph.
+pub fn cycle(alloc: Global, scopes: &[Scope<'_>]) -> Result<Option<u32>, AllocError>
+    ensures least { IfOk result (IsLeastOf (AnyAt (λ s. IsOnCycle (graph_at s)) scopes.now)) }
+    ensures acyclic { IfOk result (λ place. place ≡ None → All (λ s. IsAcyclic (edges_in s.elements.now)) scopes.now) }
+{
+    let mut least = None;
+    for scope in scopes {
+        least = lesser(least, cycle_in_graph(alloc, scope)?);
+    }
+    Ok(least)
 }
 
 fn empty(scope: &Scope<'_>) -> Option<u32>
@@ -197,40 +222,6 @@ pub fn empty_graph(scopes: &[Scope<'_>]) -> Option<u32>
         least = lesser(least, empty(scope));
     }
     least
-}
-
-fn is_otherwise(control: &ControlTree) -> bool {
-    matches!(control.when, WhenTree::Otherwise)
-}
-
-/// The activities that have a CONTROL with WHEN.
-fn tested_sources(alloc: Global, scope: &Scope<'_>) -> Result<IndexSet<u32>, AllocError> {
-    let mut sources = IndexSet::new(alloc);
-    for control in &scope.controls {
-        if let WhenTree::Cond(_) = &control.when {
-            if let Some(from) = scope.number(&control.from) {
-                sources.insert_full(from)?;
-            }
-        }
-    }
-    Ok(sources)
-}
-
-/// Rule 15: an OTHERWISE whose source has an earlier one, or no CONTROL with WHEN.
-pub fn otherwise(alloc: Global, scope: &Scope<'_>) -> Result<Option<u32>, AllocError> {
-    let tested = tested_sources(alloc, scope)?;
-    let mut met = IndexSet::new(alloc);
-    for control in &scope.controls {
-        if is_otherwise(control) {
-            if let Some(from) = scope.number(&control.from) {
-                let (_place, is_new) = met.insert_full(from)?;
-                if !is_new || !tested.contains(&from) {
-                    return Ok(Some(control.place));
-                }
-            }
-        }
-    }
-    Ok(None)
 }
 
 /// The numbers of the two activities of a DATA line between activities.
@@ -267,27 +258,29 @@ impl Walks {
         }
     }
 
-    /// Sees to it that the walks to an activity are known.
-    fn learn(&mut self, alloc: Global, to: u32) -> Result<(), AllocError>
+    /// Looks for the walks to an activity, and says whether one leads there from another.
+    fn learn(&mut self, alloc: Global, from: u32, to: u32) -> Result<bool, AllocError>
         requires { AreKnown self.old.edges self.old.known }
         ensures edges { self.new.edges ≡ self.old.edges }
         ensures known { OnOk result (AreKnown self.new.edges self.new.known) }
+        ensures leads { IfOk result (λ yes. from < self.old.edges.nodes → to < self.old.edges.nodes → IsTrue yes ↔ Reaches self.old.edges.pairs.items from to) }
     {
-        if !self.known.contains_key(&to) {
-            let seen = self.edges.reaching(alloc, to)?;
-            self.known.insert(to, seen)?;
-        }
-        Ok(())
+        let seen = self.edges.reaching(alloc, to)?;
+        let leads = is_marked(&seen, from);
+        self.known.insert(to, seen)?;
+        Ok(leads)
     }
 
-    /// Whether a walk is known that leads from one activity to another.
-    fn lead(&self, from: u32, to: u32) -> bool
-        requires { AreKnown self.now.edges self.now.known }
-        ensures { result ≡ true → from < self.now.edges.nodes → to < self.now.edges.nodes → Reaches self.now.edges.pairs.items from to }
+    /// Whether a walk leads from one activity to another.
+    fn lead(&mut self, alloc: Global, from: u32, to: u32) -> Result<bool, AllocError>
+        requires { AreKnown self.old.edges self.old.known }
+        ensures edges { self.new.edges ≡ self.old.edges }
+        ensures known { OnOk result (AreKnown self.new.edges self.new.known) }
+        ensures leads { IfOk result (λ yes. from < self.old.edges.nodes → to < self.old.edges.nodes → IsTrue yes ↔ Reaches self.old.edges.pairs.items from to) }
     {
         match self.known.get(&to) {
-            Some(seen) => is_marked(seen, from),
-            None => false,
+            Some(seen) => Ok(is_marked(seen, from)),
+            None => self.learn(alloc, from, to),
         }
     }
 
@@ -302,27 +295,56 @@ impl Walks {
         requires known { AreKnown self.old.edges self.old.known }
         ensures edges { self.new.edges ≡ self.old.edges }
         ensures known { OnOk result (AreKnown self.new.edges self.new.known) }
-        ensures along { IfOk result (λ yes. yes ≡ true → IsLineAlong scope.now.elements.now line.now) }
+        ensures along { IfOk result (λ yes. MatchBool yes (IsLineAlong scope.now.elements.now line.now) (IsUnreachable scope.now.elements.now line.now line.now.place)) }
     {
         match line_ends(scope, &line.ends) {
             None => Ok(true),
-            Some((from, to)) => {
-                self.learn(alloc, to)?;
-                Ok(self.lead(from, to))
-            }
+            Some((from, to)) => self.lead(alloc, from, to),
+        }
+    }
+
+    /// The place of a DATA line between two activities that goes along no walk.
+    fn apart<'a>(
+        &mut self,
+        alloc: Global,
+        scope: &Scope<'a>,
+        line: &'a DataTree,
+    ) -> Result<Option<u32>, AllocError>
+        requires edges { AreEdgesOf scope.now.elements.now self.old.edges }
+        requires known { AreKnown self.old.edges self.old.known }
+        ensures edges { self.new.edges ≡ self.old.edges }
+        ensures known { OnOk result (AreKnown self.new.edges self.new.known) }
+        ensures least { IfOk result (IsLeastOf (IsUnreachable scope.now.elements.now line.now)) }
+        ensures along { IfOk result (λ place. place ≡ None → IsLineAlong scope.now.elements.now line.now) }
+    {
+        if self.has_line(alloc, scope, line)? {
+            Ok(None)
+        } else {
+            Ok(Some(line.place))
         }
     }
 }
 
-/// Rule 16: a DATA line between two activities whose target isn't reachable from the source.
-pub fn unreachable_data(alloc: Global, scope: &Scope<'_>) -> Result<Option<u32>, AllocError>
-    ensures { IfOk result (λ place. place ≡ None → All (IsLineAlong scope.now.elements.now) (lines_in scope.now.elements.now)) }
+fn unreachable_in_graph(alloc: Global, scope: &Scope<'_>) -> Result<Option<u32>, AllocError>
+    ensures least { IfOk result (IsLeastOf (IsUnreachableData (graph_at scope.now))) }
+    ensures along { IfOk result (λ place. place ≡ None → All (IsLineAlong scope.now.elements.now) (lines_in scope.now.elements.now)) }
 {
     let mut walks = Walks::new(alloc, scope.edges(alloc)?);
+    let mut least = None;
     for line in &scope.lines {
-        if !walks.has_line(alloc, scope, line)? {
-            return Ok(Some(line.place));
-        }
+        least = lesser(least, walks.apart(alloc, scope, line)?);
     }
-    Ok(None)
+    Ok(least)
+}
+
+/// Rule 16: a DATA line between two activities whose target isn't reachable from the source.
+pub fn unreachable_data(alloc: Global, scopes: &[Scope<'_>]) -> Result<Option<u32>, AllocError>
+    ensures least { IfOk result (IsLeastOf (AnyAt (λ s. IsUnreachableData (graph_at s)) scopes.now)) }
+    ensures along { IfOk result (λ place. place ≡ None → All (λ s. All (IsLineAlong s.elements.now) (lines_in s.elements.now)) scopes.now) }
+{
+    let mut least = None;
+    for scope in scopes {
+        least = lesser(least, unreachable_in_graph(alloc, scope)?);
+    }
+    Ok(least)
 }

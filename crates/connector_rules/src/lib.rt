@@ -4,7 +4,7 @@
 #![tactic(auto)]
 
 mod connectors;
+mod otherwises;
 
-pub use connectors::{
-    cycle, double_connector, empty_graph, otherwise, unknown_activity, unreachable_data,
-};
+pub use connectors::{cycle, double_connector, empty_graph, unknown_activity, unreachable_data};
+pub use otherwises::otherwise;

@@ -10,12 +10,9 @@ use Rattle.flow_model.specs.declared.trees.EndsTree.{EndsTree}
 use Rattle.flow_model.specs.declared.trees.EndsTree.TheVariants as ends
 use Rattle.text_graphs.specs.GraphTexts.{GraphText}
 use Rattle.leaf_rules.specs.ReturnCodes.{return_code}
+pub use Rattle.leaf_rules.specs.StructureLeaves.{Leafing}
 use Rattle.text_graphs.specs.Texts.{activity_named}
 use Rattle.leaf_rules.specs.declared.members.LeafTable.{LeafTable}
-
--- the leaves of the structure of a name
-abbrev pub Leafing : Type 0
-Leafing = List ℕ → Option (List Leaf)
 
 -- the leaves of an output, the return code before the others
 abbrev pub with_code : Option (List Leaf) → Option (List Leaf)

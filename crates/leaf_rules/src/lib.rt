@@ -6,7 +6,10 @@
 mod forms;
 mod members;
 mod structures;
+mod uses;
+mod walks;
 
 pub use forms::{StructureLeaves, leaves_copy};
-pub use members::{LeafTable, Search, leaf_fault};
+pub use members::LeafTable;
 pub use structures::Structures;
+pub use uses::{mixed_kinds, unknown_leaves};

@@ -1,19 +1,20 @@
-//! Rules 13 and 14: the leaves that conditions and maps read and write, and their kinds.
-ghost use Rattle.std.specs.Prelude.{◌≡◌, ◌<◌, ◌^◌, length, IfSome, option_map};
-ghost use Rattle.leaf_rules.specs.Leaves.{with_code, table_leaves, input_leaves, output_leaves, source_leaves, target_leaves, line_source, line_target};
+//! The leaves of the containers of graphs, each structure's made once.
+ghost use Rattle.std.specs.Prelude.{◌≡◌, ◌<◌, ◌^◌, length, IfOk, IfSome, OnOk, option_map};
+ghost use Rattle.std.specs.List.{All};
+ghost use Rattle.text_graphs.specs.Graphs.{graph_at};
 ghost use Rattle.text_graphs.specs.GraphTexts.{text_of};
+ghost use Rattle.leaf_rules.specs.Structures.{behind};
+ghost use Rattle.leaf_rules.specs.StructureLeaves.{leaves_in};
+ghost use Rattle.leaf_rules.specs.Counts.{AreCounted};
+ghost use Rattle.leaf_rules.specs.Leaves.{with_code, table_leaves, input_leaves, output_leaves, source_leaves, target_leaves, line_source, line_target};
+ghost use Rattle.leaf_rules.specs.Tables.{HasContainers, IsTrueTo, IsGrown};
 
 use crate::forms::{StructureLeaves, both_forms};
 use crate::structures::Structures;
-use conditions::{first_mismatch, first_unknown};
-use containers::find_leaf;
-use flow_model::{
-    AttrTree, Cond, ControlTree, DataTree, EndTree, EndsTree, Kind, LeafAt, Leaves, MapTree,
-    NameAt, WhenTree,
-};
+use flow_model::{ControlTree, EndTree, EndsTree, Leaves, NameAt};
 use indexmap::IndexMap;
 use std::alloc::{AllocError, Global};
-use text_graphs::{Scope, lesser};
+use text_graphs::Scope;
 
 /// The leaves of the structures that containers of a text have, with `_RC` and without, each made once.
 #[derive(Drop)]
@@ -23,12 +24,16 @@ pub struct LeafTable<'a> {
 }
 
 impl<'a> LeafTable<'a> {
-    /// The leaves that the containers of these graphs have.
+    /// The leaves that the containers of these graphs have. Leaves have to be counted: see `Structures::cycle`.
     pub fn new(
         alloc: Global,
         structures: Structures<'a>,
         scopes: &[Scope<'a>],
-    ) -> Result<LeafTable<'a>, AllocError> {
+    ) -> Result<LeafTable<'a>, AllocError>
+        requires { AreCounted (behind structures.definitions.items) structures.counts.items }
+        ensures kept { IfOk result (λ table. behind table.structures.definitions.items ≡ behind structures.entry.definitions.items) }
+        ensures there { IfOk result (λ table. All (λ s. HasContainers (leaves_in (behind structures.entry.definitions.items)) (table_leaves table) (graph_at s)) scopes.now) }
+    {
         let mut table = LeafTable {
             structures,
             leaves: IndexMap::new(alloc),
@@ -39,27 +44,65 @@ impl<'a> LeafTable<'a> {
         Ok(table)
     }
 
-    fn add_scope(&mut self, alloc: Global, scope: &Scope<'a>) -> Result<(), AllocError> {
+    /// Adds the leaves of the containers of a graph.
+    fn add_scope(&mut self, alloc: Global, scope: &Scope<'a>) -> Result<(), AllocError>
+        requires counted { AreCounted (behind self.old.structures.definitions.items) self.old.structures.counts.items }
+        requires right { IsTrueTo (leaves_in (behind self.old.structures.definitions.items)) (table_leaves self.old) }
+        ensures kept { OnOk result (self.new.structures ≡ self.old.structures) }
+        ensures grown { OnOk result (IsGrown (leaves_in (behind self.old.structures.definitions.items)) (table_leaves self.old) (table_leaves self.new)) }
+        ensures there { OnOk result (HasContainers (leaves_in (behind self.old.structures.definitions.items)) (table_leaves self.new) (graph_at scope.now)) }
+    {
         self.add(alloc, scope.input)?;
         self.add(alloc, scope.output)?;
         for activity in &scope.activities {
-            self.add(alloc, &activity.input)?;
-            self.add(alloc, &activity.output)?;
+            self.add_both(alloc, &activity.input, &activity.output)?;
         }
         Ok(())
     }
 
-    fn add(&mut self, alloc: Global, name: &'a NameAt) -> Result<(), AllocError> {
-        let key = name.name.as_slice();
-        if self.structures.number(name).is_some() && !self.leaves.contains_key(&key) {
-            let plain = self.structures.leaves(alloc, name)?;
-            self.leaves.insert(key, both_forms(alloc, plain)?)?;
-        }
+    fn add_both(
+        &mut self,
+        alloc: Global,
+        input: &'a NameAt,
+        output: &'a NameAt,
+    ) -> Result<(), AllocError>
+        requires counted { AreCounted (behind self.old.structures.definitions.items) self.old.structures.counts.items }
+        requires right { IsTrueTo (leaves_in (behind self.old.structures.definitions.items)) (table_leaves self.old) }
+        ensures kept { OnOk result (self.new.structures ≡ self.old.structures) }
+        ensures grown { OnOk result (IsGrown (leaves_in (behind self.old.structures.definitions.items)) (table_leaves self.old) (table_leaves self.new)) }
+        ensures input { OnOk result (table_leaves self.new input.now.name ≡ leaves_in (behind self.old.structures.definitions.items) input.now.name) }
+        ensures output { OnOk result (table_leaves self.new output.now.name ≡ leaves_in (behind self.old.structures.definitions.items) output.now.name) }
+    {
+        self.add(alloc, input)?;
+        self.add(alloc, output)?;
         Ok(())
+    }
+
+    /// Adds the leaves of the structure of this name, if it has one and they are not there.
+    fn add(&mut self, alloc: Global, name: &'a NameAt) -> Result<(), AllocError>
+        requires counted { AreCounted (behind self.old.structures.definitions.items) self.old.structures.counts.items }
+        requires right { IsTrueTo (leaves_in (behind self.old.structures.definitions.items)) (table_leaves self.old) }
+        ensures kept { OnOk result (self.new.structures ≡ self.old.structures) }
+        ensures grown { OnOk result (IsGrown (leaves_in (behind self.old.structures.definitions.items)) (table_leaves self.old) (table_leaves self.new)) }
+        ensures there { OnOk result (table_leaves self.new name.now.name ≡ leaves_in (behind self.old.structures.definitions.items) name.now.name) }
+    {
+        let key = name.name.as_slice();
+        if self.leaves.contains_key(&key) {
+            return Ok(());
+        }
+        match self.structures.leaves(alloc, name)? {
+            None => Ok(()),
+            Some(plain) => {
+                self.leaves.insert(key, both_forms(alloc, plain)?)?;
+                Ok(())
+            }
+        }
     }
 
     /// The structures of the text.
-    pub fn structures(&self) -> &Structures<'a> {
+    pub fn structures(&self) -> &Structures<'a>
+        ensures { result.now ≡ self.now.structures }
+    {
         &self.structures
     }
 
@@ -158,109 +201,4 @@ impl<'a> LeafTable<'a> {
     {
         self.output_of(scope, &control.from)
     }
-}
-
-/// What a rule looks for in a condition.
-#[derive(Clone, Copy, Debug, PartialEq, Eq)]
-pub enum Search {
-    /// A leaf that isn't there.
-    Unknown,
-    /// Kinds that don't fit.
-    Mismatch,
-}
-
-fn cond_fault(search: Search, cond: &Cond, leaves: &Leaves) -> Option<u32> {
-    match search {
-        Search::Unknown => first_unknown(cond, leaves),
-        Search::Mismatch => first_mismatch(cond, leaves),
-    }
-}
-
-/// The place of a leaf that isn't one of these.
-fn unknown_leaf(leaves: &Leaves, leaf: &LeafAt) -> Option<u32> {
-    match find_leaf(leaves, leaf) {
-        Some(_) => None,
-        None => Some(leaf.place),
-    }
-}
-
-fn kind_of(leaves: &Leaves, leaf: &LeafAt) -> Option<Kind> {
-    let place = find_leaf(leaves, leaf)?;
-    let found = leaves.leaves.as_slice().get(place as usize)?;
-    Some(found.kind)
-}
-
-fn map_fault(search: Search, map: &MapTree, from: &Leaves, to: &Leaves) -> Option<u32> {
-    match search {
-        Search::Unknown => lesser(unknown_leaf(from, &map.from), unknown_leaf(to, &map.to)),
-        Search::Mismatch => {
-            if kind_of(from, &map.from) == kind_of(to, &map.to) {
-                None
-            } else {
-                Some(map.to.place)
-            }
-        }
-    }
-}
-
-fn line_fault<'a>(
-    search: Search,
-    table: &LeafTable<'a>,
-    scope: &Scope<'a>,
-    line: &'a DataTree,
-) -> Option<u32> {
-    let from = table.line_source(scope, &line.ends)?;
-    let to = table.line_target(scope, &line.ends)?;
-    let mut least = None;
-    for map in line.maps.as_slice() {
-        least = lesser(least, map_fault(search, map, from, to));
-    }
-    least
-}
-
-fn connector_fault<'a>(
-    search: Search,
-    table: &LeafTable<'a>,
-    scope: &Scope<'a>,
-    control: &'a ControlTree,
-) -> Option<u32> {
-    let WhenTree::Cond(cond) = &control.when else {
-        return None;
-    };
-    cond_fault(search, &cond.cond, table.connector_leaves(scope, control)?)
-}
-
-fn exit_fault<'a>(
-    search: Search,
-    table: &LeafTable<'a>,
-    output: &'a NameAt,
-    what: &AttrTree,
-) -> Option<u32> {
-    let AttrTree::Exit(cond) = what else {
-        return None;
-    };
-    cond_fault(search, &cond.cond, table.coded(output)?)
-}
-
-fn exit_faults<'a>(search: Search, table: &LeafTable<'a>, scope: &Scope<'a>) -> Option<u32> {
-    let mut least = None;
-    for activity in &scope.activities {
-        for attribute in activity.attrs.as_slice() {
-            let fault = exit_fault(search, table, &activity.output, &attribute.what);
-            least = lesser(least, fault);
-        }
-    }
-    least
-}
-
-/// Rule 13 or 14: the first place of a graph where its search finds something.
-pub fn leaf_fault<'a>(search: Search, table: &LeafTable<'a>, scope: &Scope<'a>) -> Option<u32> {
-    let mut least = exit_faults(search, table, scope);
-    for control in &scope.controls {
-        least = lesser(least, connector_fault(search, table, scope, control));
-    }
-    for line in &scope.lines {
-        least = lesser(least, line_fault(search, table, scope, line));
-    }
-    least
 }

@@ -1,16 +1,21 @@
 //! The structures of a text with their leaves, and rules 6, 7 and 8 on them.
-ghost use Rattle.std.specs.Prelude.{◌≡◌, ◌⊎◌, map, IfOk};
+ghost use Rattle.std.specs.Prelude.{◌≡◌, ◌⊎◌, ℕ, ◌<◌, ◌++◌, [], map, length, false, replicate, slice_index, slice_index_or, slice_set, IfOk, IsTrue, OnOk};
+ghost use Rattle.std.specs.List.{filter_map};
+ghost use Rattle.graph_check.specs.Walks.{IsOrder};
+ghost use Rattle.text_graphs.specs.ClosedWalks.{AreClosed};
 ghost use Rattle.text_graphs.specs.Graphs.{graph_at};
 ghost use Rattle.text_graphs.specs.Places.{IsLeastOf, AnyAt};
-ghost use Rattle.leaf_rules.specs.Structures.{AreStructuresNumbered, behind, structure_in, IsNoStructure, IsNoKind, AreNoKinds, AreNoContainers, AreNoContainersIn, NamesNoStructure};
 ghost use Rattle.text_graphs.specs.Texts.{activities_in, structures_in};
+ghost use Rattle.leaf_rules.specs.Structures.{AreStructuresNumbered, behind, structure_in, IsNoStructure, IsNoKind, AreNoKinds, AreNoContainers, AreNoContainersIn, NamesNoStructure};
+ghost use Rattle.leaf_rules.specs.StructureLeaves.{element_count, members_named, leaves_to};
+ghost use Rattle.leaf_rules.specs.KindEdges.{kind_in, kind_edge, kind_edges, IsInStructureCycle};
+ghost use Rattle.leaf_rules.specs.ArrayCounts.{IsOutside, HasCountOutside, IsCountOutside};
+ghost use Rattle.leaf_rules.specs.Counts.{told, AreCounted, count_at, kind_count, members_count, HasTooManyLeaves};
 
-use flow_model::{
-    ItemTree, Kind, KindTree, Leaf, LeafName, Leaves, List, Member, NameAt, Step, StructDef, Tree,
-};
+use flow_model::{ItemTree, KindTree, Member, NameAt, StructDef, Tree};
 use indexmap::IndexMap;
 use std::alloc::{AllocError, Global};
-use text_graphs::{Edges, Scope, lesser, narrow, small};
+use text_graphs::{Edges, Scope, lesser, narrow};
 
 /// No structure has more leaves.
 const MOST_LEAVES: u64 = 512;
@@ -25,17 +30,10 @@ pub struct Structures<'a> {
     ghost numbered: { AreStructuresNumbered (map (λ s. s.now) definitions.items) numbers },
 }
 
-/// Where a walk over the leaves stands in one structure.
-#[derive(Clone, Copy)]
-struct Visit {
-    structure: u32,
-    member: usize,
-    /// How many elements of the member were begun.
-    begun: u64,
-}
-
 /// How many elements a member has.
-fn element_count(member: &Member) -> u64 {
+pub(crate) fn element_count(member: &Member) -> u64
+    ensures { result ≡ element_count member.now }
+{
     match &member.count {
         Some(count) => count.size,
         None => 1,
@@ -72,6 +70,77 @@ fn numbers_of<'a>(
         }
     }
     Ok(numbers)
+}
+
+/// The place of a structure through which a closed walk leads.
+fn place_where(closed: &[bool], number: usize, structure: &StructDef) -> Option<u32>
+    ensures { IsLeastOf (λ p. IsTrue (slice_index_or closed.now number false) × (structure.now.name.place ≡ p)) result }
+{
+    if closed.get(number).copied().unwrap_or(false) {
+        Some(structure.name.place)
+    } else {
+        None
+    }
+}
+
+/// The place of a structure with too many leaves.
+fn place_above(counts: &[u64], number: usize, structure: &StructDef) -> Option<u32>
+    ensures { IsLeastOf (λ p. (512 < slice_index counts.now number) × (structure.now.name.place ≡ p)) result }
+{
+    if counts.get(number).copied().unwrap_or(0) > MOST_LEAVES {
+        Some(structure.name.place)
+    } else {
+        None
+    }
+}
+
+fn no_counts(alloc: Global, structures: usize) -> Result<Vec<u64>, AllocError>
+    ensures { IfOk result (λ counts. counts.items ≡ replicate structures 0) }
+{
+    Ok(vec![in alloc; 0; structures]?)
+}
+
+fn set_count(counts: &mut Vec<u64>, number: u32, count: u64)
+    requires { number < length counts.old.items }
+    ensures { counts.new.items ≡ slice_set counts.old.items number count }
+{
+    counts[number as usize] = count;
+}
+
+/// What is counted for the structure of this number, if there is one.
+fn count_at(counts: &[u64], number: Option<u32>) -> u64
+    ensures { result ≡ count_at counts.now number }
+{
+    match number {
+        Some(number) => counts.get(number as usize).copied().unwrap_or(0),
+        None => 0,
+    }
+}
+
+/// The place of an array count that is not from 1 to 512.
+fn count_outside(member: &Member) -> Option<u32>
+    ensures { IsLeastOf (IsOutside member.now.count) result }
+{
+    match &member.count {
+        None => None,
+        Some(count) => {
+            if count.size < 1 || count.size > MOST_LEAVES {
+                Some(count.place)
+            } else {
+                None
+            }
+        }
+    }
+}
+
+fn count_in_structure(structure: &StructDef) -> Option<u32>
+    ensures { IsLeastOf (HasCountOutside structure.now) result }
+{
+    let mut least = None;
+    for member in structure.members.as_slice() {
+        least = lesser(least, count_outside(member));
+    }
+    least
 }
 
 impl<'a> Structures<'a> {
@@ -179,228 +248,162 @@ impl<'a> Structures<'a> {
         lesser(self.unknown_members(), self.unknown_containers(scopes))
     }
 
-    /// An edge from each structure to the kinds of its members.
-    fn edges(&self, alloc: Global) -> Result<Edges, AllocError> {
-        let mut edges = Edges::new(alloc, small(self.definitions.len()));
+    /// The structure that a kind is.
+    fn kind_number(&self, kind: &'a KindTree) -> Option<u32>
+        ensures { result ≡ kind_in (behind self.now.definitions.items) kind.now }
+    {
+        match kind {
+            KindTree::Long => None,
+            KindTree::Str => None,
+            KindTree::Struct(name) => self.number(name),
+        }
+    }
+
+    /// Adds an edge to a structure from each kind of its members.
+    fn add_kinds(
+        &self,
+        edges: &mut Edges,
+        to: u32,
+        structure: &'a StructDef,
+    ) -> Result<(), AllocError>
+        requires nodes { edges.old.nodes ≡ length (behind self.now.definitions.items) }
+        requires within { to < edges.old.nodes }
+        ensures nodes { OnOk result (edges.new.nodes ≡ edges.old.nodes) }
+        ensures added { OnOk result (edges.new.pairs.items ≡ edges.old.pairs.items ++ filter_map (kind_edge (behind self.now.definitions.items) to) structure.now.members) }
+    {
+        for member in structure.members.as_slice() {
+            match self.kind_number(&member.kind) {
+                None => {}
+                Some(from) => edges.add(from, to)?,
+            }
+        }
+        Ok(())
+    }
+
+    /// An edge to each structure from each kind of its members.
+    fn edges(&self, alloc: Global) -> Result<Edges, AllocError>
+        ensures nodes { IfOk result (λ edges. edges.nodes ≡ length (behind self.now.definitions.items)) }
+        ensures pairs { IfOk result (λ edges. edges.pairs.items ≡ kind_edges (behind self.now.definitions.items)) }
+    {
+        let mut edges = Edges::new(alloc, narrow(self.definitions.len())?);
         for (i, structure) in self.definitions.iter().enumerate() {
-            self.add_kinds(&mut edges, small(i), structure)?;
+            self.add_kinds(&mut edges, narrow(i)?, structure)?;
         }
         Ok(edges)
     }
 
-    fn add_kinds(
-        &self,
-        edges: &mut Edges,
-        from: u32,
-        structure: &'a StructDef,
-    ) -> Result<(), AllocError> {
-        for member in structure.members.as_slice() {
-            if let KindTree::Struct(name) = &member.kind {
-                if let Some(to) = self.number(name) {
-                    edges.add(from, to)?;
-                }
-            }
+    /// The least place of a structure of which it is known that a closed walk leads through it.
+    fn least_closed(&self, closed: &[bool]) -> Option<u32>
+        requires { AreClosed (length (behind self.now.definitions.items)) (kind_edges (behind self.now.definitions.items)) closed.now }
+        ensures { IsLeastOf (IsInStructureCycle (behind self.now.definitions.items)) result }
+    {
+        let mut least = None;
+        for (i, structure) in self.definitions.iter().enumerate() {
+            least = lesser(least, place_where(closed, i, structure));
         }
-        Ok(())
+        least
     }
 
     /// Rule 7: a structure reaches itself through member kinds. Where none does, leaves are counted.
     pub fn cycle(&mut self, alloc: Global) -> Result<Option<u32>, AllocError>
-        ensures { behind self.new.definitions.items ≡ behind self.old.definitions.items }
+        ensures kept { behind self.new.definitions.items ≡ behind self.old.definitions.items }
+        ensures least { IfOk result (IsLeastOf (IsInStructureCycle (behind self.old.definitions.items))) }
+        ensures counted { IfOk result (λ place. place ≡ None → AreCounted (behind self.new.definitions.items) self.new.counts.items) }
     {
         let edges = self.edges(alloc)?;
-        if let Some(order) = edges.order(alloc)? {
-            self.count(alloc, order.as_slice())?;
-            return Ok(None);
-        }
-        for (i, structure) in self.definitions.iter().enumerate() {
-            if edges.on_cycle(alloc, small(i))? {
-                return Ok(Some(structure.name.place));
+        match edges.order(alloc)? {
+            Some(order) => {
+                self.counts = self.leaf_counts(alloc, order.as_slice())?;
+                Ok(None)
+            }
+            None => {
+                let closed = edges.closed_nodes(alloc)?;
+                Ok(self.least_closed(&closed))
             }
         }
-        Ok(None)
     }
 
-    /// Counts the leaves of all structures, in an order in which each comes before its kinds.
-    fn count(&mut self, alloc: Global, order: &[u32]) -> Result<(), AllocError>
-        ensures { behind self.new.definitions.items ≡ behind self.old.definitions.items }
+    /// The leaves of each structure, counted in an order in which each comes behind its kinds.
+    fn leaf_counts(&self, alloc: Global, order: &[u32]) -> Result<Vec<u64>, AllocError>
+        requires { IsOrder (length (behind self.now.definitions.items)) (kind_edges (behind self.now.definitions.items)) order.now }
+        ensures { IfOk result (λ counts. AreCounted (behind self.now.definitions.items) counts.items) }
     {
-        self.counts = vec![in alloc; 0; self.definitions.len()]?;
-        for number in order.iter().rev() {
-            self.count_one(*number);
+        let mut counts = no_counts(alloc, self.definitions.len())?;
+        for number in order {
+            let structure = self.definitions[*number as usize];
+            let count = self.count_of(&counts, structure);
+            set_count(&mut counts, *number, count);
         }
-        Ok(())
+        Ok(counts)
     }
 
-    /// Counts the leaves of a structure whose kinds are counted.
-    fn count_one(&mut self, number: u32)
-        ensures { behind self.new.definitions.items ≡ behind self.old.definitions.items }
+    /// What is counted for a kind.
+    fn kind_count(&self, counts: &[u64], kind: &'a KindTree) -> u64
+        ensures { result ≡ kind_count (behind self.now.definitions.items) counts.now kind.now }
     {
-        let count = self.count_of(number);
-        if let Some(place) = self.counts.get_mut(number as usize) {
-            *place = count;
+        match kind {
+            KindTree::Long => 1,
+            KindTree::Str => 1,
+            KindTree::Struct(name) => count_at(counts, self.number(name)),
         }
     }
 
     /// The number of leaves of a structure whose kinds are counted.
-    fn count_of(&self, number: u32) -> u64 {
-        let Some(structure) = self.definitions.get(number as usize) else {
-            return 0;
-        };
+    fn count_of(&self, counts: &[u64], structure: &'a StructDef) -> u64
+        ensures { result ≡ told (members_count (behind self.now.definitions.items) counts.now structure.now.members) }
+    {
         let mut count = 0u64;
         for member in structure.members.as_slice() {
-            let each = match &member.kind {
-                KindTree::Long => 1,
-                KindTree::Str => 1,
-                KindTree::Struct(name) => self.leaf_count(name),
-            };
+            let each = self.kind_count(counts, &member.kind);
             count = count.saturating_add(each.saturating_mul(element_count(member)));
         }
         count
     }
 
-    /// The number of leaves of the structure of this name, once they are counted.
-    fn leaf_count(&self, name: &'a NameAt) -> u64 {
-        match self.number(name) {
-            Some(number) => self.counts.get(number as usize).copied().unwrap_or(0),
-            None => 0,
-        }
-    }
-
     /// Rule 8: a structure has more than 512 leaves.
-    pub fn too_many_leaves(&self) -> Option<u32> {
+    pub fn too_many_leaves(&self) -> Option<u32>
+        requires { AreCounted (behind self.now.definitions.items) self.now.counts.items }
+        ensures { IsLeastOf (HasTooManyLeaves (behind self.now.definitions.items)) result }
+    {
+        let mut least = None;
         for (i, structure) in self.definitions.iter().enumerate() {
-            if self.counts.get(i).copied().unwrap_or(0) > MOST_LEAVES {
-                return Some(structure.name.place);
-            }
+            least = lesser(least, place_above(&self.counts, i, structure));
         }
-        None
+        least
     }
 
-    /// The member that a visit stands at.
-    fn member(&self, visit: Visit) -> Option<&'a Member> {
-        let structure = self.definitions.get(visit.structure as usize)?;
-        structure.members.as_slice().get(visit.member)
+    /// How many structures the text has.
+    pub(crate) fn len(&self) -> usize
+        ensures { result ≡ length (behind self.now.definitions.items) }
+    {
+        self.definitions.len()
     }
 
-    /// The steps of the leaf that visits lead to.
-    fn leaf_name(&self, alloc: Global, visits: &[Visit]) -> Result<LeafName, AllocError> {
-        let mut steps = List::new(alloc);
-        for visit in visits {
-            if let Some(member) = self.member(*visit) {
-                steps.push(Step::Member(member.name.name.copy(alloc)?))?;
-                if member.count.is_some() {
-                    let place = visit.begun.saturating_sub(1);
-                    steps.push(Step::Place(u32::try_from(place).unwrap_or(u32::MAX)))?;
-                }
-            }
-        }
-        Ok(LeafName { steps })
-    }
-
-    /// The structure to go into, if a member's kind is one that has leaves.
-    fn inner(&self, kind: &'a KindTree) -> Option<u32> {
-        match kind {
-            KindTree::Struct(name) if self.leaf_count(name) > 0 => self.number(name),
-            _ => None,
+    /// The members of the structure of this name; none where no structure has it.
+    pub(crate) fn members(&self, name: &'a NameAt) -> &'a [Member]
+        ensures { result.now ≡ members_named (behind self.now.definitions.items) name.now.name }
+    {
+        match self.number(name) {
+            None => &[],
+            Some(number) => self.definitions[number as usize].members.as_slice(),
         }
     }
 
-    /// The kind of the leaf that a member is, if it is one.
-    fn leaf_kind(kind: &KindTree) -> Option<Kind> {
-        match kind {
-            KindTree::Long => Some(Kind::Long),
-            KindTree::Str => Some(Kind::Str),
-            KindTree::Struct(_) => None,
-        }
+    /// Whether the structure of this name has leaves.
+    pub(crate) fn has_leaves(&self, name: &'a NameAt) -> bool
+        requires { AreCounted (behind self.now.definitions.items) self.now.counts.items }
+        ensures { result ≡ false → (depth : ℕ) → leaves_to (behind self.now.definitions.items) depth name.now.name ≡ [] }
+    {
+        count_at(&self.counts, self.number(name)) > 0
     }
 
-    /// One step of the walk over the leaves.
-    fn advance(
-        &self,
-        alloc: Global,
-        visits: &mut Vec<Visit>,
-        leaves: &mut List<Leaf>,
-    ) -> Result<(), AllocError> {
-        let Some(visit) = visits.pop() else {
-            return Ok(());
-        };
-        let Some(member) = self.member(visit) else {
-            return Ok(());
-        };
-        let kind = Self::leaf_kind(&member.kind);
-        let inner = self.inner(&member.kind);
-        let is_over = kind.is_none() && inner.is_none() || visit.begun >= element_count(member);
-        if is_over {
-            visits.push(Visit {
-                structure: visit.structure,
-                member: visit.member.saturating_add(1),
-                begun: 0,
-            })?;
-            return Ok(());
-        }
-        visits.push(Visit {
-            structure: visit.structure,
-            member: visit.member,
-            begun: visit.begun.saturating_add(1),
-        })?;
-        if let Some(kind) = kind {
-            let name = self.leaf_name(alloc, visits)?;
-            leaves.push(Leaf { name, kind })?;
-        }
-        if let Some(structure) = inner {
-            visits.push(Visit {
-                structure,
-                member: 0,
-                begun: 0,
-            })?;
-        }
-        Ok(())
-    }
-
-    /// Adds the leaves of the structure of this name, depth first, arrays by place from 0.
-    fn add_leaves(
-        &self,
-        alloc: Global,
-        name: &'a NameAt,
-        leaves: &mut List<Leaf>,
-    ) -> Result<(), AllocError> {
-        let Some(structure) = self.number(name) else {
-            return Ok(());
-        };
-        let mut visits = Vec::new(alloc);
-        visits.push(Visit {
-            structure,
-            member: 0,
-            begun: 0,
-        })?;
-        for _ in 0..u64::MAX {
-            if visits.is_empty() {
-                break;
-            }
-            self.advance(alloc, &mut visits, leaves)?;
-        }
-        Ok(())
-    }
-
-    /// The leaves of the structure of this name.
-    pub fn leaves(&self, alloc: Global, name: &'a NameAt) -> Result<Leaves, AllocError> {
-        let mut leaves = List::new(alloc);
-        self.add_leaves(alloc, name, &mut leaves)?;
-        Ok(Leaves { leaves })
-    }
-
-    /// The place of the first array count outside 1 to 512.
-    pub fn count_fault(&self) -> Option<u32> {
+    /// Rule 23 on arrays: a count is outside 1 to 512.
+    pub fn count_fault(&self) -> Option<u32>
+        ensures { IsLeastOf (IsCountOutside (behind self.now.definitions.items)) result }
+    {
         let mut least = None;
         for structure in &self.definitions {
-            for member in structure.members.as_slice() {
-                if let Some(count) = &member.count {
-                    if count.size < 1 || count.size > MOST_LEAVES {
-                        least = lesser(least, Some(count.place));
-                    }
-                }
-            }
+            least = lesser(least, count_in_structure(structure));
         }
         least
     }

@@ -1,10 +1,12 @@
 -- What the names of processes stand for in a text: those that stand before in it, else the newest of the library.
 use Rattle.std.specs.Borrow.{Bor}
-use Rattle.std.specs.Prelude.{◌≡◌, ℕ, Option, List, bytes_eq, length, slice_get, vec_len}
+use Rattle.std.specs.Prelude.{◌≡◌, ℕ, Option, List, bytes_eq, length, map, slice_get, vec_len}
+use Rattle.std.specs.List.{list_any}
 use Rattle.std.specs.Option.{option_map, option_and_then}
 use Rattle.std.specs.HashMap as hash
 use Rattle.std.specs.HashMap.{HashMap}
 use Rattle.flow_model.specs.declared.graphs.Library.{Library}
+use Rattle.flow_model.specs.declared.trees.PersonTree.{PersonTree}
 use Rattle.flow_model.specs.declared.trees.ProcessTree.{ProcessTree}
 use Rattle.process_rules.specs.Calling.{before_this, text_or, place_among}
 use Rattle.process_rules.specs.Imports.{last_place, newest_place}
@@ -21,6 +23,11 @@ AreLast processes numbers = (key : List ℕ) → hash.get_by (λ k. bytes_eq key
 pub record IsKnowing (known : Known) (processes : List ProcessTree) : Type 0 where
   pub numbered : AreLast processes known.numbers
   pub counted : vec_len known.processes ≡ length processes
+  pub listed : map (λ p. p.now) known.processes.items ≡ processes
+
+-- the people of a text are known by their names
+abbrev pub ArePeople : Known → List PersonTree → Type 0
+ArePeople known people = (name : List ℕ) → list_any (λ k. bytes_eq name k.now) known.people.keys ≡ list_any (λ n. bytes_eq name n.name) (map (λ q. q.name) people)
 
 -- the newest template of a name in the library
 abbrev pub stored_named : Library → List ℕ → Option Callee

@@ -1,3 +1,11 @@
 pub mod Imports
 pub mod Calling
 pub mod Knowing
+pub mod Callees
+pub mod Numbering
+pub mod Doers
+pub mod Said
+pub mod Numbers
+pub mod Counts
+pub mod Search
+pub mod Shapes

@@ -3,12 +3,20 @@
 //! Knows the graphs of a text and the library of earlier imports; never instances. Begin with [`Known`].
 #![tactic(auto)]
 
+mod alike;
+mod callees;
 mod catalog;
+mod counts;
+mod doers;
+mod numbers;
 mod people;
+mod said;
 mod sizes;
 
+pub use callees::{mismatched_containers, unknown_processes};
 pub use catalog::Catalog;
-pub use people::{
-    Callee, Known, container_mismatch, is_manual, performer, unknown_person, unknown_process,
-};
-pub use sizes::{Shape, count_limit, expanded_size, nesting, number, shapes};
+pub use counts::count_limit;
+pub use doers::{is_manual, unknown_people, wrong_performers};
+pub use numbers::{graph_numbers, number};
+pub use people::{Callee, Known};
+pub use sizes::{Shape, deep_processes, large_processes, shapes};

@@ -1,20 +1,19 @@
-//! Rules 17 to 20: the processes and the people that activities name.
-ghost use Rattle.std.specs.Prelude.{◌≡◌, ℕ, ◌<◌, List, [], ◌∷◌, ◌++◌, IfOk, OnOk, IfSome};
-ghost use Rattle.std.specs.List.{list_any, cons_option};
+//! What the names of processes and people stand for in a text.
+ghost use Rattle.std.specs.Prelude.{◌≡◌, ℕ, ◌<◌, List, [], ◌∷◌, ◌++◌, IfOk, OnOk, IfSome, map, slice_get, option_copied};
+ghost use Rattle.std.specs.List.{cons_option};
+ghost use Rattle.flow_model.specs.declared.trees.PersonTree.{PersonTree};
 ghost use Rattle.flow_model.specs.declared.trees.ProcessTree.{ProcessTree};
-ghost use Rattle.process_rules.specs.Knowing.{IsKnowing};
-ghost use Rattle.text_graphs.specs.Texts.{process_of, processes_in};
-ghost use Rattle.text_graphs.specs.Attributes.{is_start_manual};
+ghost use Rattle.process_rules.specs.Doers.{is_person};
+ghost use Rattle.process_rules.specs.Imports.{IsIndexed};
+ghost use Rattle.process_rules.specs.Knowing.{IsKnowing, ArePeople};
+ghost use Rattle.text_graphs.specs.Texts.{process_of, processes_in, person_of, people_in};
 ghost use Rattle.process_rules.specs.Calling.{IsBefore, earlier_meant, stored_meant, callee_meant};
 
 use crate::catalog::Catalog;
-use flow_model::{
-    ActivityTree, AttrTree, ItemTree, Leaf, Leaves, NameAt, ProcessTree, Step, Tree, WorkTree,
-};
+use flow_model::{ItemTree, NameAt, PersonTree, ProcessTree, Tree};
 use indexmap::{IndexMap, IndexSet};
-use leaf_rules::LeafTable;
 use std::alloc::{AllocError, Global};
-use text_graphs::{Scope, lesser, narrow, small};
+use text_graphs::narrow;
 
 /// The process that an activity runs.
 #[derive(Clone, Copy, Debug, PartialEq, Eq)]
@@ -38,6 +37,7 @@ impl<'a> Known<'a> {
     pub fn new(alloc: Global, tree: &'a Tree, catalog: &'a Catalog) -> Result<Known<'a>, AllocError>
         ensures catalog { IfOk result (λ known. known.catalog.now ≡ catalog.now) }
         ensures knowing { IfOk result (λ known. IsKnowing known (processes_in tree.now.items)) }
+        ensures people { IfOk result (λ known. ArePeople known (people_in tree.now.items)) }
     {
         let mut known = Known {
             catalog,
@@ -54,20 +54,28 @@ impl<'a> Known<'a> {
     fn add(&mut self, item: &'a ItemTree) -> Result<(), AllocError>
         ensures catalog { self.new.catalog ≡ self.old.catalog }
         ensures knowing { OnOk result ((processes : List ProcessTree) → IsKnowing self.old processes → IsKnowing self.new (processes ++ cons_option (process_of item.now) [])) }
+        ensures people { OnOk result ((people : List PersonTree) → ArePeople self.old people → ArePeople self.new (people ++ cons_option (person_of item.now) [])) }
     {
         match item {
             ItemTree::Structure(_) => Ok(()),
-            ItemTree::Person(person) => {
-                self.people.insert_full(person.name.name.as_slice())?;
-                Ok(())
-            }
+            ItemTree::Person(person) => self.add_person(person),
             ItemTree::Process(process) => self.add_process(process),
         }
+    }
+
+    fn add_person(&mut self, person: &'a PersonTree) -> Result<(), AllocError>
+        ensures catalog { self.new.catalog ≡ self.old.catalog }
+        ensures knowing { (processes : List ProcessTree) → IsKnowing self.old processes → IsKnowing self.new processes }
+        ensures people { OnOk result ((people : List PersonTree) → ArePeople self.old people → ArePeople self.new (people ++ person.now ∷ [])) }
+    {
+        self.people.insert_full(person.name.name.as_slice())?;
+        Ok(())
     }
 
     fn add_process(&mut self, process: &'a ProcessTree) -> Result<(), AllocError>
         ensures catalog { self.new.catalog ≡ self.old.catalog }
         ensures knowing { OnOk result ((processes : List ProcessTree) → IsKnowing self.old processes → IsKnowing self.new (processes ++ process.now ∷ [])) }
+        ensures people { (people : List PersonTree) → ArePeople self.old people → ArePeople self.new people }
     {
         let number = narrow(self.processes.len())?;
         self.processes.push(process)?;
@@ -76,8 +84,17 @@ impl<'a> Known<'a> {
     }
 
     /// The processes of the text, in order.
-    pub fn processes(&self) -> &[&'a ProcessTree] {
+    pub fn processes(&self) -> &[&'a ProcessTree]
+        ensures { result.now ≡ self.now.processes.items }
+    {
         &self.processes
+    }
+
+    /// The process of a number; None exactly where there is none.
+    pub fn process(&self, number: u32) -> Option<&'a ProcessTree>
+        ensures { option_copied result ≡ slice_get (map (λ p. p.now) self.now.processes.items) number }
+    {
+        self.processes.get(number as usize).copied()
     }
 
     /// The library of earlier imports.
@@ -124,180 +141,10 @@ impl<'a> Known<'a> {
         }
     }
 
-    fn is_person(&self, name: &'a NameAt) -> bool {
+    /// Whether a name is a person's of the text or of an earlier import.
+    pub fn is_person(&self, name: &'a NameAt) -> bool
+        ensures { (people : List PersonTree) → ArePeople self.now people → IsIndexed self.now.catalog.now → result ≡ is_person self.now.catalog.now.library people name.now.name }
+    {
         self.people.contains(&name.name.as_slice()) || self.catalog.person(&name.name).is_some()
     }
-}
-
-/// Rule 17: a PROCESS_ACTIVITY names a process that isn't there yet.
-pub fn unknown_process<'a>(known: &Known<'a>, scope: &Scope<'a>) -> Option<u32> {
-    let mut least = None;
-    for activity in &scope.activities {
-        if let WorkTree::Process(name) = &activity.work {
-            if known.callee(scope.process, name).is_none() {
-                least = lesser(least, Some(name.place));
-            }
-        }
-    }
-    least
-}
-
-fn same_step(first: &Step, second: &Step) -> bool {
-    match (first, second) {
-        (Step::Member(a), Step::Member(b)) => a.as_slice() == b.as_slice(),
-        (Step::Rc, Step::Rc) => true,
-        (Step::Place(a), Step::Place(b)) => a == b,
-        _ => false,
-    }
-}
-
-fn same_leaf(first: &Leaf, second: &Leaf) -> bool {
-    let (a, b) = (first.name.steps.as_slice(), second.name.steps.as_slice());
-    first.kind == second.kind
-        && a.len() == b.len()
-        && a.iter().zip(b.iter()).all(|(x, y)| same_step(x, y))
-}
-
-/// Whether two containers have the same leaves in the same order.
-fn same_leaves(first: &Leaves, second: &Leaves) -> bool {
-    let (a, b) = (first.leaves.as_slice(), second.leaves.as_slice());
-    a.len() == b.len() && a.iter().zip(b.iter()).all(|(x, y)| same_leaf(x, y))
-}
-
-fn fits(ours: Option<&Leaves>, theirs: Option<&Leaves>) -> bool {
-    match (ours, theirs) {
-        (Some(ours), Some(theirs)) => same_leaves(ours, theirs),
-        _ => false,
-    }
-}
-
-/// Whether the containers of a process activity have the leaves of the process's.
-fn fits_callee<'a>(
-    known: &Known<'a>,
-    table: &LeafTable<'a>,
-    activity: &'a ActivityTree,
-    callee: Callee,
-) -> bool {
-    let input = table.plain(&activity.input);
-    let output = table.plain(&activity.output);
-    match callee {
-        Callee::Text(number) => match known.processes.get(number as usize) {
-            None => false,
-            Some(process) => {
-                fits(input, table.plain(&process.input))
-                    && fits(output, table.plain(&process.output))
-            }
-        },
-        Callee::Library(place) => match known.catalog.template(place) {
-            None => false,
-            Some(template) => {
-                fits(input, Some(&template.graph.input))
-                    && fits(output, Some(&template.graph.output))
-            }
-        },
-    }
-}
-
-/// Rule 18: the leaves of a process activity's containers and of the process's differ.
-pub fn container_mismatch<'a>(
-    known: &Known<'a>,
-    table: &LeafTable<'a>,
-    scope: &Scope<'a>,
-) -> Option<u32> {
-    let mut least = None;
-    for activity in &scope.activities {
-        if let WorkTree::Process(name) = &activity.work {
-            if let Some(callee) = known.callee(scope.process, name) {
-                if !fits_callee(known, table, activity, callee) {
-                    least = lesser(least, Some(activity.place));
-                }
-            }
-        }
-    }
-    least
-}
-
-/// Rule 19: DONE_BY PERSON names no person.
-pub fn unknown_person<'a>(known: &Known<'a>, scope: &Scope<'a>) -> Option<u32> {
-    let mut least = None;
-    for activity in &scope.activities {
-        for attribute in activity.attrs.as_slice() {
-            if let AttrTree::Person(name) = &attribute.what {
-                if !known.is_person(name) {
-                    least = lesser(least, Some(name.place));
-                }
-            }
-        }
-    }
-    least
-}
-
-/// Whether an activity is a program activity that a person starts.
-pub fn is_manual(activity: &ActivityTree) -> bool
-    ensures { result ≡ list_any (λ attribute. is_start_manual attribute.what) activity.now.attrs }
-{
-    for attribute in activity.attrs.as_slice() {
-        if starts_manual(&attribute.what) {
-            return true;
-        }
-    }
-    false
-}
-
-fn starts_manual(what: &AttrTree) -> bool
-    ensures { result ≡ is_start_manual what.now }
-{
-    match what {
-        AttrTree::Start(manual) => *manual,
-        AttrTree::When(_) => false,
-        AttrTree::Exit(_) => false,
-        AttrTree::Expires(_) => false,
-        AttrTree::Role(_) => false,
-        AttrTree::Person(_) => false,
-        AttrTree::Starter => false,
-        AttrTree::Performer(_) => false,
-    }
-}
-
-/// The first PERFORMER OF of an activity that names no manual activity, or one that doesn't lead here.
-fn performer_fault<'a>(
-    scope: &Scope<'a>,
-    activity: &'a ActivityTree,
-    leads_here: &[bool],
-) -> Option<u32> {
-    let mut least = None;
-    for attribute in activity.attrs.as_slice() {
-        if let AttrTree::Performer(name) = &attribute.what {
-            let leads = match scope.number(name) {
-                Some(number) => leads_here.get(number as usize).copied().unwrap_or(false),
-                None => false,
-            };
-            let manual = scope.activity(name).map_or(false, |other| is_manual(other));
-            if !leads || !manual {
-                least = lesser(least, Some(name.place));
-            }
-        }
-    }
-    least
-}
-
-fn names_performer(activity: &ActivityTree) -> bool {
-    activity.attrs.as_slice().iter().any(|attribute| matches!(
-        attribute.what,
-        AttrTree::Performer(_)
-    ))
-}
-
-/// Rule 20: PERFORMER OF names no manual program activity of the graph from which this one is reachable.
-pub fn performer<'a>(alloc: Global, scope: &Scope<'a>) -> Result<Option<u32>, AllocError> {
-    let edges = scope.edges(alloc)?;
-    for (i, activity) in scope.activities.iter().enumerate() {
-        if names_performer(activity) {
-            let leads_here = edges.reaching(alloc, small(i))?;
-            if let Some(place) = performer_fault(scope, activity, &leads_here) {
-                return Ok(Some(place));
-            }
-        }
-    }
-    Ok(None)
 }

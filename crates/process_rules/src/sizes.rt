@@ -1,35 +1,22 @@
-//! Rules 21 to 24: nesting, expanded size, numbers and counts.
-ghost use Rattle.std.specs.Prelude.{◌≡◌, None};
-ghost use Rattle.std.specs.List.{All};
-ghost use Rattle.text_graphs.specs.Texts.{IsLimited};
+//! Rules 21 and 22: how deep the processes of a text nest, and how large they are with all that they run.
+ghost use Rattle.std.specs.Prelude.{◌≡◌, ◌<◌, ◌+◌, ◌-◌, ◌^◌, ℕ, List, Some, min, max, map, IfOk};
+ghost use Rattle.flow_model.specs.declared.trees.ProcessTree.{ProcessTree};
+ghost use Rattle.process_rules.specs.Calling.{callee_meant};
+ghost use Rattle.process_rules.specs.Imports.{IsIndexed};
+ghost use Rattle.process_rules.specs.Knowing.{IsKnowing};
+ghost use Rattle.process_rules.specs.Shapes.{nothing, callee_shape, named_shape, element_adds, work_adds, graph_shape, shape_at, shapes_by, shapes_of, told_shape, IsDeep, IsLargeProcess, NestsDeep, HasLargeSize};
+ghost use Rattle.process_rules.specs.declared.people.Callee.TheVariants as callee;
+ghost use Rattle.process_rules.specs.declared.sizes.Shape.{Shape};
+ghost use Rattle.text_graphs.specs.Places.{IsLeastOf};
 
 use crate::people::{Callee, Known};
-use conditions::{first_number_fault, size_of};
-use flow_model::{
-    ActivityTree, AttrTree, CondAt, ElementTree, JoinTree, NumberAt, ProcessTree, WhenTree,
-    WorkTree,
-};
-use leaf_rules::Structures;
+use flow_model::{ElementTree, NameAt, ProcessTree, WorkTree};
 use std::alloc::{AllocError, Global};
-use text_graphs::{Scope, lesser, small};
+use text_graphs::{lesser, narrow};
 
 const MOST_DEPTH: u32 = 16;
 
 const MOST_SIZE: u64 = 65_536;
-
-const MOST_MINUTES: u64 = 2_147_483_647;
-
-const MOST_PROCESSES: usize = 256;
-
-const MOST_ACTIVITIES: usize = 1_024;
-
-const MOST_CONTROLS: usize = 4_096;
-
-const MOST_LINES: usize = 4_096;
-
-const MOST_OPERANDS: u64 = 64;
-
-const MOST_NODES: u64 = 256;
 
 /// How deep a graph nests, and its expanded size.
 #[derive(Clone, Copy, Debug, PartialEq, Eq)]
@@ -39,214 +26,191 @@ pub struct Shape {
 }
 
 impl Shape {
-    /// A graph that is nested in another one adds its size, and one level to its depth.
-    fn holding(self, inner: Shape) -> Shape {
+    /// The shape of nothing.
+    fn nothing() -> Shape
+        ensures { result ≡ nothing }
+    {
+        Shape { depth: 0, size: 0 }
+    }
+
+    /// What this adds to a graph in which it is nested.
+    fn nested(self) -> Shape
+        ensures { result ≡ record { depth = min (self.depth + 1) (2 ^ 32 - 1); size = self.size } }
+    {
         Shape {
-            depth: self.depth.max(inner.depth.saturating_add(1)),
-            size: self.size.saturating_add(inner.size),
+            depth: self.depth.saturating_add(1),
+            size: self.size,
         }
     }
 
-    fn with_connector(self) -> Shape {
+    /// The shape of a graph, with what one more element adds.
+    fn with(self, added: Shape) -> Shape
+        ensures { result ≡ record { depth = max self.depth added.depth; size = min (self.size + added.size) (2 ^ 64 - 1) } }
+    {
         Shape {
-            depth: self.depth,
-            size: self.size.saturating_add(1),
+            depth: self.depth.max(added.depth),
+            size: self.size.saturating_add(added.size),
         }
     }
 }
 
-/// The shape of what an activity runs.
-fn callee_shape(known: &Known<'_>, shapes: &[Shape], callee: Option<Callee>) -> Shape {
-    let nothing = Shape { depth: 0, size: 0 };
-    match callee {
-        None => nothing,
-        Some(Callee::Text(number)) => shapes.get(number as usize).copied().unwrap_or(nothing),
-        Some(Callee::Library(place)) => match known.catalog().template(place) {
-            None => nothing,
-            Some(template) => Shape {
-                depth: template.depth,
-                size: u64::from(template.size),
-            },
-        },
+/// The shape of the process of a number; of nothing where there is none.
+fn nth_shape(shapes: &[Shape], number: usize) -> Shape
+    ensures { result ≡ shape_at shapes.now number }
+{
+    match shapes.get(number).copied() {
+        None => Shape::nothing(),
+        Some(shape) => shape,
+    }
+}
+
+/// The shape that a template says.
+fn written_shape(depth: u32, size: u32) -> Shape
+    ensures { result ≡ told_shape (record { depth = depth; size = size }) }
+{
+    Shape {
+        depth,
+        size: u64::from(size),
+    }
+}
+
+/// The shape of the template at a place of the library; of nothing where there is none.
+fn stored_shape(known: &Known<'_>, place: u32) -> Shape
+    ensures { (before : List Shape) → result ≡ told_shape (callee_shape known.now.catalog.now.library before (Some (callee.Library place))) }
+{
+    match known.catalog().template(place) {
+        None => Shape::nothing(),
+        Some(template) => written_shape(template.depth, template.size),
+    }
+}
+
+/// The shape of what a name leads to, where those of the processes before are known.
+fn named_shape<'a>(known: &Known<'a>, shapes: &[Shape], process: u32, name: &'a NameAt) -> Shape
+    ensures { (before : List Shape) → shapes.now ≡ map told_shape before → result ≡ told_shape (named_shape (callee_meant known.now) known.now.catalog.now.library before process name.now.name) }
+{
+    match known.callee(process, name) {
+        None => Shape::nothing(),
+        Some(Callee::Text(number)) => nth_shape(shapes, number as usize),
+        Some(Callee::Library(place)) => stored_shape(known, place),
+    }
+}
+
+/// What an activity adds to its graph.
+#[cycle(shape)]
+fn work_adds<'a>(known: &Known<'a>, shapes: &[Shape], process: u32, work: &'a WorkTree) -> Shape
+    ensures { (before : List Shape) → shapes.now ≡ map told_shape before → result ≡ told_shape (work_adds (named_shape (callee_meant known.now) known.now.catalog.now.library before process) work.now) }
+{
+    match work {
+        WorkTree::Program => Shape::nothing(),
+        WorkTree::Process(name) => named_shape(known, shapes, process, name).nested(),
+        WorkTree::Block(inner) => graph_shape(known, shapes, process, inner.as_slice()).nested(),
+    }
+}
+
+/// What an element adds to its graph.
+#[cycle(shape)]
+fn element_adds<'a>(
+    known: &Known<'a>,
+    shapes: &[Shape],
+    process: u32,
+    element: &'a ElementTree,
+) -> Shape
+    ensures { (before : List Shape) → shapes.now ≡ map told_shape before → result ≡ told_shape (element_adds (named_shape (callee_meant known.now) known.now.catalog.now.library before process) element.now) }
+{
+    match element {
+        ElementTree::Activity(activity) => work_adds(known, shapes, process, &activity.work),
+        ElementTree::Control(_) => Shape { depth: 0, size: 1 },
+        ElementTree::Line(_) => Shape::nothing(),
     }
 }
 
 /// The shape of a graph of the process of this number, where those of the processes before it are known.
+#[cycle(shape)]
 fn graph_shape<'a>(
     known: &Known<'a>,
     shapes: &[Shape],
     process: u32,
     elements: &'a [ElementTree],
-) -> Shape {
+) -> Shape
+    ensures { (before : List Shape) → shapes.now ≡ map told_shape before → result ≡ told_shape (graph_shape (named_shape (callee_meant known.now) known.now.catalog.now.library before process) elements.now) }
+{
     let mut shape = Shape { depth: 0, size: 2 };
     for element in elements {
-        match element {
-            ElementTree::Control(_) => shape = shape.with_connector(),
-            ElementTree::Line(_) => {}
-            ElementTree::Activity(activity) => match &activity.work {
-                WorkTree::Program => {}
-                WorkTree::Process(name) => {
-                    let callee = known.callee(process, name);
-                    shape = shape.holding(callee_shape(known, shapes, callee));
-                }
-                WorkTree::Block(inner) => {
-                    let inner = graph_shape(known, shapes, process, inner.as_slice());
-                    shape = shape.holding(inner);
-                }
-            },
-        }
+        shape = shape.with(element_adds(known, shapes, process, element));
     }
     shape
 }
 
-/// The shapes of the processes of a text.
-pub fn shapes(alloc: Global, known: &Known<'_>) -> Result<Vec<Shape>, AllocError> {
+fn shapes_meant(alloc: Global, known: &Known<'_>) -> Result<Vec<Shape>, AllocError>
+    ensures { IfOk result (λ shapes. shapes.items ≡ map told_shape (shapes_by (callee_meant known.now) known.now.catalog.now.library (map (λ p. p.now) known.now.processes.items))) }
+{
     let mut shapes = Vec::new(alloc);
     for (i, process) in known.processes().iter().enumerate() {
-        let shape = graph_shape(known, &shapes, small(i), process.elements.as_slice());
+        let shape = graph_shape(known, &shapes, narrow(i)?, process.elements.as_slice());
         shapes.push(shape)?;
     }
     Ok(shapes)
 }
 
-/// Rule 21: a process nests deeper than 16.
-pub fn nesting(processes: &[&ProcessTree], shapes: &[Shape]) -> Option<u32> {
-    for (process, shape) in processes.iter().zip(shapes.iter()) {
-        if shape.depth > MOST_DEPTH {
-            return Some(process.place);
-        }
+/// The shapes of the processes of a text; a depth is told as far as 32 bits do, a size as far as 64 bits.
+pub fn shapes(alloc: Global, known: &Known<'_>) -> Result<Vec<Shape>, AllocError>
+    ensures { IfOk result (λ shapes. (processes : List ProcessTree) → IsKnowing known.now processes → IsIndexed known.now.catalog.now → shapes.items ≡ map told_shape (shapes_of known.now.catalog.now.library processes)) }
+{
+    shapes_meant(alloc, known)
+}
+
+/// The place of a process that nests deeper than 16.
+fn deep_place(process: &ProcessTree, shape: Shape) -> Option<u32>
+    ensures { (exact : Shape) → shape ≡ told_shape exact → IsLeastOf (λ place. (16 < exact.depth) × (process.now.place ≡ place)) result }
+{
+    if shape.depth > MOST_DEPTH {
+        Some(process.place)
+    } else {
+        None
     }
-    None
+}
+
+/// The place of a process whose size is above 65,536.
+fn large_place(process: &ProcessTree, shape: Shape) -> Option<u32>
+    ensures { (exact : Shape) → shape ≡ told_shape exact → IsLeastOf (λ place. (65536 < exact.size) × (process.now.place ≡ place)) result }
+{
+    if shape.size > MOST_SIZE {
+        Some(process.place)
+    } else {
+        None
+    }
+}
+
+fn deep_among(processes: &[&ProcessTree], shapes: &[Shape]) -> Option<u32>
+    ensures { (exact : List Shape) → shapes.now ≡ map told_shape exact → IsLeastOf (NestsDeep exact (map (λ p. p.now) processes.now)) result }
+{
+    let mut least = None;
+    for (i, process) in processes.iter().enumerate() {
+        least = lesser(least, deep_place(process, nth_shape(shapes, i)));
+    }
+    least
+}
+
+fn large_among(processes: &[&ProcessTree], shapes: &[Shape]) -> Option<u32>
+    ensures { (exact : List Shape) → shapes.now ≡ map told_shape exact → IsLeastOf (HasLargeSize exact (map (λ p. p.now) processes.now)) result }
+{
+    let mut least = None;
+    for (i, process) in processes.iter().enumerate() {
+        least = lesser(least, large_place(process, nth_shape(shapes, i)));
+    }
+    least
+}
+
+/// Rule 21: a process nests deeper than 16.
+pub fn deep_processes(known: &Known<'_>, shapes: &[Shape]) -> Option<u32>
+    ensures { (processes : List ProcessTree) → IsKnowing known.now processes → shapes.now ≡ map told_shape (shapes_of known.now.catalog.now.library processes) → IsLeastOf (IsDeep known.now.catalog.now.library processes) result }
+{
+    deep_among(known.processes(), shapes)
 }
 
 /// Rule 22: the expanded size of a process is above 65,536.
-pub fn expanded_size(processes: &[&ProcessTree], shapes: &[Shape]) -> Option<u32> {
-    for (process, shape) in processes.iter().zip(shapes.iter()) {
-        if shape.size > MOST_SIZE {
-            return Some(process.place);
-        }
-    }
-    None
-}
-
-/// The place of a number outside 1 to the most.
-fn outside(number: &NumberAt, most: u64) -> Option<u32> {
-    if number.size < 1 || number.size > most {
-        Some(number.place)
-    } else {
-        None
-    }
-}
-
-/// For each activity of a graph, the number of connectors that lead to it.
-fn incoming(alloc: Global, scope: &Scope<'_>) -> Result<Vec<u64>, AllocError> {
-    let mut counts = vec![in alloc; 0u64; scope.activities.len()]?;
-    for control in &scope.controls {
-        if let Some(to) = scope.number(&control.to) {
-            if let Some(count) = counts.get_mut(to as usize) {
-                *count = count.saturating_add(1);
-            }
-        }
-    }
-    Ok(counts)
-}
-
-fn attribute_number_fault(what: &AttrTree, connectors: u64) -> Option<u32> {
-    match what {
-        AttrTree::When(JoinTree::AtLeast(number)) => outside(number, connectors),
-        AttrTree::Exit(cond) => first_number_fault(&cond.cond),
-        AttrTree::Expires(number) => outside(number, MOST_MINUTES),
-        _ => None,
-    }
-}
-
-fn activity_number_fault(activity: &ActivityTree, connectors: u64) -> Option<u32> {
-    let mut least = None;
-    for attribute in activity.attrs.as_slice() {
-        least = lesser(least, attribute_number_fault(&attribute.what, connectors));
-    }
-    least
-}
-
-/// The numbers of a graph that are out of range.
-fn graph_number_fault(alloc: Global, scope: &Scope<'_>) -> Result<Option<u32>, AllocError> {
-    let connectors = incoming(alloc, scope)?;
-    let mut least = None;
-    for (activity, count) in scope.activities.iter().zip(connectors.iter()) {
-        least = lesser(least, activity_number_fault(activity, *count));
-    }
-    for control in &scope.controls {
-        if let WhenTree::Cond(cond) = &control.when {
-            least = lesser(least, first_number_fault(&cond.cond));
-        }
-    }
-    Ok(least)
-}
-
-/// Rule 23: a number is out of its range.
-pub fn number(
-    alloc: Global,
-    structures: &Structures<'_>,
-    scopes: &[Scope<'_>],
-) -> Result<Option<u32>, AllocError> {
-    let mut least = structures.count_fault();
-    for scope in scopes {
-        least = lesser(least, graph_number_fault(alloc, scope)?);
-    }
-    Ok(least)
-}
-
-fn large_condition(cond: &CondAt) -> Option<u32> {
-    let size = size_of(&cond.cond);
-    if size.operands > MOST_OPERANDS || size.nodes > MOST_NODES {
-        Some(cond.place)
-    } else {
-        None
-    }
-}
-
-fn large_conditions(scope: &Scope<'_>) -> Option<u32> {
-    let mut least = None;
-    for activity in &scope.activities {
-        for attribute in activity.attrs.as_slice() {
-            if let AttrTree::Exit(cond) = &attribute.what {
-                least = lesser(least, large_condition(cond));
-            }
-        }
-    }
-    for control in &scope.controls {
-        if let WhenTree::Cond(cond) = &control.when {
-            least = lesser(least, large_condition(cond));
-        }
-    }
-    least
-}
-
-fn graph_too_large(scope: &Scope<'_>) -> Option<u32>
-    ensures { result ≡ None → IsLimited scope.now.elements.now }
+pub fn large_processes(known: &Known<'_>, shapes: &[Shape]) -> Option<u32>
+    ensures { (processes : List ProcessTree) → IsKnowing known.now processes → shapes.now ≡ map told_shape (shapes_of known.now.catalog.now.library processes) → IsLeastOf (IsLargeProcess known.now.catalog.now.library processes) result }
 {
-    let activity = scope
-        .activities
-        .get(MOST_ACTIVITIES)
-        .map(|activity| activity.place);
-    let control = scope
-        .controls
-        .get(MOST_CONTROLS)
-        .map(|control| control.place);
-    let line = scope.lines.get(MOST_LINES).map(|line| line.place);
-    lesser(
-        lesser(activity, control),
-        lesser(line, large_conditions(scope)),
-    )
-}
-
-/// Rule 24: more than is allowed of processes, of a graph's activities or lines, or of a condition's parts.
-pub fn count_limit(processes: &[&ProcessTree], scopes: &[Scope<'_>]) -> Option<u32>
-    ensures { result ≡ None → All (λ s. IsLimited s.elements.now) scopes.now }
-{
-    let mut least = processes.get(MOST_PROCESSES).map(|process| process.place);
-    for scope in scopes {
-        least = lesser(least, graph_too_large(scope));
-    }
-    least
+    large_among(known.processes(), shapes)
 }

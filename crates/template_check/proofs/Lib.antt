@@ -1,6 +1,9 @@
 pub mod Rows
-pub mod Judgements
+pub mod InText
+pub mod FirstBroken
+pub mod Refused
 pub mod Passing
+pub mod Fitting
 pub mod Simple
 pub mod Laying
 pub mod Calling

@@ -8,21 +8,20 @@ use Rattle.flow_model.specs.declared.trees.NameAt.{NameAt}
 use Rattle.flow_model.specs.declared.trees.StructDef.{StructDef}
 use Rattle.flow_model.specs.declared.trees.Tree.{Tree}
 use Rattle.text_graphs.specs.ClosedWalks.{IsAcyclic}
-use Rattle.template_check.specs.Compiling.{HasTree}
 use Rattle.connector_rules.specs.Connectors.{NamesNobody, IsDouble, IsEmptyGraph}
 use Rattle.text_graphs.specs.Graphs.{graph_at, graphs_in, AreGraphsOf, InGraphs}
-use Rattle.template_check.specs.Judged.{IsFault, IsEarly, IsJudgedText}
 use Rattle.text_graphs.specs.Meeting.{IsAgainAt}
 use Rattle.name_rules.specs.Names.{AreActivityEnds, IsItemEnd, IsEndWrong, IsInsideAgain, IsItemAgain, IsPartAgain, IsTwice}
-use Rattle.text_graphs.specs.Places.{IsLeastOf, AnyAt, PairAt}
-use Rattle.template_check.specs.Rules.{NoneTo, IsFirstFault, IsFoundTo}
+use Rattle.process_rules.specs.Counts.{IsExtra, IsTooMuch, IsTooMuchOf}
+use Rattle.process_rules.specs.Numbers.{IsNumberWrong}
+use Rattle.text_graphs.specs.Places.{IsLeastOf, AnyAt, PairAt, lesser_of}
+use Rattle.text_graphs.proofs.Finding.{least_either, least_is}
+use Rattle.leaf_rules.specs.ArrayCounts.{IsCountOutside}
 use Rattle.leaf_rules.specs.Structures.{AreNoKinds, AreNoContainersIn, NamesNoStructure}
-use Rattle.text_graphs.specs.Texts.{activities_in, controls_in, edges_in, AllDiffer, AreNamesApart, IsConnected, structures_in}
-use Rattle.template_check.specs.declared.faults.ImportFault.{ImportFault}
-use Rattle.template_check.specs.declared.faults.ImportFault.TheVariants as fault
+use Rattle.text_graphs.specs.Texts.{activities_in, controls_in, edges_in, AllDiffer, AreNamesApart, IsConnected, processes_in, structures_in}
 use Rattle.text_graphs.specs.declared.scopes.Scope.{Scope}
 use Rattle.connector_rules.proofs.Doubling.{edges_differ}
-use Rattle.template_check.proofs.Judgements.{contained, in_text, in_both, none_below, pass_4, pass_5, pass_6, pass_9, pass_10, pass_12}
+use Rattle.template_check.proofs.InText.{contained, in_both}
 
 -- a name at a later place comes again
 again : (n : NameAt) (ns : List NameAt) (j : ℕ) (d : List ℕ) → j < length (map (λ m. m.name) ns) → n.name ≡ get_or (map (λ m. m.name) ns) j d → (p : ℕ) × AnyAt (IsAgainAt n) ns p
@@ -64,7 +63,7 @@ connected scopes single acyclic full k d less =
       peopled = peopled (activities_in s.elements.now) (λ none. full s.place (contained (λ (t : Scope). IsEmptyGraph (graph_at t)) scopes s s.place here (none, refl)));
     }
 
--- ---- the first rules, by what their searches find in the graphs that are listed
+-- ---- rules 4 to 6, by what their searches find in the graphs that are listed
 
 module _ (items : List ItemTree) (scopes : List Scope) (graphs : AreGraphsOf items (graphs_in scopes)) where
   pub ends_found : (found : Option ℕ) → IsLeastOf (IsEndWrong items (AnyAt (λ s. AreActivityEnds (graph_at s)) scopes)) found → IsLeastOf (IsEndWrong items (InGraphs items AreActivityEnds)) found
@@ -79,25 +78,19 @@ module _ (items : List ItemTree) (scopes : List Scope) (graphs : AreGraphsOf ite
       in_both items scopes graphs (AnyAt (AreNoKinds (structures_in items)) (structures_in items)) (AreNoContainersIn (structures_in items)) found
       (subst (λ (ss : List StructDef). IsLeastOf (NamesNoStructure ss (AnyAt (λ s. AreNoContainersIn ss (graph_at s)) scopes)) found) same h)
 
-  -- rules 4, 5 and 6
-  pub none_4 : IsLeastOf (IsEndWrong items (AnyAt (λ s. AreActivityEnds (graph_at s)) scopes)) None → NoneTo items 4
-  none_4 h = pass_4 items (none_below items) (ends_found None h)
+-- ---- rules 23 and 24
 
-  pub none_5 : NoneTo items 4 → IsLeastOf (IsTwice items (AnyAt (λ s. IsInsideAgain (graph_at s)) scopes)) None → NoneTo items 5
-  none_5 none h = pass_5 items none (twice_found None h)
+module _ (items : List ItemTree) (scopes : List Scope) (graphs : AreGraphsOf items (graphs_in scopes)) where
+  pub numbers_found : (structures : List StructDef) (a b found : Option ℕ) → structures ≡ structures_in items → IsLeastOf (IsCountOutside structures) a → IsLeastOf (AnyAt (λ s. IsNumberWrong (graph_at s)) scopes) b → found ≡ lesser_of a b
+      → IsLeastOf (λ p. IsCountOutside (structures_in items) p ⊎ InGraphs items IsNumberWrong p) found
+  numbers_found structures a b found same outside wrong is =
+      let counts = IsCountOutside (structures_in items) in
+      let numbers = AnyAt (λ (s : Scope). IsNumberWrong (graph_at s)) scopes in
+      in_both items scopes graphs counts IsNumberWrong found
+      (least_is (λ p. counts p ⊎ numbers p) (lesser_of a b) found is (least_either counts numbers a b (subst (λ (ss : List StructDef). IsLeastOf (IsCountOutside ss) a) same outside) wrong))
 
-  pub none_6 : (structures : List StructDef) → structures ≡ structures_in items → NoneTo items 5 → IsLeastOf (NamesNoStructure structures (AnyAt (λ s. AreNoContainersIn structures (graph_at s)) scopes)) None → NoneTo items 6
-  none_6 structures same none h = pass_6 items none (unknown_found structures None same h)
-
-  -- rules 9, 10 and 12
-  pub none_9 : NoneTo items 8 → IsLeastOf (AnyAt (λ s. NamesNobody (graph_at s)) scopes) None → NoneTo items 9
-  none_9 none h = pass_9 items none (in_text items scopes graphs NamesNobody None h)
-
-  pub none_10 : NoneTo items 9 → IsLeastOf (AnyAt (λ s. IsDouble (graph_at s)) scopes) None → NoneTo items 10
-  none_10 none h = pass_10 items none (in_text items scopes graphs IsDouble None h)
-
-  pub none_12 : NoneTo items 11 → IsLeastOf (AnyAt (λ s. IsEmptyGraph (graph_at s)) scopes) None → NoneTo items 12
-  none_12 none h = pass_12 items none (in_text items scopes graphs IsEmptyGraph None h)
+  pub extra_found : (found : Option ℕ) → IsLeastOf (IsTooMuchOf (processes_in items) (AnyAt (λ s. IsTooMuch (graph_at s)) scopes)) found → IsLeastOf (IsTooMuchOf (processes_in items) (InGraphs items IsTooMuch)) found
+  extra_found found h = in_both items scopes graphs (IsExtra (λ q. q.place) 256 (processes_in items)) IsTooMuch found h
 
 -- ---- what is found, and what is not
 
@@ -111,19 +104,5 @@ none_found A o not_some h = subst (IsLeastOf A) (is_none o not_some) h
 pub some_found : (A : ℕ → Type 0) (o : Option ℕ) (x : ℕ) → o ≡ Some x → IsLeastOf A o → IsLeastOf A (Some x)
 some_found A o x some h = subst (IsLeastOf A) some h
 
-pub none_to : (items : List ItemTree) (last : ℕ) (o : Option (ℕ × ℕ)) → ((x : ℕ × ℕ) → o ≡ Some x → ⊥) → IsFoundTo items last o → NoneTo items last
-none_to items last o not_some h = subst (IsFoundTo items last) (is_none o not_some) h
-
--- ---- a text that is refused
-
-pub early_judged : (text : List ℕ) (e : ImportFault) → IsEarly text e → IsJudgedText text (Err e)
-early_judged text (fault.Rule found) h = λ late short. absurd (h late short)
-early_judged text fault.NoMemory h = tt
-
-pub refused_judged : (text : List ℕ) (e : ImportFault) (rule place : ℕ) (tree : Tree) → HasTree text tree → IsFirstFault tree.items rule place → IsFault rule place e → IsJudgedText text (Err e)
-refused_judged text (fault.Rule found) rule place tree has first is = λ late short. record {
-  tree = tree;
-  has = has;
-  first = subst (λ (r : ℕ). IsFirstFault tree.items r found.place) (sym is.0) (subst (λ (p : ℕ). IsFirstFault tree.items rule p) (sym is.1) first);
-}
-refused_judged text fault.NoMemory rule place tree has first is = absurd is
+pub none_is : (A : ℕ → Type 0) (o : Option ℕ) → o ≡ None → IsLeastOf A o → IsLeastOf A None
+none_is A o none h = subst (IsLeastOf A) none h

@@ -30,9 +30,9 @@ use thiserror::Error;
 /// Why an accepted text isn't built.
 #[derive(Clone, Copy, Debug, PartialEq, Eq, Drop, Error)]
 pub enum BuildFault {
-    /// This rule, which was judged before, is broken at this place.
-    #[error("Rule")]
-    Rule(u8, u32),
+    /// A name, a leaf or a condition stands for nothing, which the rules have ruled out before.
+    #[error("Missing")]
+    Missing,
     /// There was no memory for it.
     #[error("NoMemory")]
     NoMemory,
@@ -154,9 +154,9 @@ fn leaf_map(map: &MapTree, from: &Leaves, to: &Leaves) -> Result<LeafMap, BuildF
     ensures { length from.now.leaves < 2 ^ 32 → length to.now.leaves < 2 ^ 32 → IfOk result (IsMap from.now.leaves to.now.leaves map.now) }
 {
     match find_leaf(from, &map.from) {
-        None => Err(BuildFault::Rule(13, map.from.place)),
+        None => Err(BuildFault::Missing),
         Some(source) => match find_leaf(to, &map.to) {
-            None => Err(BuildFault::Rule(13, map.to.place)),
+            None => Err(BuildFault::Missing),
             Some(target) => Ok(LeafMap {
                 from: source,
                 to: target,
@@ -187,9 +187,9 @@ fn expr(alloc: Global, cond: &Cond, leaves: &Leaves) -> Result<Expr, BuildFault>
 {
     match resolve(alloc, cond, leaves) {
         Ok(expr) => Ok(expr),
-        Err(TypeFault::UnknownMember(place)) => Err(BuildFault::Rule(13, place)),
-        Err(TypeFault::Mismatch(place)) => Err(BuildFault::Rule(14, place)),
-        Err(TypeFault::Number(place)) => Err(BuildFault::Rule(23, place)),
+        Err(TypeFault::UnknownMember(place)) => Err(BuildFault::Missing),
+        Err(TypeFault::Mismatch(place)) => Err(BuildFault::Missing),
+        Err(TypeFault::Number(place)) => Err(BuildFault::Missing),
         Err(TypeFault::NoMemory) => Err(BuildFault::NoMemory),
     }
 }
@@ -215,7 +215,7 @@ impl<'a> Builder<'a> {
         match exit_of(activity) {
             None => Ok(None),
             Some(cond) => match self.table.coded(&activity.output) {
-                None => Err(BuildFault::Rule(6, activity.output.place)),
+                None => Err(BuildFault::Missing),
                 Some(leaves) => Ok(Some(expr(self.alloc, &cond.cond, leaves)?)),
             },
         }
@@ -231,7 +231,7 @@ impl<'a> Builder<'a> {
             AttrTree::Starter => Ok(Some(DoneBy::Starter)),
             AttrTree::Performer(name) => match scope.number(name) {
                 Some(number) => Ok(Some(DoneBy::PerformerOf(number))),
-                None => Err(BuildFault::Rule(20, name.place)),
+                None => Err(BuildFault::Missing),
             },
             AttrTree::When(_) => Ok(None),
             AttrTree::Exit(_) => Ok(None),
@@ -276,7 +276,7 @@ impl<'a> Builder<'a> {
                     None => Err(BuildFault::NoMemory),
                 }
             }
-            None => Err(BuildFault::Rule(17, name.place)),
+            None => Err(BuildFault::Missing),
         }
     }
 
@@ -288,7 +288,7 @@ impl<'a> Builder<'a> {
             WhenTree::Always => Ok(When::Always),
             WhenTree::Otherwise => Ok(When::Otherwise),
             WhenTree::Cond(cond) => match self.table.connector_leaves(scope, control) {
-                None => Err(BuildFault::Rule(9, control.from.place)),
+                None => Err(BuildFault::Missing),
                 Some(leaves) => Ok(When::Cond(expr(self.alloc, &cond.cond, leaves)?)),
             },
         }
@@ -300,9 +300,9 @@ impl<'a> Builder<'a> {
         ensures meant { IfOk result (IsControl (table_leaves self.now.table) scope.now.elements.now control.now) }
     {
         match scope.number(&control.from) {
-            None => Err(BuildFault::Rule(9, control.from.place)),
+            None => Err(BuildFault::Missing),
             Some(from) => match scope.number(&control.to) {
-                None => Err(BuildFault::Rule(9, control.to.place)),
+                None => Err(BuildFault::Missing),
                 Some(to) => Ok(Control {
                     from,
                     to,
@@ -328,9 +328,9 @@ impl<'a> Builder<'a> {
         ensures { IfOk result (AreMaps (line_source (table_leaves self.now.table) (text_of scope.now) line.now.ends) (line_target (table_leaves self.now.table) (text_of scope.now) line.now.ends) line.now.maps) }
     {
         match self.table.line_source(scope, &line.ends) {
-            None => Err(BuildFault::Rule(6, line.place)),
+            None => Err(BuildFault::Missing),
             Some(from) => match self.table.line_target(scope, &line.ends) {
-                None => Err(BuildFault::Rule(6, line.place)),
+                None => Err(BuildFault::Missing),
                 Some(to) => leaf_maps(self.alloc, line.maps.as_slice(), from, to),
             },
         }
@@ -350,10 +350,10 @@ impl<'a> Builder<'a> {
             EndsTree::Loop(_) => Ok(None),
             EndsTree::Line(from, to) => {
                 let Some(from) = map_end(scope, from) else {
-                    return Err(BuildFault::Rule(9, line.place));
+                    return Err(BuildFault::Missing);
                 };
                 let Some(to) = map_end(scope, to) else {
-                    return Err(BuildFault::Rule(9, line.place));
+                    return Err(BuildFault::Missing);
                 };
                 let maps = self.maps(scope, line)?;
                 Ok(Some(DataLine { from, to, maps }))
@@ -389,7 +389,7 @@ impl<'a> Builder<'a> {
             EndsTree::Line(_, _) => Ok(None),
             EndsTree::Loop(name) => {
                 let Some(activity) = scope.number(name) else {
-                    return Err(BuildFault::Rule(9, name.place));
+                    return Err(BuildFault::Missing);
                 };
                 let maps = self.maps(scope, line)?;
                 Ok(Some(LoopLine { activity, maps }))
@@ -416,7 +416,7 @@ impl<'a> Builder<'a> {
         ensures { IfOk result (λ made. table_leaves self.now.table name.now.name ≡ Some made.leaves) }
     {
         match self.table.plain(name) {
-            None => Err(BuildFault::Rule(6, name.place)),
+            None => Err(BuildFault::Missing),
             Some(leaves) => Ok(leaves_copy(self.alloc, leaves)?),
         }
     }
@@ -426,7 +426,7 @@ impl<'a> Builder<'a> {
         ensures { IfOk result (λ made. with_code (table_leaves self.now.table name.now.name) ≡ Some made.leaves) }
     {
         match self.table.coded(name) {
-            None => Err(BuildFault::Rule(6, name.place)),
+            None => Err(BuildFault::Missing),
             Some(leaves) => Ok(leaves_copy(self.alloc, leaves)?),
         }
     }

@@ -1,34 +1,35 @@
-//! The rules in their order, and what an accepted text compiles to.
-ghost use Rattle.std.specs.Prelude.{◌≡◌, ◌<◌, List, None, length, IfOk, IfErr};
+//! A text judged by the rules in their order, and what an accepted one compiles to.
+ghost use Rattle.std.specs.Prelude.{◌≡◌, ◌<◌, ◌≤◌, ◌-◌, ◌^◌, map, None, length, take, IfOk, IfErr, OnOk};
 ghost use Rattle.std.specs.List.{All};
-ghost use Rattle.flow_model.specs.declared.trees.ItemTree.{ItemTree};
-ghost use Rattle.text_graphs.specs.Blocks.{lists_of, IsCovered};
+ghost use Rattle.leaf_rules.specs.Counts.{AreCounted};
+ghost use Rattle.leaf_rules.specs.Leaves.{table_leaves};
+ghost use Rattle.leaf_rules.specs.StructureLeaves.{leaves_in};
+ghost use Rattle.leaf_rules.specs.Structures.{behind};
+ghost use Rattle.leaf_rules.specs.Tables.{HasContainers};
+ghost use Rattle.process_rules.specs.Imports.{IsIndexed};
+ghost use Rattle.process_rules.specs.Knowing.{IsKnowing};
+ghost use Rattle.process_rules.specs.Shapes.{shapes_of, told_shape};
 ghost use Rattle.template_check.specs.Built.{AreSoundBehind, AreSoundWithin, IsSound};
 ghost use Rattle.template_check.specs.Compiling.{AreBuilt, HasTree, IsNamedBy, IsMeantBy};
-ghost use Rattle.text_graphs.specs.Graphs.{graphs_in, AreGraphsOf};
-ghost use Rattle.template_check.specs.Judged.{IsFault, IsEarly, IsJudged, IsJudgedText};
-ghost use Rattle.process_rules.specs.Knowing.{IsKnowing};
-ghost use Rattle.template_check.specs.Passed.{IsPassed};
-ghost use Rattle.template_check.specs.Rules.{NoneTo, IsFoundTo};
-ghost use Rattle.leaf_rules.specs.Structures.{behind};
-ghost use Rattle.text_graphs.specs.Texts.{lines_in, processes_in, AreNamesApart, IsConnected, IsLimited, IsLineAlong, structures_in};
+ghost use Rattle.template_check.specs.Judged.{line_at, IsFault, IsEarlyFault, IsJudged};
+ghost use Rattle.template_check.specs.Rules.{fault_in, from_callees, from_connectors, from_leaves, from_sizes, later_rules, IsFirstBroken};
+ghost use Rattle.text_graphs.specs.Blocks.{lists_of, IsCovered};
+ghost use Rattle.text_graphs.specs.Graphs.{graph_at, graphs_in, AreGraphsOf};
+ghost use Rattle.text_graphs.specs.Texts.{processes_in, structures_in, AreNamesApart, IsConnected};
 
 use crate::building::{BuildFault, Builder};
 use crate::faults::{ImportFault, RuleFault};
-use connector_rules::{
-    cycle, double_connector, empty_graph, otherwise, unknown_activity, unreachable_data,
+use crate::judging::{
+    first_of_callees, first_of_connectors, first_of_counts, first_of_leaves, first_of_lines,
+    first_of_names, first_of_people, first_of_sizes, first_of_structures,
 };
 use fdl_lexer::{LexFault, lex};
 use fdl_parser::{SyntaxFault, parse};
 use flow_model::{ItemTree, List, PersonDef, Template, Tree};
-use leaf_rules::{LeafTable, Search, Structures, leaf_fault};
-use name_rules::{duplicate, end_name};
-use process_rules::{
-    Catalog, Known, Shape, container_mismatch, count_limit, expanded_size, nesting, number,
-    performer, shapes, unknown_person, unknown_process,
-};
+use leaf_rules::{LeafTable, Structures};
+use process_rules::{Catalog, Known, Shape, shapes};
 use std::alloc::{AllocError, Global};
-use text_graphs::{Scope, lesser, narrow, small, text_scopes};
+use text_graphs::{Scope, narrow, text_scopes};
 
 /// A text has at most so many bytes.
 const MOST_BYTES: usize = 1_048_576;
@@ -41,13 +42,23 @@ pub struct Compiled {
 }
 
 /// The line of a place: 1 and the number of line feeds before it.
-pub fn line_of(text: &[u8], place: u32) -> u32 {
+pub fn line_of(text: &[u8], place: u32) -> u32
+    requires { length (take place text.now) < 2 ^ 32 - 1 }
+    ensures { result ≡ line_at text.now place }
+{
     let before = text.get(..place as usize).unwrap_or(text);
-    small(before.iter().filter(|byte| **byte == b'\n').count()).saturating_add(1)
+    let mut line = 1;
+    for byte in before {
+        if *byte == b'\n' {
+            line += 1;
+        }
+    }
+    line
 }
 
 fn fault(text: &[u8], rule: u8, place: u32) -> ImportFault
-    ensures { IsFault rule place result }
+    requires { length (take place text.now) < 2 ^ 32 - 1 }
+    ensures { IsFault text.now rule place result }
 {
     ImportFault::Rule(RuleFault {
         rule,
@@ -59,7 +70,8 @@ fn fault(text: &[u8], rule: u8, place: u32) -> ImportFault
 /// The tree of a text; else the first of rules 1, 2 and 3 that is broken, or rule 24 of a text that is too long.
 pub fn syntax_tree(alloc: Global, text: &[u8]) -> Result<Tree, ImportFault>
     ensures tree { IfOk result (HasTree text.now) }
-    ensures early { IfErr result (IsEarly text.now) }
+    ensures short { OnOk result (length text.now ≤ 1048576) }
+    ensures early { IfErr result (IsEarlyFault text.now) }
 {
     if text.len() > MOST_BYTES {
         return Err(fault(text, 24, 0));
@@ -74,266 +86,6 @@ pub fn syntax_tree(alloc: Global, text: &[u8]) -> Result<Tree, ImportFault>
         Ok(tree) => Ok(tree),
         Err(SyntaxFault::At(place)) => Err(fault(text, 3, place)),
         Err(SyntaxFault::NoMemory) => Err(ImportFault::NoMemory),
-    }
-}
-
-/// A broken rule and its place.
-type Broken = Option<(u8, u32)>;
-
-fn broken(rule: u8, place: Option<u32>) -> Broken {
-    place.map(|place| (rule, place))
-}
-
-/// Rules 4 to 8, and the structures with their leaves counted.
-fn first_names<'a>(
-    alloc: Global,
-    tree: &Tree,
-    structures: &mut Structures<'a>,
-    scopes: &[Scope<'a>],
-) -> Result<Broken, AllocError>
-    requires graphs { AreGraphsOf tree.now.items (graphs_in scopes.now) }
-    requires structures { behind structures.old.definitions.items ≡ structures_in tree.now.items }
-    ensures named { IfOk result (λ fault. fault ≡ None → All (λ s. AreNamesApart s.elements.now) scopes.now) }
-    ensures first { IfOk result (IsFoundTo tree.now.items 8) }
-{
-    if let Some(place) = end_name(tree, scopes) {
-        return Ok(Some((4, place)));
-    }
-    if let Some(place) = duplicate(alloc, tree, scopes)? {
-        return Ok(Some((5, place)));
-    }
-    if let Some(place) = structures.unknown_structure(scopes) {
-        return Ok(Some((6, place)));
-    }
-    if let Some(place) = structures.cycle(alloc)? {
-        return Ok(Some((7, place)));
-    }
-    match structures.too_many_leaves() {
-        Some(place) => Ok(Some((8, place))),
-        None => Ok(None),
-    }
-}
-
-/// The least place that a rule on single graphs finds.
-#[derive(Clone, Copy, Debug, PartialEq, Eq)]
-enum GraphRule {
-    Cycle,
-    Otherwise,
-    UnreachableData,
-    Performer,
-}
-
-fn graph_fault(alloc: Global, rule: GraphRule, scope: &Scope<'_>) -> Result<Option<u32>, AllocError>
-    ensures { IfOk result (λ place. place ≡ None → IsPassed rule scope.now.elements.now) }
-{
-    match rule {
-        GraphRule::Cycle => cycle(alloc, scope),
-        GraphRule::Otherwise => otherwise(alloc, scope),
-        GraphRule::UnreachableData => unreachable_data(alloc, scope),
-        GraphRule::Performer => performer(alloc, scope),
-    }
-}
-
-fn over_graphs(
-    alloc: Global,
-    rule: GraphRule,
-    scopes: &[Scope<'_>],
-) -> Result<Option<u32>, AllocError>
-    ensures { IfOk result (λ place. place ≡ None → All (λ s. IsPassed rule s.elements.now) scopes.now) }
-{
-    let mut least = None;
-    for scope in scopes {
-        least = lesser(least, graph_fault(alloc, rule, scope)?);
-    }
-    Ok(least)
-}
-
-/// Rules 9 to 12.
-fn first_connectors(alloc: Global, scopes: &[Scope<'_>]) -> Result<Broken, AllocError>
-    ensures connected { IfOk result (λ fault. fault ≡ None → All (λ s. IsConnected s.elements.now) scopes.now) }
-    ensures first { IfOk result (λ fault. (items : List ItemTree) → AreGraphsOf items (graphs_in scopes.now) → NoneTo items 8 → IsFoundTo items 12 fault) }
-{
-    if let Some(place) = unknown_activity(scopes) {
-        return Ok(Some((9, place)));
-    }
-    if let Some(place) = double_connector(alloc, scopes)? {
-        return Ok(Some((10, place)));
-    }
-    if let Some(place) = over_graphs(alloc, GraphRule::Cycle, scopes)? {
-        return Ok(Some((11, place)));
-    }
-    match empty_graph(scopes) {
-        Some(place) => Ok(Some((12, place))),
-        None => Ok(None),
-    }
-}
-
-fn over_members<'a>(search: Search, table: &LeafTable<'a>, scopes: &[Scope<'a>]) -> Option<u32> {
-    let mut least = None;
-    for scope in scopes {
-        least = lesser(least, leaf_fault(search, table, scope));
-    }
-    least
-}
-
-/// Rules 13 to 16.
-fn first_members<'a>(
-    alloc: Global,
-    table: &LeafTable<'a>,
-    scopes: &[Scope<'a>],
-) -> Result<Broken, AllocError>
-    ensures { IfOk result (λ fault. fault ≡ None → All (λ s. All (IsLineAlong s.elements.now) (lines_in s.elements.now)) scopes.now) }
-{
-    if let Some(place) = over_members(Search::Unknown, table, scopes) {
-        return Ok(Some((13, place)));
-    }
-    if let Some(place) = over_members(Search::Mismatch, table, scopes) {
-        return Ok(Some((14, place)));
-    }
-    if let Some(place) = over_graphs(alloc, GraphRule::Otherwise, scopes)? {
-        return Ok(Some((15, place)));
-    }
-    match over_graphs(alloc, GraphRule::UnreachableData, scopes)? {
-        Some(place) => Ok(Some((16, place))),
-        None => Ok(None),
-    }
-}
-
-fn over_processes<'a>(known: &Known<'a>, scopes: &[Scope<'a>]) -> Option<u32> {
-    let mut least = None;
-    for scope in scopes {
-        least = lesser(least, unknown_process(known, scope));
-    }
-    least
-}
-
-fn over_containers<'a>(
-    known: &Known<'a>,
-    table: &LeafTable<'a>,
-    scopes: &[Scope<'a>],
-) -> Option<u32> {
-    let mut least = None;
-    for scope in scopes {
-        least = lesser(least, container_mismatch(known, table, scope));
-    }
-    least
-}
-
-fn over_people<'a>(known: &Known<'a>, scopes: &[Scope<'a>]) -> Option<u32> {
-    let mut least = None;
-    for scope in scopes {
-        least = lesser(least, unknown_person(known, scope));
-    }
-    least
-}
-
-/// Rules 17 to 20.
-fn first_people<'a>(
-    alloc: Global,
-    known: &Known<'a>,
-    table: &LeafTable<'a>,
-    scopes: &[Scope<'a>],
-) -> Result<Broken, AllocError> {
-    if let Some(place) = over_processes(known, scopes) {
-        return Ok(Some((17, place)));
-    }
-    if let Some(place) = over_containers(known, table, scopes) {
-        return Ok(Some((18, place)));
-    }
-    if let Some(place) = over_people(known, scopes) {
-        return Ok(Some((19, place)));
-    }
-    Ok(broken(20, over_graphs(alloc, GraphRule::Performer, scopes)?))
-}
-
-/// Rules 21 to 24.
-fn first_sizes<'a>(
-    alloc: Global,
-    structures: &Structures<'a>,
-    known: &Known<'a>,
-    shapes: &[Shape],
-    scopes: &[Scope<'a>],
-) -> Result<Broken, AllocError>
-    ensures { IfOk result (λ fault. fault ≡ None → All (λ s. IsLimited s.elements.now) scopes.now) }
-{
-    if let Some(place) = nesting(known.processes(), shapes) {
-        return Ok(Some((21, place)));
-    }
-    if let Some(place) = expanded_size(known.processes(), shapes) {
-        return Ok(Some((22, place)));
-    }
-    if let Some(place) = number(alloc, structures, scopes)? {
-        return Ok(Some((23, place)));
-    }
-    match count_limit(known.processes(), scopes) {
-        Some(place) => Ok(Some((24, place))),
-        None => Ok(None),
-    }
-}
-
-/// Judges rules 21 to 24 in a text that breaks none of the others, and builds what it adds where it breaks none.
-fn sized_and_built<'a>(
-    builder: &Builder<'a>,
-    tree: &'a Tree,
-    shapes: &[Shape],
-    scopes: &[Scope<'a>],
-) -> Result<Result<Compiled, (u8, u32)>, AllocError>
-    requires sound { AreSoundWithin scopes.now (processes_in tree.now.items) }
-    requires knowing { IsKnowing builder.now.known (processes_in tree.now.items) }
-    ensures { IfOk result (λ judged. IfOk judged (λ compiled. AreBuilt builder.now.known.catalog.now tree.now.items compiled.templates)) }
-{
-    let structures = builder.table.structures();
-    match first_sizes(builder.alloc, structures, &builder.known, shapes, scopes)? {
-        Some(fault) => Ok(Err(fault)),
-        None => match built(builder, tree, shapes) {
-            Ok(compiled) => Ok(Ok(compiled)),
-            Err(BuildFault::Rule(rule, place)) => Ok(Err((rule, place))),
-            Err(BuildFault::NoMemory) => Err(AllocError),
-        },
-    }
-}
-
-/// Judges rules 17 to 24, and builds what the text adds where none is broken.
-fn shaped_and_built<'a>(
-    alloc: Global,
-    tree: &'a Tree,
-    table: LeafTable<'a>,
-    scopes: &[Scope<'a>],
-    earlier: &'a Catalog,
-) -> Result<Result<Compiled, (u8, u32)>, AllocError>
-    requires { AreSoundWithin scopes.now (processes_in tree.now.items) }
-    ensures { IfOk result (λ judged. IfOk judged (λ compiled. AreBuilt earlier.now tree.now.items compiled.templates)) }
-{
-    let known = Known::new(alloc, tree, earlier)?;
-    if let Some(fault) = first_people(alloc, &known, &table, scopes)? {
-        return Ok(Err(fault));
-    }
-    let shapes = shapes(alloc, &known)?;
-    let builder = Builder {
-        alloc,
-        table,
-        known,
-    };
-    sized_and_built(&builder, tree, &shapes, scopes)
-}
-
-/// Judges rules 13 to 24, and builds what the text adds where none is broken.
-fn judged_and_built<'a>(
-    alloc: Global,
-    tree: &'a Tree,
-    structures: Structures<'a>,
-    scopes: &[Scope<'a>],
-    earlier: &'a Catalog,
-) -> Result<Result<Compiled, (u8, u32)>, AllocError>
-    requires covered { All (λ p. IsCovered (lists_of scopes.now) p.elements) (processes_in tree.now.items) }
-    requires named { All (λ s. AreNamesApart s.elements.now) scopes.now }
-    requires connected { All (λ s. IsConnected s.elements.now) scopes.now }
-    ensures { IfOk result (λ judged. IfOk judged (λ compiled. AreBuilt earlier.now tree.now.items compiled.templates)) }
-{
-    let table = LeafTable::new(alloc, structures, scopes)?;
-    match first_members(alloc, &table, scopes)? {
-        Some(fault) => Ok(Err(fault)),
-        None => shaped_and_built(alloc, tree, table, scopes, earlier),
     }
 }
 
@@ -370,11 +122,98 @@ fn shape_of(shapes: &[Shape], number: usize) -> Shape {
     shape.unwrap_or(Shape { depth: 0, size: 0 })
 }
 
-/// A fault of one of the rules from 13 on, where none before them is broken.
-fn late(fault: (u8, u32)) -> (u8, u32)
-    ensures { 12 < result.0 }
+/// What a text adds, or the first rule that it breaks, with the place.
+type Judged = Result<Compiled, (u8, u32)>;
+
+/// Judges rules 21 to 24 in a text that breaks none of the others, and builds what it adds where it breaks none.
+///
+/// Names, leaves and conditions that the rules have passed stand for something, so that nothing is missing then; were it
+/// so all the same, want of memory would be answered, and nothing be added.
+fn sized_and_built<'a>(
+    builder: &Builder<'a>,
+    tree: &'a Tree,
+    shapes: &[Shape],
+    scopes: &[Scope<'a>],
+) -> Result<Judged, AllocError>
+    requires graphs { AreGraphsOf tree.now.items (graphs_in scopes.now) }
+    requires sound { AreSoundWithin scopes.now (processes_in tree.now.items) }
+    requires structures { behind builder.now.table.structures.definitions.items ≡ structures_in tree.now.items }
+    requires knowing { IsKnowing builder.now.known (processes_in tree.now.items) }
+    requires shapes { IsIndexed builder.now.known.catalog.now → shapes.now ≡ map told_shape (shapes_of builder.now.known.catalog.now.library (processes_in tree.now.items)) }
+    ensures built { IfOk result (λ judged. IfOk judged (λ compiled. AreBuilt builder.now.known.catalog.now tree.now.items compiled.templates)) }
+    ensures first { IsIndexed builder.now.known.catalog.now → IfOk result (λ judged. IsFirstBroken (from_sizes builder.now.known.catalog.now.library tree.now.items) (fault_in judged)) }
 {
-    (fault.0.max(13), fault.1)
+    let known = &builder.known;
+    if let Some(fault) = first_of_sizes(known, tree, shapes) {
+        return Ok(Err(fault));
+    }
+    let structures = builder.table.structures();
+    if let Some(fault) = first_of_counts(builder.alloc, tree, structures, known, scopes)? {
+        return Ok(Err(fault));
+    }
+    match built(builder, tree, shapes) {
+        Ok(compiled) => Ok(Ok(compiled)),
+        Err(BuildFault::Missing) => Err(AllocError),
+        Err(BuildFault::NoMemory) => Err(AllocError),
+    }
+}
+
+/// Judges rules 17 to 24, and builds what the text adds where none is broken.
+fn called_and_built<'a>(
+    alloc: Global,
+    tree: &'a Tree,
+    table: LeafTable<'a>,
+    scopes: &[Scope<'a>],
+    earlier: &'a Catalog,
+) -> Result<Judged, AllocError>
+    requires graphs { AreGraphsOf tree.now.items (graphs_in scopes.now) }
+    requires sound { AreSoundWithin scopes.now (processes_in tree.now.items) }
+    requires structures { behind table.structures.definitions.items ≡ structures_in tree.now.items }
+    requires leaves { All (λ s. HasContainers (leaves_in (structures_in tree.now.items)) (table_leaves table) (graph_at s)) scopes.now }
+    ensures built { IfOk result (λ judged. IfOk judged (λ compiled. AreBuilt earlier.now tree.now.items compiled.templates)) }
+    ensures first { IsIndexed earlier.now → IfOk result (λ judged. IsFirstBroken (from_callees earlier.now.library tree.now.items) (fault_in judged)) }
+{
+    let known = Known::new(alloc, tree, earlier)?;
+    if let Some(fault) = first_of_callees(&known, tree, &table, scopes) {
+        return Ok(Err(fault));
+    }
+    if let Some(fault) = first_of_people(alloc, &known, tree, scopes)? {
+        return Ok(Err(fault));
+    }
+    let shapes = shapes(alloc, &known)?;
+    let builder = Builder {
+        alloc,
+        table,
+        known,
+    };
+    sized_and_built(&builder, tree, &shapes, scopes)
+}
+
+/// Judges rules 13 to 24, and builds what the text adds where none is broken.
+fn read_and_built<'a>(
+    alloc: Global,
+    tree: &'a Tree,
+    structures: Structures<'a>,
+    scopes: &[Scope<'a>],
+    earlier: &'a Catalog,
+) -> Result<Judged, AllocError>
+    requires graphs { AreGraphsOf tree.now.items (graphs_in scopes.now) }
+    requires structures { behind structures.definitions.items ≡ structures_in tree.now.items }
+    requires counted { AreCounted (behind structures.definitions.items) structures.counts.items }
+    requires covered { All (λ p. IsCovered (lists_of scopes.now) p.elements) (processes_in tree.now.items) }
+    requires named { All (λ s. AreNamesApart s.elements.now) scopes.now }
+    requires connected { All (λ s. IsConnected s.elements.now) scopes.now }
+    ensures built { IfOk result (λ judged. IfOk judged (λ compiled. AreBuilt earlier.now tree.now.items compiled.templates)) }
+    ensures first { IsIndexed earlier.now → IfOk result (λ judged. IsFirstBroken (from_leaves earlier.now.library tree.now.items) (fault_in judged)) }
+{
+    let table = LeafTable::new(alloc, structures, scopes)?;
+    if let Some(fault) = first_of_leaves(tree, &table, scopes) {
+        return Ok(Err(fault));
+    }
+    if let Some(fault) = first_of_lines(alloc, tree, scopes)? {
+        return Ok(Err(fault));
+    }
+    called_and_built(alloc, tree, table, scopes, earlier)
 }
 
 /// Judges rules 9 to 24, and builds what the text adds where none is broken.
@@ -384,35 +223,32 @@ fn connected_and_built<'a>(
     structures: Structures<'a>,
     scopes: &[Scope<'a>],
     earlier: &'a Catalog,
-) -> Result<Result<Compiled, (u8, u32)>, AllocError>
+) -> Result<Judged, AllocError>
+    requires graphs { AreGraphsOf tree.now.items (graphs_in scopes.now) }
+    requires structures { behind structures.definitions.items ≡ structures_in tree.now.items }
+    requires counted { AreCounted (behind structures.definitions.items) structures.counts.items }
     requires covered { All (λ p. IsCovered (lists_of scopes.now) p.elements) (processes_in tree.now.items) }
     requires named { All (λ s. AreNamesApart s.elements.now) scopes.now }
-    requires graphs { AreGraphsOf tree.now.items (graphs_in scopes.now) }
-    requires before { NoneTo tree.now.items 8 }
     ensures built { IfOk result (λ judged. IfOk judged (λ compiled. AreBuilt earlier.now tree.now.items compiled.templates)) }
-    ensures first { IfOk result (IsJudged tree.now.items) }
+    ensures first { IsIndexed earlier.now → IfOk result (λ judged. IsFirstBroken (from_connectors earlier.now.library tree.now.items) (fault_in judged)) }
 {
-    if let Some(fault) = first_connectors(alloc, scopes)? {
-        return Ok(Err(fault));
-    }
-    match judged_and_built(alloc, tree, structures, scopes, earlier)? {
-        Ok(compiled) => Ok(Ok(compiled)),
-        Err(fault) => Ok(Err(late(fault))),
+    match first_of_connectors(alloc, tree, scopes)? {
+        Some(fault) => Ok(Err(fault)),
+        None => read_and_built(alloc, tree, structures, scopes, earlier),
     }
 }
 
 /// What a tree adds to the library, or the first rule from 4 on that it breaks.
-fn compile_tree(
-    alloc: Global,
-    tree: &Tree,
-    earlier: &Catalog,
-) -> Result<Result<Compiled, (u8, u32)>, AllocError>
+fn compile_tree(alloc: Global, tree: &Tree, earlier: &Catalog) -> Result<Judged, AllocError>
     ensures built { IfOk result (λ judged. IfOk judged (λ compiled. AreBuilt earlier.now tree.now.items compiled.templates)) }
-    ensures first { IfOk result (IsJudged tree.now.items) }
+    ensures first { IsIndexed earlier.now → IfOk result (λ judged. IsFirstBroken (later_rules earlier.now.library tree.now.items) (fault_in judged)) }
 {
     let scopes = text_scopes(alloc, tree)?;
     let mut structures = Structures::new(alloc, tree)?;
-    if let Some(fault) = first_names(alloc, tree, &mut structures, &scopes)? {
+    if let Some(fault) = first_of_names(alloc, tree, &structures, &scopes)? {
+        return Ok(Err(fault));
+    }
+    if let Some(fault) = first_of_structures(alloc, &mut structures, tree)? {
         return Ok(Err(fault));
     }
     connected_and_built(alloc, tree, structures, &scopes, earlier)
@@ -420,12 +256,12 @@ fn compile_tree(
 
 /// What a text adds to the library of the earlier imports.
 ///
-/// `Rule` comes exactly where it breaks a rule: the least rule, and then the least place.
+/// `Rule` comes exactly where it breaks a rule: the least rule, and then the least place, with its line.
 pub fn compile(alloc: Global, text: &[u8], earlier: &Catalog) -> Result<Compiled, ImportFault>
     ensures sound { IfOk result (λ compiled. AreSoundBehind (length earlier.now.library.templates) compiled.templates) }
     ensures named { IfOk result (λ compiled. IsNamedBy text.now compiled.templates) }
     ensures meant { IfOk result (λ compiled. IsMeantBy text.now earlier.now compiled.templates) }
-    ensures judged { IsJudgedText text.now result }
+    ensures judged { IsIndexed earlier.now → IsJudged earlier.now.library text.now result }
 {
     let tree = syntax_tree(alloc, text)?;
     match compile_tree(alloc, &tree, earlier)? {

@@ -8,6 +8,7 @@
 mod building;
 mod compiling;
 mod faults;
+mod judging;
 mod layout;
 mod wires;
 

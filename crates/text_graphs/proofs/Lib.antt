@@ -4,6 +4,7 @@ pub mod Again
 pub mod Meetings
 pub mod Differing
 pub mod Naming
+pub mod Closing
 pub mod Judging
 pub mod Listing
 pub mod Graphs

@@ -1,11 +1,12 @@
 //! The connectors of a graph as pairs of numbers.
-ghost use Rattle.std.specs.Prelude.{◌≡◌, ◌<◌, ◌++◌, ◌∷◌, [], IfOk, OnOk, MatchOption, slice_index_or, false};
+ghost use Rattle.std.specs.Prelude.{◌≡◌, ◌<◌, ◌++◌, ◌∷◌, [], IfOk, OnOk, MatchOption, slice_index_or, slice_set, length, replicate, false, true};
+ghost use Rattle.graph_check.specs.Components.{AreComponents};
 ghost use Rattle.graph_check.specs.Spreading.{AreReaching};
 ghost use Rattle.graph_check.specs.Walks.{AreNodes, IsOrder};
-ghost use Rattle.text_graphs.specs.ClosedWalks.{IsCyclic};
+ghost use Rattle.text_graphs.specs.ClosedWalks.{AreClosed, IsCyclic};
 
 use flow_model::List;
-use graph_check::{GraphFault, order, reaching};
+use graph_check::{GraphFault, components, cyclic_edges, order, reaching};
 use std::alloc::{AllocError, Global};
 
 /// Whether a node is marked.
@@ -13,6 +14,19 @@ pub fn is_marked(seen: &[bool], node: u32) -> bool
     ensures { result ≡ slice_index_or seen.now node false }
 {
     seen.get(node as usize).copied().unwrap_or(false)
+}
+
+fn no_marks(alloc: Global, nodes: u32) -> Result<Vec<bool>, AllocError>
+    ensures { IfOk result (λ marks. marks.items ≡ replicate nodes false) }
+{
+    Ok(vec![in alloc; false; nodes as usize]?)
+}
+
+fn mark(closed: &mut Vec<bool>, node: u32)
+    requires { node < length closed.old.items }
+    ensures { closed.new.items ≡ slice_set closed.old.items node true }
+{
+    closed[node as usize] = true;
 }
 
 /// Edges between so many nodes.
@@ -51,6 +65,13 @@ impl Edges {
         &self.pairs
     }
 
+    /// A number for each node: an edge lies on a closed walk exactly where its ends have one number.
+    pub fn components(&self, alloc: Global) -> Result<Vec<u32>, AllocError>
+        ensures { IfOk result (λ groups. AreComponents self.now.nodes self.now.pairs.items groups.items) }
+    {
+        components(alloc, self.nodes, &self.pairs)
+    }
+
     /// The nodes in an order in which each edge goes forward; None where a closed walk is there.
     pub fn order(&self, alloc: Global) -> Result<Option<List<u32>>, AllocError>
         ensures { IfOk result (λ found. MatchOption found (IsCyclic self.now.pairs.items) (IsOrder self.now.nodes self.now.pairs.items)) }
@@ -74,8 +95,16 @@ impl Edges {
     }
 
     /// For each node, whether it lies on a closed walk.
-    pub fn on_cycle(&self, alloc: Global, node: u32) -> Result<bool, AllocError> {
-        let seen = self.reaching(alloc, node)?;
-        Ok(seen.get(node as usize).copied().unwrap_or(false))
+    pub fn closed_nodes(&self, alloc: Global) -> Result<Vec<bool>, AllocError>
+        ensures { IfOk result (λ closed. AreClosed self.now.nodes self.now.pairs.items closed.items) }
+    {
+        let cyclic = cyclic_edges(alloc, self.nodes, &self.pairs)?;
+        let mut closed = no_marks(alloc, self.nodes)?;
+        for (i, pair) in self.pairs.iter().enumerate() {
+            if cyclic[i] {
+                mark(&mut closed, pair.0);
+            }
+        }
+        Ok(closed)
     }
 }

@@ -1,6 +1,8 @@
-use Rattle.std.specs.List.{AllWithin}
-use Rattle.text_graphs.specs.Texts.{IsNotClosing}
+use Rattle.std.proofs.Common.{take}
+use Rattle.connector_rules.specs.Connectors.{IsOnCycle}
+use Rattle.text_graphs.specs.Graphs.{graph_at}
+use Rattle.text_graphs.specs.Places.{IsLeastOf, AnyAt}
 use Rattle.connector_rules.proofs.connectors.cycle.Given as goal
 
-abbrev pub invariant-loop-control : goal.invariant-loop-control
-invariant-loop-control l = AllWithin (λ x. IsNotClosing l.scope.elements.now x.now) l.scope.controls.items 0 l.control-index
+abbrev pub invariant-loop-scope : goal.invariant-loop-scope
+invariant-loop-scope l = IsLeastOf (AnyAt (λ s. IsOnCycle (graph_at s)) (take l.scope-index l.scopes)) l.least

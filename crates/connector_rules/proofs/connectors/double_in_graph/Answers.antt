@@ -4,6 +4,7 @@ use Rattle.flow_model.specs.declared.trees.ControlTree.{ControlTree}
 use Rattle.connector_rules.specs.Connectors.{IsSameAgain}
 use Rattle.connector_rules.specs.EdgesMet.{AreEdgesMet}
 use Rattle.text_graphs.specs.Places.{IsLeastOf, PairAt}
+use Rattle.text_graphs.specs.Texts.{edge_of}
 use Rattle.text_graphs.proofs.Finding.{taken_behind}
 use Rattle.connector_rules.proofs.connectors.double_in_graph.Goals as goal
 
@@ -19,4 +20,4 @@ returns c =
     let scope = c.args.scope.now in
     let past = rw c.deref-control-items.ensures.value at c.loop-control-test.false in
     let whole = take_all c.loop-control.control-index (map (λ (x : Bor ControlTree). x.now) scope.controls.items) (rw length-map past) ∙ scope.with_controls in
-    subst (λ cs. IsLeastOf (PairAt (IsSameAgain scope.elements.now) cs) c.loop-control.doubles.first) whole c.loop-control.invariant.least
+    subst (λ cs. IsLeastOf (PairAt (IsSameAgain (edge_of scope.elements.now)) cs) c.loop-control.doubles.first) whole c.loop-control.invariant.least

@@ -1,13 +1,10 @@
-use Rattle.template_check.proofs.Judgements.{stop_later, none_at_all}
-use Rattle.template_check.proofs.Passing.{none_to}
+use Rattle.std.proofs.Common.{None}
+use Rattle.template_check.specs.Rules.{rules_on_connectors, from_leaves, IsFirstBroken}
+use Rattle.template_check.proofs.FirstBroken.{then_first}
 use Rattle.template_check.proofs.compiling.connected_and_built.Goals as goal
 
-pub returns-in-Ok-clause-first : goal.returns-in-Ok-clause-first
-returns-in-Ok-clause-first c =
+pub returns-in-None-clause-first : goal.returns-in-None-clause-first
+returns-in-None-clause-first c = λ indexed.
     let items = c.args.tree.now.items in
-    none_at_all items (none_to items 12 c.in_ok-fault.field-0 c.in_default.not-Some (c.in_ok-fault.ensures.first items c.requires.graphs c.requires.before))
-
-pub returns-in-Err-clause-first : goal.returns-in-Err-clause-first
-returns-in-Err-clause-first c =
-    let items = c.args.tree.now.items in
-    stop_later items c.late.result.0 c.late.result.1 c.late.ensures (none_to items 12 c.in_ok-fault.field-0 c.in_default.not-Some (c.in_ok-fault.ensures.first items c.requires.graphs c.requires.before))
+    let none : IsFirstBroken (rules_on_connectors items) None = rw c.in-None.is at c.in_ok-fault.ensures.first in
+    then_first (rules_on_connectors items) (from_leaves c.args.earlier.now.library items) c.read_and_built.result none (c.read_and_built.ensures.first indexed)

@@ -1,4 +1,5 @@
+use Rattle.std.proofs.Common.{Some, None}
 use Rattle.template_check.proofs.compiling.sized_and_built.Goals as goal
 
-pub built-requires-clause-sound : goal.built-requires-clause-sound
-built-requires-clause-sound c = c.requires.sound (c.in_ok-fault.ensures c.in-None.is)
+pub first_of_counts-requires-clause-structures : goal.first_of_counts-requires-clause-structures
+first_of_counts-requires-clause-structures c = rw c.structures-structures.ensures c.requires.structures

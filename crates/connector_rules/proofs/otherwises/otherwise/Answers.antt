@@ -1,0 +1,12 @@
+use Rattle.connector_rules.specs.Connectors.{IsOtherwiseWrong}
+use Rattle.text_graphs.specs.Graphs.{graph_at}
+use Rattle.text_graphs.specs.declared.scopes.Scope.{Scope}
+use Rattle.text_graphs.proofs.Finding.{least_more, least_all}
+use Rattle.connector_rules.proofs.otherwises.otherwise.Goals as goal
+
+pub loop-scope-preserved : goal.loop-scope-preserved
+loop-scope-preserved c =
+    least_more (λ (s : Scope). IsOtherwiseWrong (graph_at s)) c.args.scopes.now c.loop-scope.scope-index c.scope-item.result c.loop-scope.least c.in_ok-otherwise_in_graph.field-0 c.lesser-least.result c.loop-scope-test.true c.scope-item.is c.lesser-least.ensures.least c.loop-scope.invariant c.in_ok-otherwise_in_graph.ensures
+
+pub returns : goal.returns
+returns c = least_all (λ (s : Scope). IsOtherwiseWrong (graph_at s)) c.args.scopes.now c.loop-scope.scope-index c.loop-scope.least c.loop-scope-test.false c.loop-scope.invariant

@@ -1,0 +1,8 @@
+use Rattle.std.proofs.Common.{take}
+use Rattle.process_rules.specs.Numbers.{IsNumberWrong}
+use Rattle.text_graphs.specs.Graphs.{graph_at}
+use Rattle.text_graphs.specs.Places.{IsLeastOf, AnyAt}
+use Rattle.process_rules.proofs.numbers.graph_numbers.Given as goal
+
+abbrev pub invariant-loop-scope : goal.invariant-loop-scope
+invariant-loop-scope l = IsLeastOf (AnyAt (λ s. IsNumberWrong (graph_at s)) (take l.scope-index l.scopes)) l.least

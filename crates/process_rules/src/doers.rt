@@ -1,0 +1,238 @@
+//! Rules 19 and 20: the people and the activities that DONE_BY and PERFORMER OF name.
+ghost use Rattle.std.specs.Prelude.{◌≡◌, ◌<◌, ℕ, List, IfOk, length};
+ghost use Rattle.std.specs.Bool.{Decides};
+ghost use Rattle.std.specs.List.{list_any};
+ghost use Rattle.flow_model.specs.declared.trees.PersonTree.{PersonTree};
+ghost use Rattle.graph_check.specs.Spreading.{AreReaching};
+ghost use Rattle.process_rules.specs.Doers.{IsNoPerson, NamesNoPerson, is_person, Leads, IsManual, IsPerformer, IsWrongName, IsNoPerformer, NamesNoPerformer, is_performer};
+ghost use Rattle.process_rules.specs.Imports.{IsIndexed};
+ghost use Rattle.process_rules.specs.Knowing.{ArePeople};
+ghost use Rattle.text_graphs.specs.Attributes.{is_start_manual};
+ghost use Rattle.text_graphs.specs.GraphEdges.{AreEdgesOf};
+ghost use Rattle.text_graphs.specs.Graphs.{graph_at};
+ghost use Rattle.text_graphs.specs.Places.{IsLeastOf, AnyAt};
+ghost use Rattle.text_graphs.specs.Texts.{activities_in, edges_in};
+
+use crate::people::Known;
+use flow_model::{ActivityTree, AttrTree, NameAt};
+use std::alloc::{AllocError, Global};
+use text_graphs::{Edges, Scope, is_marked, lesser, narrow};
+
+/// The place of the name of somebody who isn't known.
+fn unknown_name<'a>(known: &Known<'a>, what: &'a AttrTree) -> Option<u32>
+    ensures { (people : List PersonTree) → ArePeople known.now people → IsIndexed known.now.catalog.now → IsLeastOf (IsNoPerson (is_person known.now.catalog.now.library people) what.now) result }
+{
+    match what {
+        AttrTree::When(_) => None,
+        AttrTree::Exit(_) => None,
+        AttrTree::Start(_) => None,
+        AttrTree::Expires(_) => None,
+        AttrTree::Role(_) => None,
+        AttrTree::Person(name) => {
+            if known.is_person(name) {
+                None
+            } else {
+                Some(name.place)
+            }
+        }
+        AttrTree::Starter => None,
+        AttrTree::Performer(_) => None,
+    }
+}
+
+fn unknown_in_activity<'a>(known: &Known<'a>, activity: &'a ActivityTree) -> Option<u32>
+    ensures { (people : List PersonTree) → ArePeople known.now people → IsIndexed known.now.catalog.now → IsLeastOf (AnyAt (λ x. IsNoPerson (is_person known.now.catalog.now.library people) x.what) activity.now.attrs) result }
+{
+    let mut least = None;
+    for attribute in activity.attrs.as_slice() {
+        least = lesser(least, unknown_name(known, &attribute.what));
+    }
+    least
+}
+
+fn unknown_in_graph<'a>(known: &Known<'a>, scope: &Scope<'a>) -> Option<u32>
+    ensures { (people : List PersonTree) → ArePeople known.now people → IsIndexed known.now.catalog.now → IsLeastOf (NamesNoPerson known.now.catalog.now.library people (graph_at scope.now)) result }
+{
+    let mut least = None;
+    for activity in &scope.activities {
+        least = lesser(least, unknown_in_activity(known, activity));
+    }
+    least
+}
+
+/// Rule 19: DONE_BY PERSON names no person.
+pub fn unknown_people<'a>(known: &Known<'a>, scopes: &[Scope<'a>]) -> Option<u32>
+    ensures { (people : List PersonTree) → ArePeople known.now people → IsIndexed known.now.catalog.now → IsLeastOf (AnyAt (λ s. NamesNoPerson known.now.catalog.now.library people (graph_at s)) scopes.now) result }
+{
+    let mut least = None;
+    for scope in scopes {
+        least = lesser(least, unknown_in_graph(known, scope));
+    }
+    least
+}
+
+/// Whether an activity is a program activity that a person starts.
+pub fn is_manual(activity: &ActivityTree) -> bool
+    ensures { result ≡ list_any (λ attribute. is_start_manual attribute.what) activity.now.attrs }
+{
+    for attribute in activity.attrs.as_slice() {
+        if starts_manual(&attribute.what) {
+            return true;
+        }
+    }
+    false
+}
+
+fn starts_manual(what: &AttrTree) -> bool
+    ensures { result ≡ is_start_manual what.now }
+{
+    match what {
+        AttrTree::Start(manual) => *manual,
+        AttrTree::When(_) => false,
+        AttrTree::Exit(_) => false,
+        AttrTree::Expires(_) => false,
+        AttrTree::Role(_) => false,
+        AttrTree::Person(_) => false,
+        AttrTree::Starter => false,
+        AttrTree::Performer(_) => false,
+    }
+}
+
+/// Whether the activity of a name is one of those that are marked.
+fn leads<'a>(scope: &Scope<'a>, name: &'a NameAt, leads_here: &[bool]) -> bool
+    ensures { (to : ℕ) → AreReaching (length (activities_in scope.now.elements.now)) (edges_in scope.now.elements.now) to leads_here.now → Decides result (Leads scope.now.elements.now name.now.name to) }
+{
+    match scope.number(name) {
+        None => false,
+        Some(number) => is_marked(leads_here, number),
+    }
+}
+
+/// Whether a name is a manual activity's.
+fn names_manual<'a>(scope: &Scope<'a>, name: &'a NameAt) -> bool
+    ensures { Decides result (IsManual scope.now.elements.now name.now.name) }
+{
+    match scope.activity(name) {
+        None => false,
+        Some(activity) => is_manual(activity),
+    }
+}
+
+/// Whether a name is a manual activity's that is marked.
+fn performs<'a>(scope: &Scope<'a>, name: &'a NameAt, leads_here: &[bool]) -> bool
+    ensures { (to : ℕ) → AreReaching (length (activities_in scope.now.elements.now)) (edges_in scope.now.elements.now) to leads_here.now → Decides result (IsPerformer scope.now.elements.now name.now.name to) }
+{
+    leads(scope, name, leads_here) && names_manual(scope, name)
+}
+
+/// The place of the name of no manual activity that is marked.
+fn wrong_name<'a>(scope: &Scope<'a>, name: &'a NameAt, leads_here: &[bool]) -> Option<u32>
+    ensures { (to : ℕ) → AreReaching (length (activities_in scope.now.elements.now)) (edges_in scope.now.elements.now) to leads_here.now → IsLeastOf (IsWrongName scope.now.elements.now to name.now) result }
+{
+    if performs(scope, name, leads_here) {
+        None
+    } else {
+        Some(name.place)
+    }
+}
+
+fn wrong_in_attribute<'a>(scope: &Scope<'a>, what: &'a AttrTree, leads_here: &[bool]) -> Option<u32>
+    ensures { (to : ℕ) → AreReaching (length (activities_in scope.now.elements.now)) (edges_in scope.now.elements.now) to leads_here.now → IsLeastOf (IsNoPerformer scope.now.elements.now to what.now) result }
+{
+    match what {
+        AttrTree::When(_) => None,
+        AttrTree::Exit(_) => None,
+        AttrTree::Start(_) => None,
+        AttrTree::Expires(_) => None,
+        AttrTree::Role(_) => None,
+        AttrTree::Person(_) => None,
+        AttrTree::Starter => None,
+        AttrTree::Performer(name) => wrong_name(scope, name, leads_here),
+    }
+}
+
+fn wrong_in_activity<'a>(
+    scope: &Scope<'a>,
+    activity: &'a ActivityTree,
+    leads_here: &[bool],
+) -> Option<u32>
+    ensures { (to : ℕ) → AreReaching (length (activities_in scope.now.elements.now)) (edges_in scope.now.elements.now) to leads_here.now → IsLeastOf (AnyAt (λ x. IsNoPerformer scope.now.elements.now to x.what) activity.now.attrs) result }
+{
+    let mut least = None;
+    for attribute in activity.attrs.as_slice() {
+        least = lesser(
+            least,
+            wrong_in_attribute(scope, &attribute.what, leads_here),
+        );
+    }
+    least
+}
+
+fn is_performer(what: &AttrTree) -> bool
+    ensures { result ≡ is_performer what.now }
+{
+    match what {
+        AttrTree::When(_) => false,
+        AttrTree::Exit(_) => false,
+        AttrTree::Start(_) => false,
+        AttrTree::Expires(_) => false,
+        AttrTree::Role(_) => false,
+        AttrTree::Person(_) => false,
+        AttrTree::Starter => false,
+        AttrTree::Performer(_) => true,
+    }
+}
+
+fn names_performer(activity: &ActivityTree) -> bool
+    ensures { result ≡ list_any (λ attribute. is_performer attribute.what) activity.now.attrs }
+{
+    for attribute in activity.attrs.as_slice() {
+        if is_performer(&attribute.what) {
+            return true;
+        }
+    }
+    false
+}
+
+/// The wrong names of the activity of a number; walks are looked for only where one is named.
+fn wrong_performer<'a>(
+    alloc: Global,
+    scope: &Scope<'a>,
+    edges: &Edges,
+    number: u32,
+    activity: &'a ActivityTree,
+) -> Result<Option<u32>, AllocError>
+    requires edges { AreEdgesOf scope.now.elements.now edges.now }
+    requires within { number < length (activities_in scope.now.elements.now) }
+    ensures { IfOk result (IsLeastOf (AnyAt (λ x. IsNoPerformer scope.now.elements.now number x.what) activity.now.attrs)) }
+{
+    if names_performer(activity) {
+        let leads_here = edges.reaching(alloc, number)?;
+        Ok(wrong_in_activity(scope, activity, &leads_here))
+    } else {
+        Ok(None)
+    }
+}
+
+fn wrong_in_graph<'a>(alloc: Global, scope: &Scope<'a>) -> Result<Option<u32>, AllocError>
+    ensures { IfOk result (IsLeastOf (NamesNoPerformer (graph_at scope.now))) }
+{
+    let edges = scope.edges(alloc)?;
+    let mut least = None;
+    for (i, activity) in scope.activities.iter().enumerate() {
+        let found = wrong_performer(alloc, scope, &edges, narrow(i)?, activity)?;
+        least = lesser(least, found);
+    }
+    Ok(least)
+}
+
+/// Rule 20: PERFORMER OF names no manual program activity of the graph from which this one is reachable.
+pub fn wrong_performers(alloc: Global, scopes: &[Scope<'_>]) -> Result<Option<u32>, AllocError>
+    ensures { IfOk result (IsLeastOf (AnyAt (λ s. NamesNoPerformer (graph_at s)) scopes.now)) }
+{
+    let mut least = None;
+    for scope in scopes {
+        least = lesser(least, wrong_in_graph(alloc, scope)?);
+    }
+    Ok(least)
+}
