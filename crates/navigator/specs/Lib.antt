@@ -6,6 +6,7 @@ pub mod Instances
 pub mod Steps
 pub mod ViewRows
 pub mod Events
+pub mod Holding
 pub mod Serving
 pub mod Showing
 pub mod Giving

@@ -8,13 +8,16 @@ ghost use Rattle.flow_model.specs.declared.graphs.Graph.{Graph as Process, out-G
 ghost use Rattle.flow_model.specs.declared.graphs.Template.{Template};
 ghost use Rattle.flow_model.specs.declared.instances.Message.TheVariants.{End};
 ghost use Rattle.flow_model.specs.declared.instances.Part.{Part as Step};
-ghost use Rattle.navigator.specs.Events.{Completes, happening, Happens, Takes};
+ghost use Rattle.navigator.specs.Events.{ChangesAt, ChangesScope, ChangesState, Completes, happening, Happens, Takes};
+ghost use Rattle.navigator.specs.Holding.{held_by, take_of, held_state, take_from, SetsHold, HoldsChanged};
 ghost use Rattle.navigator.specs.Giving.{GivesTaken, GivesCompleted};
 ghost use Rattle.navigator.specs.Instances.{mode_of, Starts};
 ghost use Rattle.navigator.specs.Items.{stand, entry_of, attempts_in as attempts_of_fate, entry_of_state, entry_here, entry_at, phase_of};
 ghost use Rattle.navigator.specs.Showing.{ShowsTaken, ShowsCompleted, DiffersInHold, StaysShown, StaysShownItem, StaysShownNested, StaysShownWork};
 ghost use Rattle.navigator.specs.Views.{Shows};
-ghost use Rattle.navigator.specs.declared.scopes.ScopeState.{out-ScopeState};
+ghost use Rattle.navigator.specs.declared.scopes.ActivityState.{Nested};
+ghost use Rattle.navigator.specs.declared.scopes.NestedState.{NestedState as Nest, out-NestedState};
+ghost use Rattle.navigator.specs.declared.scopes.ScopeState.{ScopeState as Scope, out-ScopeState};
 
 use crate::changes::{Context, Effects, Event, messages_of};
 use crate::scopes::{
@@ -339,6 +342,7 @@ impl Instance {
     pub fn change_hold(&mut self, library: &Library, item: &Path, change: HoldChange) -> u64
         ensures kept { self.new ≡ record self.old { scope = self.new.scope } }
         ensures shows { (g : Process) → template_graph library.now.templates self.old.template ≡ Some g → StaysShown library.now.templates g self.old.scope self.new.scope }
+        ensures sets { (g : Process) → template_graph library.now.templates self.old.template ≡ Some g → HoldsChanged library.now.templates item.now.parts change g self.old.scope self.new.scope result }
     {
         let [parts @ .., last] = item.parts.as_slice() else {
             return 0;
@@ -377,7 +381,8 @@ impl ScopeState {
         name: &Name,
         change: HoldChange,
     ) -> u64
-        ensures { StaysShown library.now.templates graph.now self.old self.new }
+        ensures shows { StaysShown library.now.templates graph.now self.old self.new }
+        ensures sets { ChangesAt library.now.templates (SetsHold name.now change result) parts.now graph.now self.old self.new }
     {
         match parts {
             [] => change_hold_here(graph, self, name, change),
@@ -395,7 +400,8 @@ impl ScopeState {
         name: &Name,
         change: HoldChange,
     ) -> u64
-        ensures { StaysShown library.now.templates graph.now self.old self.new }
+        ensures shows { StaysShown library.now.templates graph.now self.old self.new }
+        ensures sets { ChangesAt library.now.templates (SetsHold name.now change result) (part.now ∷ rest.now) graph.now self.old self.new }
     {
         let Some(place) = place_of(graph, &part.name) else {
             return 0;
@@ -427,7 +433,8 @@ impl ActivityState {
         name: &Name,
         change: HoldChange,
     ) -> u64
-        ensures { StaysShownWork library.now.templates graph.now self.old self.new }
+        ensures shows { StaysShownWork library.now.templates graph.now self.old self.new }
+        ensures sets { (n : Nest) → self.old ≡ Nested n → (inner : Scope) → slice_get (out-NestedState n).scopes.items attempt ≡ Some inner → ChangesState (ChangesAt library.now.templates (SetsHold name.now change result) rest.now graph.now) attempt inner n self.new }
     {
         match self {
             ActivityState::Program(_) => 0,
@@ -449,7 +456,8 @@ impl NestedState {
         name: &Name,
         change: HoldChange,
     ) -> u64
-        ensures { StaysShownNested library.now.templates graph.now self.old self.new }
+        ensures shows { StaysShownNested library.now.templates graph.now self.old self.new }
+        ensures sets { (inner : Scope) → slice_get (out-NestedState self.old).scopes.items attempt ≡ Some inner → ChangesScope (ChangesAt library.now.templates (SetsHold name.now change result) rest.now graph.now) attempt inner self.old self.new }
     {
         match self.scopes.get_mut(attempt) {
             None => 0,
@@ -460,7 +468,9 @@ impl NestedState {
 
 /// Changes who holds the open attempt of a program activity; answers the take number of an agent.
 fn change_program_hold(state: &mut ProgramState, change: HoldChange) -> u64
-    ensures { DiffersInHold state.old state.new }
+    ensures differs { DiffersInHold state.old state.new }
+    ensures state { state.new ≡ held_by change state.old }
+    ensures take { result ≡ take_of change state.old }
 {
     match change {
         HoldChange::Person(who) => {
@@ -478,7 +488,9 @@ fn change_program_hold(state: &mut ProgramState, change: HoldChange) -> u64
 impl ActivityState {
     /// Changes who holds the open attempt of this activity, if it is a program activity.
     fn change_own_hold(&mut self, change: HoldChange) -> u64
-        ensures { StaysShownItem self.old self.new }
+        ensures shows { StaysShownItem self.old self.new }
+        ensures state { self.new ≡ held_state change self.old }
+        ensures take { result ≡ take_from change self.old }
     {
         match self {
             ActivityState::Program(state) => change_program_hold(state, change),
@@ -489,7 +501,8 @@ impl ActivityState {
 
 /// Changes who holds the open attempt of an activity of a scope.
 fn change_hold_here(graph: &Graph, scope: &mut ScopeState, name: &Name, change: HoldChange) -> u64
-    ensures { (ts : Seq Template) → StaysShown ts graph.now scope.old scope.new }
+    ensures shows { (ts : Seq Template) → StaysShown ts graph.now scope.old scope.new }
+    ensures sets { SetsHold name.now change result graph.now scope.old scope.new }
 {
     let Some(place) = place_of(graph, name) else {
         return 0;

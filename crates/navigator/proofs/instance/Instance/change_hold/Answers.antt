@@ -7,4 +7,4 @@ pub returns-in-Some-clause-shows : goal.returns-in-Some-clause-shows
 returns-in-Some-clause-shows c = λ g is.
     let known = c.in-Some.ensures in
     let same : c.in-Some.graph.now ≡ g = cc in
-    subst (λ (x : Graph). StaysShown c.args.library.now.templates x c.args.self.now.scope c.change_hold.new.self) same c.change_hold.ensures
+    subst (λ (x : Graph). StaysShown c.args.library.now.templates x c.args.self.now.scope c.change_hold.new.self) same c.change_hold.ensures.shows
