@@ -1,5 +1,5 @@
 -- The input of an attempt is the base input, with the LOOP maps from the output of the attempt before it.
-use Rattle.std.proofs.Common.{◌≡◌, ℕ, zero, suc, ◌+◌, ◌-◌, Bool, true, false, ◌&&◌, if◌then◌else◌, List, [], ◌∷◌, map, length, Option, Some, None, cond, refl, ap, sym, ◌∙◌, subst, arith}
+use Rattle.std.proofs.Common.{◌≡◌, ℕ, zero, suc, ◌+◌, ◌-◌, Bool, true, false, ◌&&◌, List, [], ◌∷◌, map, Option, Some, None, cond, refl, ap, sym, ◌∙◌, arith}
 use Rattle.std.specs.Prelude.{slice_get}
 use Rattle.std.specs.Option.{option_map}
 use Rattle.std.proofs.Math.Path.{fun_ext}
@@ -9,8 +9,7 @@ use Rattle.fate_laws.proofs.Extends.{and_true}
 use Rattle.flow_model.specs.Conditions.{holds}
 use Rattle.flow_model.specs.Fates.{is_open}
 use Rattle.flow_model.specs.ScopeContainers.{base_of, looped}
-use Rattle.flow_model.specs.Scopes.{Known, Gives, Runs, Trial, Start, and_then, tries, then_start, starts, gives, is_fed, trial, attempts, fate_given, output, tree_ends}
-use Rattle.flow_model.specs.declared.graphs.Activity.{Activity}
+use Rattle.flow_model.specs.Scopes.{Gives, Trial, Start, tries, then_start, starts, gives, is_fed, trial, fate_given, output, tree_ends}
 use Rattle.flow_model.specs.declared.graphs.Container.{Container}
 use Rattle.flow_model.specs.declared.graphs.Graph.{Graph, out-Graph}
 use Rattle.flow_model.specs.declared.graphs.Work.{Work, Program as RunsProgram, Block', Process}

@@ -41,3 +41,4 @@ pub mod Given
 pub mod PutGiven
 pub mod DrivenShown
 pub mod AttemptInputs
+pub mod HeldItems

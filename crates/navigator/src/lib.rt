@@ -6,12 +6,14 @@
 #![tactic(auto)]
 
 mod changes;
+mod holding;
 mod instance;
 mod runs;
 mod scopes;
 mod shown;
 
 pub use changes::Effects;
+pub use holding::holds_are_set;
 pub use instance::{HoldChange, Instance, Item};
 pub use runs::{completions_give, quiet_runs_are_whole, runs_are_right, runs_show, turns_give};
 pub use scopes::place_of;
