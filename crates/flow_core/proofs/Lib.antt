@@ -8,4 +8,5 @@ pub mod OpenRows
 pub mod OpenRoots
 pub mod Versions
 pub mod Refusing
+pub mod Admitting
 pub mod Contained

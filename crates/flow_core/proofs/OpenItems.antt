@@ -2,8 +2,6 @@
 use Rattle.std.proofs.Common.{◌≡◌, ◌&&◌, ◌==◌, Bool, true, false, Option, Some, None, refl, sym, subst, inl, inr, option_map, Result, Ok, Err, OnOk}
 use Rattle.std.proofs.lemmas.Option.{none-some}
 use Rattle.activity_states.specs.States.{fate_of}
-use Rattle.flow_model.specs.declared.instances.Mode.{Mode}
-use Rattle.flow_model.specs.declared.instances.Mode.TheVariants.{Active, Suspended, Done, Terminated}
 use Rattle.flow_model.specs.declared.instances.Path.{Path}
 use Rattle.flow_model.specs.declared.instances.Phase.TheVariants.{Ended}
 use Rattle.navigator.specs.Instances.{mode_of}

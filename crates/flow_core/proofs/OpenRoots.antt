@@ -1,5 +1,5 @@
 -- What is open of the roots so far and what is open of those that are left make what is open of all.
-use Rattle.std.proofs.Common.{◌≡◌, ◌∙◌, sym, ap, subst, refl, ℕ, List, [], ◌∷◌, ◌++◌}
+use Rattle.std.proofs.Common.{◌∙◌, sym, ap, subst, refl, ℕ, List, ◌∷◌, ◌++◌}
 use Rattle.std.proofs.lemmas.List.{append_assoc}
 use Rattle.flow_core.specs.OpenItems.{Open, AreOpenIn, AddsOpen}
 use Rattle.flow_core.specs.declared.state.Core.{Core}

@@ -8,5 +8,6 @@ pub mod Driving
 pub mod Allowing
 pub mod Refusals
 pub mod Judgements
+pub mod Admitting
 pub mod OpenItems
 pub mod Facts

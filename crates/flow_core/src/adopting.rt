@@ -1,14 +1,19 @@
 //! Records of a store: which are allowed, and the state after them.
-ghost use Rattle.std.specs.Prelude.{◌≡◌, ◌⊎◌, ◌<◌, ◌≤◌, ◌+◌, None, OnOk, IfOk, IfSome, IsTrue};
-ghost use Rattle.flow_core.specs.Allowing.{IsKnown, IsOpen, IsFree, CountsRoot, IsAsked, IsAskedAt, IsAllowed, IsPassed};
+ghost use Rattle.std.specs.Prelude.{◌≡◌, ◌⊎◌, ◌↔◌, None, Option, OnOk, IfOk, IfErr, IfSome, IsTrue, IsFalse, option_copied};
+ghost use Rattle.flow_core.specs.Admitting.{IsAdmitted, IsRefused, IsTold, IsDue, IsDueAt, IsItemDue, IsStartDue, IsKeptNumber, IsNextNumber, IsKeptKind, IsNextKind, IsPlace, root_with as keyed_root};
+ghost use Rattle.flow_core.specs.Allowing.{subject_of, IsKnown, IsOpen, IsFree, CountsRoot, IsAsked, IsAskedAt, IsAllowed, IsPassed};
+ghost use Rattle.flow_core.specs.Refusals.{person_test, who_test, IsInOrder, IsRuleOf, StopsBy};
+ghost use Rattle.flow_core.specs.declared.refusals.Refusal.{Refusal as RefusalOf};
+ghost use Rattle.flow_model.specs.declared.transactions.Transaction.TheVariants as made;
 ghost use Rattle.flow_model.specs.declared.instances.Path.{Path as PathOf};
 ghost use Rattle.flow_core.specs.Driving.{Drives};
 ghost use Rattle.flow_core.specs.Summaries.{summary, taken_up, counted, last_kept, Follows, deleted, started, roots_after};
 ghost use Rattle.flow_core.specs.Verdicts.{IsFront};
-ghost use Rattle.flow_core.specs.declared.adopting.AdoptFault.TheVariants.{NoMemory};
+ghost use Rattle.flow_core.specs.declared.adopting.AdoptFault.TheVariants.{NoMemory, NotAllowed};
 
 use crate::applying::{deleted_root, started_root};
 use crate::items::{Known, settings_fit};
+use crate::judging::MOST_MINUTES;
 use crate::paths::same_message;
 use crate::refusals::Stop;
 use crate::state::Core;
@@ -38,7 +43,8 @@ impl From<AllocError> for AdoptFault {
 
 /// A test of a command, as a test of its record.
 fn passes(test: Result<(), Stop>) -> Result<bool, AllocError>
-    ensures { IfOk result (λ passed. IsTrue passed → IsPassed test) }
+    ensures passed { IfOk result (λ passed. IsTrue passed → IsPassed test) }
+    ensures told { (refusal : Option RefusalOf) → StopsBy refusal test → IfOk result (λ passed. IsTrue passed ↔ (refusal ≡ None)) }
 {
     match test {
         Ok(()) => Ok(true),
@@ -48,7 +54,9 @@ fn passes(test: Result<(), Stop>) -> Result<bool, AllocError>
 }
 
 impl Core {
-    fn allows_import(&self, text: &[u8]) -> Result<bool, AllocError> {
+    fn allows_import(&self, text: &[u8]) -> Result<bool, AllocError>
+        ensures { IfOk result (λ allowed. IsTrue allowed → IsRuleOf self.now text.now None) }
+    {
         match self.store.check(self.alloc, text) {
             Ok(_) => Ok(true),
             Err(ImportFault::Rule(_)) => Ok(false),
@@ -64,25 +72,50 @@ impl Core {
         starter: &Name,
         key: Option<&Name>,
         settings: &[Setting],
-    ) -> bool {
-        let Some(place) = self.store.newest(process) else {
+    ) -> bool
+        ensures { IsInOrder self.now → IsTrue result ↔ IsStartDue self.now process.now version starter.now (option_copied key.entry) settings.now }
+    {
+        let Some(template) = self.newest(process) else {
             return false;
         };
-        let Some(template) = self.store.template(place) else {
+        if template.version != version {
             return false;
-        };
-        let is_new = match key {
-            None => true,
-            Some(key) => !self.keys.contains_key(key.as_slice()),
-        };
-        is_new
-            && template.version == version
-            && self.store.person(starter).is_some()
-            && settings_fit(&template.graph.input, settings)
+        }
+        if !self.is_person(starter) {
+            return false;
+        }
+        if !self.is_unused(key) {
+            return false;
+        }
+        settings_fit(&template.graph.input, settings)
+    }
+
+    /// Whether a person is declared.
+    fn is_person(&self, name: &Name) -> bool
+        ensures { IsInOrder self.now → IsTrue result ↔ (person_test self.now name.now ≡ None) }
+    {
+        self.store.person(name).is_some()
+    }
+
+    /// The live root that has a key.
+    fn root_with(&self, key: Option<&Name>) -> Option<u64>
+        ensures { result ≡ keyed_root self.now (option_copied key.entry) }
+    {
+        match key {
+            None => None,
+            Some(key) => self.keys.get(key.as_slice()).copied(),
+        }
+    }
+
+    /// Whether no live root has a key.
+    fn is_unused(&self, key: Option<&Name>) -> bool
+        ensures { IsTrue result ↔ (keyed_root self.now (option_copied key.entry) ≡ None) }
+    {
+        self.root_with(key).is_none()
     }
 
     fn allows_turn(&self, queue: u8, message: &Message) -> bool
-        ensures { IsTrue result → IsFront self.now queue message.now }
+        ensures { IsTrue result ↔ IsFront self.now queue message.now }
     {
         if queue < 1 || queue > self.queues.count() {
             return false;
@@ -93,25 +126,52 @@ impl Core {
         }
     }
 
-    fn allows_claim(&self, known: &Known<'_>, who: &Name) -> Result<bool, AllocError> {
+    fn allows_claim(&self, known: &Known<'_>, who: &Name) -> Result<bool, AllocError>
+        ensures { (item : PathOf) → IsInOrder self.now → IfOk result (λ allowed. IsTrue allowed ↔ IsDueAt self.now (subject_of known.now) (made.Claim item who.now)) }
+    {
         match self.store.person(who) {
             None => Ok(false),
             Some(person) => passes(self.may_claim(known, person)),
         }
     }
 
-    fn allows_transfer(
-        &self,
-        known: &Known<'_>,
-        from: &Name,
-        to: &Name,
-    ) -> Result<bool, AllocError> {
+    fn allows_transfer(&self, known: &Known<'_>, from: &Name, to: &Name) -> Result<bool, AllocError>
+        ensures { (item : PathOf) → IsInOrder self.now → IfOk result (λ allowed. IsTrue allowed ↔ IsDueAt self.now (subject_of known.now) (made.Transfer item from.now to.now)) }
+    {
+        if !self.is_person(from) {
+            return Ok(false);
+        }
         match self.store.person(to) {
             None => Ok(false),
-            Some(person) => Ok(
-                self.store.person(from).is_some()
-                    && passes(self.may_transfer(known, from, person))?,
-            ),
+            Some(person) => passes(self.may_transfer(known, from, person)),
+        }
+    }
+
+    fn allows_release(&self, known: &Known<'_>, who: &Name) -> Result<bool, AllocError>
+        ensures { (item : PathOf) → IsInOrder self.now → IfOk result (λ allowed. IsTrue allowed ↔ IsDueAt self.now (subject_of known.now) (made.Release item who.now)) }
+    {
+        if !self.is_person(who) {
+            return Ok(false);
+        }
+        passes(self.may_release(known, who))
+    }
+
+    fn allows_take(&self, known: &Known<'_>, take: u64) -> Result<bool, AllocError>
+        ensures { (item : PathOf) → IfOk result (λ allowed. IsTrue allowed ↔ IsDueAt self.now (subject_of known.now) (made.Take item take)) }
+    {
+        if known.item.state.next_take() != take {
+            return Ok(false);
+        }
+        passes(self.may_take(known))
+    }
+
+    /// Whether the one who completes an item is declared; an agent has no name.
+    fn is_declared(&self, who: &Who) -> bool
+        ensures { IsInOrder self.now → IsTrue result ↔ (who_test self.now who.now ≡ None) }
+    {
+        match who {
+            Who::Person(name) => self.is_person(name),
+            Who::Agent(_) => true,
         }
     }
 
@@ -121,40 +181,38 @@ impl Core {
         who: &Who,
         settings: &[Setting],
     ) -> Result<bool, AllocError>
-        ensures { (item : PathOf) → IsKnown self.now item known.now → IfOk result (λ allowed. IsTrue allowed → IsOpen self.now item) }
+        ensures opened { (item : PathOf) → IsKnown self.now item known.now → IfOk result (λ allowed. IsTrue allowed → IsOpen self.now item) }
+        ensures due { (item : PathOf) → IsInOrder self.now → IfOk result (λ allowed. IsTrue allowed ↔ IsDueAt self.now (subject_of known.now) (made.Done item who.now settings.now)) }
     {
-        let is_known = match who {
-            Who::Person(name) => self.store.person(name).is_some(),
-            Who::Agent(_) => true,
-        };
-        if !passes(self.may_complete(known, who))? {
+        if !self.is_declared(who) {
             return Ok(false);
         }
-        Ok(is_known && settings_fit(&known.item.activity.output, settings))
+        if !settings_fit(&known.item.activity.output, settings) {
+            return Ok(false);
+        }
+        passes(self.may_complete(known, who))
     }
 
     fn allows_force(&self, known: &Known<'_>, settings: &[Setting]) -> Result<bool, AllocError>
-        ensures { (item : PathOf) → IsKnown self.now item known.now → IfOk result (λ allowed. IsTrue allowed → IsOpen self.now item) }
+        ensures opened { (item : PathOf) → IsKnown self.now item known.now → IfOk result (λ allowed. IsTrue allowed → IsOpen self.now item) }
+        ensures due { (item : PathOf) → IfOk result (λ allowed. IsTrue allowed ↔ IsDueAt self.now (subject_of known.now) (made.Force item settings.now)) }
     {
-        if !passes(self.may_force(known))? {
+        if !settings_fit(&known.item.activity.output, settings) {
             return Ok(false);
         }
-        Ok(settings_fit(&known.item.activity.output, settings))
+        passes(self.may_force(known))
     }
 
     /// Whether a record on an item is allowed, where its item is there.
     fn allows_on(&self, known: &Known<'_>, t: &Transaction) -> Result<bool, AllocError>
-        ensures { (item : PathOf) → IsKnown self.now item known.now → IfOk result (λ allowed. IsTrue allowed → IsAskedAt self.now item t.now) }
+        ensures asked { (item : PathOf) → IsKnown self.now item known.now → IfOk result (λ allowed. IsTrue allowed → IsAskedAt self.now item t.now) }
+        ensures due { IsInOrder self.now → IfOk result (λ allowed. IsTrue allowed ↔ IsDueAt self.now (subject_of known.now) t.now) }
     {
         match t {
             Transaction::Claim(_, who) => self.allows_claim(known, who),
-            Transaction::Release(_, who) => Ok(
-                self.store.person(who).is_some() && passes(self.may_release(known, who))?,
-            ),
+            Transaction::Release(_, who) => self.allows_release(known, who),
             Transaction::Transfer(_, from, to) => self.allows_transfer(known, from, to),
-            Transaction::Take(_, take) => {
-                Ok(passes(self.may_take(known))? && known.item.state.next_take() == *take)
-            }
+            Transaction::Take(_, take) => self.allows_take(known, *take),
             Transaction::Done(_, who, settings) => {
                 self.allows_done(known, who, settings.as_slice())
             }
@@ -165,7 +223,8 @@ impl Core {
     }
 
     fn allows_item(&self, item: &Path, t: &Transaction) -> Result<bool, AllocError>
-        ensures { IfOk result (λ allowed. IsTrue allowed → IsAskedAt self.now item.now t.now) }
+        ensures asked { IfOk result (λ allowed. IsTrue allowed → IsAskedAt self.now item.now t.now) }
+        ensures due { IsInOrder self.now → IfOk result (λ allowed. IsTrue allowed ↔ IsItemDue self.now item.now t.now) }
     {
         match self.known(item) {
             None => Ok(false),
@@ -173,13 +232,19 @@ impl Core {
         }
     }
 
-    fn allows_clock(&self, minutes: u64) -> Result<bool, AllocError> {
-        Ok(minutes <= 2_147_483_647 && passes(self.may_set_clock(minutes))?)
+    fn allows_clock(&self, minutes: u64) -> Result<bool, AllocError>
+        ensures { IfOk result (λ allowed. IsTrue allowed ↔ IsDue self.now (made.Clock minutes)) }
+    {
+        if minutes > MOST_MINUTES {
+            return Ok(false);
+        }
+        passes(self.may_set_clock(minutes))
     }
 
     /// Whether the tests of a record's command give it now, number and root aside.
     fn allows(&self, t: &Transaction) -> Result<bool, AllocError>
-        ensures { IfOk result (λ allowed. IsTrue allowed → IsAsked self.now t.now) }
+        ensures asked { IfOk result (λ allowed. IsTrue allowed → IsAsked self.now t.now) }
+        ensures due { IsInOrder self.now → IfOk result (IsTold self.now t.now) }
     {
         match t {
             Transaction::Import(text) => self.allows_import(text.as_slice()),
@@ -210,7 +275,7 @@ impl Core {
 
     /// Whether the number of a record is allowed: above that of the kept one before, or the next one.
     fn allows_number(&self, number: u64) -> bool
-        ensures { IsTrue result → ((number ≤ self.now.kept) × (self.now.kept ≡ self.now.number)) ⊎ ((self.now.kept < number) × (number ≡ self.now.number + 1)) }
+        ensures { IsTrue result ↔ (IsKeptNumber self.now number ⊎ IsNextNumber self.now number) }
     {
         if number <= self.kept {
             number > self.kept_number && self.number == self.kept
@@ -222,7 +287,7 @@ impl Core {
     /// Whether the root of a kept Start is the next of the kept ones, and there is no kept Delete.
     fn allows_kept(&self, t: &Transaction) -> bool
         ensures kept { IsTrue result → (deleted t.now ≡ None) × (roots_after t.now self.now.roots ≡ self.now.roots) }
-        ensures later { IsTrue result → IfSome (started t.now) (λ root. self.now.kept_root < root) }
+        ensures exact { IsTrue result ↔ IsKeptKind self.now t.now }
     {
         if deleted_root(t).is_some() {
             return false;
@@ -235,7 +300,7 @@ impl Core {
 
     /// Whether the root of a Start is the next one.
     fn allows_new(&self, t: &Transaction) -> bool
-        ensures { IsTrue result → IfSome (started t.now) (λ root. self.now.roots < root) }
+        ensures { IsTrue result ↔ IsNextKind self.now t.now }
     {
         match started_root(t) {
             None => true,
@@ -247,6 +312,7 @@ impl Core {
     fn allows_place(&self, number: u64, t: &Transaction) -> bool
         ensures follows { IsTrue result → Follows self.now.kept (summary self.now) (record { number = number; transaction = t.now }) }
         ensures free { IsTrue result → IfSome (started t.now) (IsFree self.now) }
+        ensures exact { IsTrue result ↔ IsPlace self.now number t.now }
     {
         if !self.allows_number(number) {
             return false;
@@ -256,6 +322,20 @@ impl Core {
         } else {
             self.allows_new(t)
         }
+    }
+
+    /// Whether a record may stand under its number, and the tests of its command give it now.
+    fn admits(&self, number: u64, t: &Transaction) -> Result<bool, AllocError>
+        ensures follows { IfOk result (λ allowed. IsTrue allowed → Follows self.now.kept (summary self.now) (record { number = number; transaction = t.now })) }
+        ensures free { IfOk result (λ allowed. IsTrue allowed → IfSome (started t.now) (IsFree self.now)) }
+        ensures asked { IfOk result (λ allowed. IsTrue allowed → IsAsked self.now t.now) }
+        ensures admitted { IsInOrder self.now → IfOk result (λ allowed. IsTrue allowed → IsAdmitted self.now number t.now) }
+        ensures refused { IsInOrder self.now → IfOk result (λ allowed. IsFalse allowed → IsRefused self.now number t.now) }
+    {
+        if !self.allows_place(number, t) {
+            return Ok(false);
+        }
+        self.allows(t)
     }
 
     /// Counts a record as kept, or as the next transaction.
@@ -275,7 +355,8 @@ impl Core {
         }
     }
 
-    /// Adopts a record of a store, in the order of the records.
+    /// Adopts a record of a store, in the order of the records. `NotAllowed` comes exactly where it may not stand under its
+    /// number there, or the tests of its command don't give it; then the state is unchanged.
     pub fn adopt(&mut self, number: u64, t: Transaction) -> Result<(), AdoptFault>
         ensures follows { OnOk result (Follows self.old.kept (summary self.old) (record { number = number; transaction = t })) }
         ensures taken { OnOk result (summary self.new ≡ taken_up self.old.kept (record { number = number; transaction = t }) (summary self.old)) }
@@ -283,8 +364,11 @@ impl Core {
         ensures allowed { OnOk result (IsAllowed self.old t) }
         ensures drives { OnOk result (Drives self.old t self.new) }
         ensures counts { OnOk result (CountsRoot self.old t self.new) }
+        ensures admitted { IsInOrder self.old → OnOk result (IsAdmitted self.old number t) }
+        ensures refused { IsInOrder self.old → IfErr result (λ fault. fault ≡ NotAllowed → IsRefused self.old number t) }
+        ensures unchanged { IfErr result (λ fault. fault ≡ NotAllowed → self.new ≡ self.old) }
     {
-        if !self.allows_place(number, &t) || !self.allows(&t)? {
+        if !self.admits(number, &t)? {
             return Err(AdoptFault::NotAllowed);
         }
         self.count(number, &t);

@@ -1,5 +1,6 @@
 //! Items that a token or a path names, and the tests of commands on them.
 ghost use Rattle.std.specs.Prelude.{◌≡◌, None, Some, Err, option_copied, option_map, IfOk, IfSome, IfNone, OnOk};
+ghost use Rattle.flow_core.specs.Admitting.{is_of as value_is_of, fits, all_fit};
 ghost use Rattle.flow_core.specs.Allowing.{seen_entry, known_entry, subject_of, performer_for, IsKnown, IsOpen, IsRunning};
 ghost use Rattle.flow_core.specs.Refusals.{StopsBy, IsStop, is_active as active_mode, is_able as able, is_going, mode_test, staff_refusal, claim_test as claiming_test, release_test as releasing_test, transfer_test as transferring_test, taking_test, completing_test, forcing_test, restart_test, item_test, subject_in, IsFound};
 ghost use Rattle.flow_core.specs.declared.refusals.Refusal.TheVariants.{Item as NoItem};
@@ -258,18 +259,30 @@ impl Core {
     }
 }
 
+/// Whether a value is of a kind.
+fn is_of(value: &Value, kind: Kind) -> bool
+    ensures { result ≡ value_is_of value.now kind }
+{
+    match (value, kind) {
+        (Value::Whole(_), Kind::Long) => true,
+        (Value::Text(_), Kind::Str) => true,
+        _ => false,
+    }
+}
+
 /// Whether the leaf of a setting is there and has the kind of its value.
-fn setting_fits(leaves: &Leaves, setting: &Setting) -> bool {
+fn setting_fits(leaves: &Leaves, setting: &Setting) -> bool
+    ensures { result ≡ fits leaves.now.leaves setting.now }
+{
     match leaves.leaves.as_slice().get(setting.leaf as usize) {
         None => false,
-        Some(leaf) => match &setting.value {
-            Value::Whole(_) => leaf.kind == Kind::Long,
-            Value::Text(_) => leaf.kind == Kind::Str,
-        },
+        Some(leaf) => is_of(&setting.value, leaf.kind),
     }
 }
 
 /// Whether settings fit a container of these leaves.
-pub fn settings_fit(leaves: &Leaves, settings: &[Setting]) -> bool {
+pub fn settings_fit(leaves: &Leaves, settings: &[Setting]) -> bool
+    ensures { result ≡ all_fit leaves.now.leaves settings.now }
+{
     settings.iter().all(|setting| setting_fits(leaves, setting))
 }

@@ -25,7 +25,7 @@ use std::alloc::AllocError;
 use template_check::ImportFault;
 
 /// The clock is at most so many minutes.
-const MOST_MINUTES: u64 = 2_147_483_647;
+pub(crate) const MOST_MINUTES: u64 = 2_147_483_647;
 
 /// What becomes of a command.
 #[derive(Drop)]
@@ -90,7 +90,7 @@ impl Core {
     }
 
     /// The newest template of a process.
-    fn newest(&self, process: &Name) -> Option<&Template>
+    pub(crate) fn newest(&self, process: &Name) -> Option<&Template>
         ensures { IsInOrder self.now → option_copied result ≡ newest_of self.now process.now }
     {
         self.store.template(self.store.newest(process)?)

@@ -1,5 +1,5 @@
 //! Paths: the queue of a message, the rank of an item, and equal messages.
-ghost use Rattle.std.specs.Prelude.{◌≡◌, ◌-◌, ◌^◌, min, Some, option_copied, IfOk, IsTrue};
+ghost use Rattle.std.specs.Prelude.{◌≡◌, ◌↔◌, ◌-◌, ◌^◌, min, Some, option_copied, IfOk, IsTrue};
 ghost use Rattle.flow_core.specs.Driving.{activity_named as named_activity, is_process as processes_of, processes_along, receiver as receiver_of, queue_in};
 ghost use Rattle.flow_core.specs.Refusals.{between};
 ghost use Rattle.recover_queue.specs.Queues.{root_of as root_in};
@@ -103,14 +103,14 @@ pub fn rank_of(
 }
 
 fn same_part(first: &Part, second: &Part) -> bool
-    ensures { IsTrue result → first.now ≡ second.now }
+    ensures { IsTrue result ↔ (first.now ≡ second.now) }
 {
     first.attempt == second.attempt && first.name.as_slice() == second.name.as_slice()
 }
 
 /// Whether two lists of parts are one.
 fn same_parts(first: &[Part], second: &[Part]) -> bool
-    ensures { IsTrue result → first.now ≡ second.now }
+    ensures { IsTrue result ↔ (first.now ≡ second.now) }
 {
     match (first, second) {
         ([], []) => true,
@@ -123,14 +123,14 @@ fn same_parts(first: &[Part], second: &[Part]) -> bool
 
 /// Whether two paths are one.
 pub fn same_path(first: &Path, second: &Path) -> bool
-    ensures { IsTrue result → first.now ≡ second.now }
+    ensures { IsTrue result ↔ (first.now ≡ second.now) }
 {
     first.root == second.root && same_parts(first.parts.as_slice(), second.parts.as_slice())
 }
 
 /// Whether two messages are one.
 pub fn same_message(first: &Message, second: &Message) -> bool
-    ensures { IsTrue result → first.now ≡ second.now }
+    ensures { IsTrue result ↔ (first.now ≡ second.now) }
 {
     match (first, second) {
         (Message::Begin(a), Message::Begin(b)) => same_path(a, b),

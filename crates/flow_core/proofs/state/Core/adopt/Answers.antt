@@ -1,4 +1,4 @@
-use Rattle.std.proofs.Common.{ℕ, refl, ap, subst, ◌∙◌}
+use Rattle.std.proofs.Common.{ℕ, ap, subst, ◌∙◌}
 use Rattle.flow_core.specs.Driving.{Drives}
 use Rattle.flow_core.specs.Summaries.{Summary, roots_after}
 use Rattle.flow_core.specs.declared.state.Core.{Core}
@@ -11,7 +11,7 @@ returns-clause-drives c =
     let before = c.args.self.now in
     let counted = c.count.new.self in
     let after = c.apply_as.new.self in
-    let front = front_of before c.args.t (c.in_ok-allows.ensures c.if-not-branch.false) in
+    let front = front_of before c.args.t (c.in_ok-admits.ensures.asked c.if-not-branch.false) in
     drives_earlier before counted after c.args.t
     (subst (λ (k : Core). Drives k c.args.t after) c.count.ensures.rest (c.in_ok-apply_as.ensures.drives (front_within before counted c.args.t c.count.ensures.rest front)))
 
@@ -23,4 +23,4 @@ returns-clause-counts c =
     (ap (λ (n : ℕ × ℕ × Summary). n.2.roots) taken ∙ ap (λ (s : Summary). roots_after c.args.t s.roots) c.count.ensures.counted)
     (ap (λ (n : ℕ × ℕ × Summary). n.2.transactions) taken ∙ ap (λ (s : Summary). s.transactions) c.count.ensures.counted)
     (ap (λ (n : ℕ × ℕ × Summary). n.1) taken ∙ c.count.ensures.kept_root)
-    (c.if-not-allows_place.ensures.follows refl) (c.if-not-allows_place.ensures.free refl)
+    (c.in_ok-admits.ensures.follows c.if-not-branch.false) (c.in_ok-admits.ensures.free c.if-not-branch.false)

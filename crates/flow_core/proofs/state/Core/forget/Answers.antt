@@ -1,7 +1,6 @@
-use Rattle.std.proofs.Common.{◌≡◌, not, ap, rules}
+use Rattle.std.proofs.Common.{not, ap, rules}
 use Rattle.std.proofs.lemmas.Fn.{filter_same}
-use Rattle.flow_model.specs.declared.transactions.Numbered.{Numbered}
-use Rattle.flow_core.specs.Summaries.{summary, noted, without, with_live, is_root, root_about}
+use Rattle.flow_core.specs.Summaries.{summary, with_live, is_root, root_about}
 use Rattle.flow_core.proofs.state.Core.forget.Goals as goal
 
 pub returns-clause-forgets : goal.returns-clause-forgets

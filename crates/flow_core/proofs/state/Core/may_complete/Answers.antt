@@ -1,6 +1,5 @@
-use Rattle.std.proofs.Common.{◌≡◌, ap, sym, ◌∙◌}
+use Rattle.std.proofs.Common.{ap, sym, ◌∙◌}
 use Rattle.flow_model.specs.declared.instances.Phase.{Phase}
-use Rattle.flow_model.specs.declared.instances.Phase.TheVariants.{Ended}
 use Rattle.staff_worklists.specs.Rights.{done_answer}
 use Rattle.flow_core.proofs.OpenItems.{opens}
 use Rattle.flow_core.proofs.state.Core.may_complete.Goals as goal

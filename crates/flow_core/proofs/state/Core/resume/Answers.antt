@@ -1,6 +1,5 @@
-use Rattle.std.proofs.Common.{◌≡◌, ap, rules, ◌∙◌}
+use Rattle.std.proofs.Common.{ap, rules, ◌∙◌}
 use Rattle.flow_model.specs.declared.graphs.Library.{Library}
-use Rattle.flow_model.specs.declared.instances.Message.{Message}
 use Rattle.recover_queue.specs.Queues.{is_quiet}
 use Rattle.flow_core.proofs.Putting.{none_quiet}
 use Rattle.flow_core.proofs.state.Core.resume.Goals as goal
