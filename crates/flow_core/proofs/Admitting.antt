@@ -1,5 +1,5 @@
 -- How the tests of a record's command say together that it is due.
-use Rattle.std.proofs.Common.{◌≡◌, ◌↔◌, ℕ, Bool, true, false, IsTrue, IsFalse, Option, Some, None, is_some, List, refl, sym, ap, ◌∙◌, subst, Result, Ok, Err, IfOk, OnOk}
+use Rattle.std.proofs.Common.{◌≡◌, ◌↔◌, ℕ, Bool, true, false, IsTrue, IsFalse, Option, Some, None, is_some, is_none, List, refl, inl, inr, sym, ap, ◌∙◌, subst, Result, Ok, Err, IfOk, OnOk}
 use Rattle.flow_model.specs.declared.graphs.Graph.{out-Graph}
 use Rattle.flow_model.specs.declared.graphs.PersonDef.{PersonDef}
 use Rattle.flow_model.specs.declared.graphs.Template.{Template}
@@ -10,7 +10,7 @@ use Rattle.flow_model.specs.declared.transactions.Transaction.{Transaction}
 use Rattle.flow_model.specs.declared.transactions.Transaction.TheVariants as made
 use Rattle.flow_core.specs.Admitting.{all_fit, root_with, IsStartDue, IsDue, IsDueAt, IsItemDue, IsPlace, IsTold, IsAdmitted, IsRefused}
 use Rattle.flow_core.specs.Allowing.{Subject, subject_of, IsThere, IsKnown, IsPassed}
-use Rattle.flow_core.specs.Refusals.{unless, person_of, person_test, newest_of}
+use Rattle.flow_core.specs.Refusals.{unless, person_of, person_test, newest_of, IsRuleOf}
 use Rattle.flow_core.specs.declared.items.Known.{Known}
 use Rattle.flow_core.specs.declared.refusals.Refusal.{Refusal}
 use Rattle.flow_core.specs.declared.refusals.Refusal.TheVariants as refused
@@ -91,17 +91,25 @@ item_due c path t k (Err e) known is = tt
 
 -- ---- records
 
+none_broken : (c : Core) (text : List ℕ) (rule : Option Refusal) → IsRuleOf c text rule → true ≡ is_none rule → IsRuleOf c text None
+none_broken c text None judged same = judged
+none_broken c text (Some rule) judged same = let n : ⊥ = cc in absurd n
+
+one_broken : (c : Core) (text : List ℕ) (rule : Option Refusal) → IsRuleOf c text rule → false ≡ is_none rule → (r : Refusal) × IsRuleOf c text (Some r)
+one_broken c text None judged same = let n : ⊥ = cc in absurd n
+one_broken c text (Some rule) judged same = (rule, judged)
+
 told_due : (c : Core) (t : Transaction) → IsTold c t true → IsDue c t
-told_due c (made.Import text) told = told refl
+told_due c (made.Import text) told = none_broken c text told.0 told.1 told.2
 told_due c t told = told.0 refl
 
 told_not_due : (c : Core) (number : ℕ) (t : Transaction) → IsTold c t false → IsRefused c number t
-told_not_due c number (made.Import text) told = tt
+told_not_due c number (made.Import text) told = inr (one_broken c text told.0 told.1 told.2)
 told_not_due c number t told = λ admitted. (let wrong : false ≡ true = told.1 admitted.due in let n : ⊥ = cc in absurd n)
 
 -- a record that has no place is refused
 pub no_place : (c : Core) (number : ℕ) (t : Transaction) → (IsPlace c number t → ⊥) → IsRefused c number t
-no_place c number (made.Import text) none = tt
+no_place c number (made.Import text) none = inl none
 no_place c number t none = λ admitted. none admitted.place
 
 -- where it has one, it is admitted where it is told to be due

@@ -1,5 +1,5 @@
 -- Which record of a store is admitted: one that may stand under its number, and that the tests of its command give now.
-use Rattle.std.specs.Prelude.{◌≡◌, ◌⊎◌, ◌↔◌, ℕ, ◌+◌, ◌^◌, ◌<◌, ◌≤◌, Bool, true, false, Option, Some, None, IfSome, IsTrue, List, [], ◌∷◌, slice_get, bytes_eq}
+use Rattle.std.specs.Prelude.{◌≡◌, ◌⊎◌, ◌↔◌, ℕ, ◌+◌, ◌^◌, ◌<◌, ◌≤◌, Bool, true, false, Option, Some, None, is_none, IfSome, IsTrue, List, [], ◌∷◌, slice_get, bytes_eq}
 use Rattle.std.specs.HashMap as hash
 use Rattle.std.specs.List.{list_all}
 use Rattle.std.specs.Option.{option_map_or}
@@ -20,6 +20,7 @@ use Rattle.flow_core.specs.Allowing.{Subject, IsThere}
 use Rattle.flow_core.specs.Driving.{IsFront}
 use Rattle.flow_core.specs.Refusals.{first_of, person_of, person_test, who_test, newest_of, clock_test, root_test, queued_test, is_active, is_suspended, is_going, is_over, claim_test, release_test, transfer_test, taking_test, completing_test, forcing_test, restart_test, IsRuleOf}
 use Rattle.flow_core.specs.Summaries.{started, deleted}
+use Rattle.flow_core.specs.declared.refusals.Refusal.{Refusal}
 use Rattle.flow_core.specs.declared.state.Core.{Core}
 
 -- ---- settings
@@ -87,9 +88,9 @@ IsDue c (made.Terminate root) = root_test c is_going root ≡ None
 IsDue c (made.Delete root) = first_of (root_test c is_over root ∷ queued_test c root ∷ []) ≡ None
 IsDue c (made.Clock minutes) = (minutes ≤ 2147483647) × (clock_test c minutes ≡ None)
 
--- a test tells whether a transaction is due; of an Import it tells that one which it gives is
+-- a test tells whether a transaction is due; of an Import, whether its text breaks a rule
 abbrev pub IsTold : Core → Transaction → Bool → Type 0
-IsTold c (made.Import text) allowed = IsTrue allowed → IsDue c (made.Import text)
+IsTold c (made.Import text) allowed = (rule : Option Refusal) × IsRuleOf c text rule × (allowed ≡ is_none rule)
 IsTold c t allowed = IsTrue allowed ↔ IsDue c t
 
 -- ---- where a record may stand
@@ -119,7 +120,7 @@ pub record IsAdmitted (c : Core) (number : ℕ) (t : Transaction) : Type 0 where
   pub place : IsPlace c number t
   pub due : IsDue c t
 
--- a record that isn't admitted; of an Import nothing is told
+-- a record that isn't admitted; an Import has no place, or its text breaks a rule
 abbrev pub IsRefused : Core → ℕ → Transaction → Type 0
-IsRefused c number (made.Import text) = Unit {0}
+IsRefused c number (made.Import text) = (IsPlace c number (made.Import text) → ⊥) ⊎ ((rule : Refusal) × IsRuleOf c text (Some rule))
 IsRefused c number t = IsAdmitted c number t → ⊥

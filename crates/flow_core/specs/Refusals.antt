@@ -29,10 +29,8 @@ use Rattle.recover_queue.specs.Queues.{queue as messages_of, count_of_root}
 use Rattle.staff_worklists.specs.Rights.{is_eligible, is_running, claim_answer, release_answer, transfer_answer, taking_answer, done_answer}
 use Rattle.staff_worklists.specs.declared.rights.StaffFault.{StaffFault}
 use Rattle.staff_worklists.specs.declared.rights.StaffFault.TheVariants as fault
-use Rattle.template_check.specs.Built.{AreSoundBehind}
-use Rattle.template_check.specs.Compiling.{IsNamedBy}
 use Rattle.process_rules.specs.Imports.{IsIndexed, newest_place, latest_person}
-use Rattle.template_check.specs.declared.compiling.Compiled.{Compiled}
+use Rattle.template_check.specs.Judged.{line_at, IsFaultless, IsRefused as IsTextRefused}
 use Rattle.flow_core.specs.Allowing.{Subject, subject_of, IsThere, IsKnown, mode_in}
 use Rattle.flow_core.specs.Answers.{instance_of}
 use Rattle.flow_core.specs.Driving.{templates, item_of}
@@ -267,10 +265,10 @@ tests_on_item c people token test o = first_of (people ∷ item_test token o ∷
 abbrev pub RefusesOnItem : Core → Option Refusal → List ℕ → (Subject → Option Refusal) → Option Refusal → Type 0
 RefusesOnItem c people token test refusal = (o : Option Subject) × IsNamed c token o × (refusal ≡ tests_on_item c people token test o)
 
--- the rule that a text breaks, with the line; where it breaks none, it has templates that are named as its processes
+-- the first rule that a text breaks, with the line of its least place; it has none exactly where it is accepted
 abbrev pub IsRuleOf : Core → List ℕ → Option Refusal → Type 0
-IsRuleOf c text None = (compiled : Compiled) × AreSoundBehind (length (templates c)) compiled.templates × IsNamedBy text compiled.templates
-IsRuleOf c text (Some refusal) = (rule : ℕ) × (line : ℕ) × (refusal ≡ refused.Rule rule line)
+IsRuleOf c text None = IsFaultless c.store.catalog.library text
+IsRuleOf c text (Some refusal) = (rule : ℕ) × (place : ℕ) × IsTextRefused c.store.catalog.library text rule place × (refusal ≡ refused.Rule rule (line_at text place))
 
 -- the first refusal of a command, or that it has none; of what makes no transaction nothing is told
 abbrev pub IsFirstRefusal : Core → Command → Option Refusal → Type 0
@@ -296,8 +294,9 @@ IsFirstRefusal c (asked.Clock number) refusal = refusal ≡ first_of (minutes_te
 IsFirstRefusal c asked.Checkpoint refusal = ⊥
 IsFirstRefusal c (asked.Ask query) refusal = ⊥
 
--- what is asked of a state: where the name of a person or a process is looked up, that it is in order
+-- what is asked of a state: where a name is looked up in the library, that it is in order
 abbrev pub IsOrderFor : Core → Command → Type 0
+IsOrderFor c (asked.Import text) = IsInOrder c
 IsOrderFor c (asked.Start process starter key written) = IsInOrder c
 IsOrderFor c (asked.Claim token name) = IsInOrder c
 IsOrderFor c (asked.Release token name) = IsInOrder c

@@ -1,5 +1,5 @@
 //! Records of a store: which are allowed, and the state after them.
-ghost use Rattle.std.specs.Prelude.{◌≡◌, ◌⊎◌, ◌↔◌, None, Option, OnOk, IfOk, IfErr, IfSome, IsTrue, IsFalse, option_copied};
+ghost use Rattle.std.specs.Prelude.{◌≡◌, ◌⊎◌, ◌↔◌, None, Option, OnOk, IfOk, IfErr, IfSome, IsTrue, IsFalse, is_none, option_copied};
 ghost use Rattle.flow_core.specs.Admitting.{IsAdmitted, IsRefused, IsTold, IsDue, IsDueAt, IsItemDue, IsStartDue, IsKeptNumber, IsNextNumber, IsKeptKind, IsNextKind, IsPlace, root_with as keyed_root};
 ghost use Rattle.flow_core.specs.Allowing.{subject_of, IsKnown, IsOpen, IsFree, CountsRoot, IsAsked, IsAskedAt, IsAllowed, IsPassed};
 ghost use Rattle.flow_core.specs.Refusals.{person_test, who_test, IsInOrder, IsRuleOf, StopsBy};
@@ -55,7 +55,7 @@ fn passes(test: Result<(), Stop>) -> Result<bool, AllocError>
 
 impl Core {
     fn allows_import(&self, text: &[u8]) -> Result<bool, AllocError>
-        ensures { IfOk result (λ allowed. IsTrue allowed → IsRuleOf self.now text.now None) }
+        ensures { IsInOrder self.now → IfOk result (λ allowed. (rule : Option RefusalOf) × IsRuleOf self.now text.now rule × (allowed ≡ is_none rule)) }
     {
         match self.store.check(self.alloc, text) {
             Ok(_) => Ok(true),

@@ -138,7 +138,7 @@ impl Core {
 
     /// A text that breaks no rule, or RULE.
     fn needs_rules(&self, text: &Bytes) -> Result<(), Stop>
-        ensures { StopsAs (IsRuleOf self.now text.now) result }
+        ensures { IsInOrder self.now → StopsAs (IsRuleOf self.now text.now) result }
     {
         match self.store.check(self.alloc, text.as_slice()) {
             Ok(_) => Ok(()),
@@ -153,7 +153,7 @@ impl Core {
         ensures room { OnOk result (self.now.number < self.now.limit) }
         ensures made { IfOk result (IsFor self.now (asked.Import text.now)) }
         ensures allowed { IfOk result (IsAllowed self.now) }
-        ensures stops { StopsAs (IsFirstRefusal self.now (asked.Import text.now)) result }
+        ensures stops { IsInOrder self.now → StopsAs (IsFirstRefusal self.now (asked.Import text.now)) result }
     {
         self.needs_rules(text)?;
         self.needs_room()?;

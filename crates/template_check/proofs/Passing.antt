@@ -1,14 +1,13 @@
 -- What holds of the graphs of a text where a rule finds nothing in them.
-use Rattle.std.proofs.Common.{◌≡◌, ℕ, zero, suc, ◌<◌, List, [], ◌∷◌, length, get_or, map, Option, Some, None, Err, refl, sym, ap, subst, inl, inr, ◌⊎◌, arith}
+use Rattle.std.proofs.Common.{◌≡◌, ℕ, zero, suc, ◌<◌, List, [], ◌∷◌, length, get_or, map, Option, Some, None, refl, ap, subst, inl, inr, ◌⊎◌, arith}
 use Rattle.std.specs.List.{All}
 use Rattle.std.proofs.lemmas.List.Elements.{Contains-get_or}
 use Rattle.flow_model.specs.declared.trees.ActivityTree.{ActivityTree}
 use Rattle.flow_model.specs.declared.trees.ItemTree.{ItemTree}
 use Rattle.flow_model.specs.declared.trees.NameAt.{NameAt}
 use Rattle.flow_model.specs.declared.trees.StructDef.{StructDef}
-use Rattle.flow_model.specs.declared.trees.Tree.{Tree}
 use Rattle.text_graphs.specs.ClosedWalks.{IsAcyclic}
-use Rattle.connector_rules.specs.Connectors.{NamesNobody, IsDouble, IsEmptyGraph}
+use Rattle.connector_rules.specs.Connectors.{IsDouble, IsEmptyGraph}
 use Rattle.text_graphs.specs.Graphs.{graph_at, graphs_in, AreGraphsOf, InGraphs}
 use Rattle.text_graphs.specs.Meeting.{IsAgainAt}
 use Rattle.name_rules.specs.Names.{AreActivityEnds, IsItemEnd, IsEndWrong, IsInsideAgain, IsItemAgain, IsPartAgain, IsTwice}

@@ -1,10 +1,11 @@
 -- A fault tells how its text is judged.
-use Rattle.std.proofs.Common.{◌≡◌, ℕ, List, Some, Err, sym, ap, subst, ◌∙◌}
+use Rattle.std.proofs.Common.{◌≡◌, ℕ, ◌≤◌, List, length, Some, Err, sym, ap, subst, ◌∙◌}
 use Rattle.flow_model.specs.declared.graphs.Library.{Library}
 use Rattle.flow_model.specs.declared.trees.Tree.{Tree}
 use Rattle.template_check.specs.Compiling.{HasTree}
 use Rattle.template_check.specs.Judged.{line_at, IsEarly, IsEarlyFault, IsFault, IsJudged, IsRefused, Early, Late}
 use Rattle.template_check.specs.Rules.{later_rules, IsFirstBroken}
+use Rattle.template_check.specs.declared.compiling.Compiled.{Compiled}
 use Rattle.template_check.specs.declared.faults.ImportFault.{ImportFault}
 use Rattle.template_check.specs.declared.faults.ImportFault.TheVariants as fault
 
@@ -17,12 +18,12 @@ pub early_fault : (text : List ℕ) (rule place : ℕ) (f : ImportFault) → IsF
 early_fault text rule place (fault.Rule found) is early = (named (IsEarly text) rule place found.rule found.place is.0 is.1 early, is.2 ∙ ap (line_at text) (sym is.1))
 early_fault text rule place fault.NoMemory is early = absurd is
 
-pub early_judged : (library : Library) (text : List ℕ) (f : ImportFault) → IsEarlyFault text f → IsJudged library text (Err f)
+pub early_judged : (library : Library) (text : List ℕ) (f : ImportFault) → IsEarlyFault text f → IsJudged {T = Compiled} library text (Err f)
 early_judged library text (fault.Rule found) h = (Early h.0, h.1)
 early_judged library text fault.NoMemory h = tt
 
 -- of one whose tree breaks a rule
-pub refused_judged : (library : Library) (text : List ℕ) (f : ImportFault) (rule place : ℕ) (tree : Tree) → HasTree text tree → IsFirstBroken (later_rules library tree.items) (Some (rule, place)) → IsFault text rule place f → IsJudged library text (Err f)
-refused_judged library text (fault.Rule found) rule place tree has first is =
-    (named (IsRefused library text) rule place found.rule found.place is.0 is.1 (Late (record { tree = tree; has = has; first = first })), is.2 ∙ ap (line_at text) (sym is.1))
-refused_judged library text fault.NoMemory rule place tree has first is = absurd is
+pub refused_judged : (library : Library) (text : List ℕ) (f : ImportFault) (rule place : ℕ) (tree : Tree) → length text ≤ 1048576 → HasTree text tree → IsFirstBroken (later_rules library tree.items) (Some (rule, place)) → IsFault text rule place f → IsJudged {T = Compiled} library text (Err f)
+refused_judged library text (fault.Rule found) rule place tree short has first is =
+    (named (IsRefused library text) rule place found.rule found.place is.0 is.1 (Late (record { short = short; tree = tree; has = has; first = first })), is.2 ∙ ap (line_at text) (sym is.1))
+refused_judged library text fault.NoMemory rule place tree short has first is = absurd is

@@ -10,7 +10,6 @@ use Rattle.flow_model.specs.declared.graphs.Library.{Library}
 use Rattle.flow_model.specs.declared.trees.Tree.{Tree}
 use Rattle.template_check.specs.Compiling.{HasTree}
 use Rattle.template_check.specs.Rules.{IsFirstBroken, later_rules}
-use Rattle.template_check.specs.declared.compiling.Compiled.{Compiled}
 use Rattle.template_check.specs.declared.faults.ImportFault.{ImportFault}
 use Rattle.template_check.specs.declared.faults.ImportFault.TheVariants as fault
 
@@ -36,14 +35,16 @@ abbrev pub IsEarlyFault : List ℕ → ImportFault → Type 0
 IsEarlyFault text (fault.Rule found) = IsEarly text found.rule found.place × (found.line ≡ line_at text found.place)
 IsEarlyFault text fault.NoMemory = Unit {0}
 
--- a text that is accepted has a tree that breaks none of the other rules
+-- a text that is accepted isn't too long, and has a tree that breaks none of the other rules
 pub record IsFaultless (library : Library) (text : List ℕ) : Type 0 where
+  pub short : length text ≤ 1048576
   pub tree : Tree
   pub has : HasTree text tree
   pub none : IsFirstBroken (later_rules library tree.items) None
 
--- its tree breaks this rule first, at this place
+-- it isn't too long, and its tree breaks this rule first, at this place
 pub record IsBroken (library : Library) (text : List ℕ) (rule place : ℕ) : Type 0 where
+  pub short : length text ≤ 1048576
   pub tree : Tree
   pub has : HasTree text tree
   pub first : IsFirstBroken (later_rules library tree.items) (Some (rule, place))
@@ -54,7 +55,7 @@ pub data IsRefused (library : Library) (text : List ℕ) (rule place : ℕ) : Ty
   Late : IsBroken library text rule place → IsRefused library text rule place
 
 -- how a text is judged, behind a library
-abbrev pub IsJudged : Library → List ℕ → Result Compiled ImportFault → Type 0
-IsJudged library text (Ok compiled) = IsFaultless library text
+abbrev pub IsJudged : {T : Type 0} → Library → List ℕ → Result T ImportFault → Type 0
+IsJudged library text (Ok done) = IsFaultless library text
 IsJudged library text (Err (fault.Rule found)) = IsRefused library text found.rule found.place × (found.line ≡ line_at text found.place)
 IsJudged library text (Err fault.NoMemory) = Unit {0}

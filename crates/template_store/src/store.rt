@@ -2,6 +2,7 @@
 ghost use Rattle.std.specs.Prelude.{◌≡◌, ◌-◌, ◌^◌, ◌<◌, ◌≤◌, ◌+◌, [], ◌++◌, min, length, slice_get, option_copied, Some, OnOk, IfOk, IfSome, ◌==◌, ◌&&◌, position, bytes_eq, true};
 ghost use Rattle.template_check.specs.Built.{AreSound, AreSoundBehind};
 ghost use Rattle.template_check.specs.Compiling.{IsNamedBy, IsMeantBy};
+ghost use Rattle.template_check.specs.Judged.{IsJudged};
 ghost use Rattle.process_rules.specs.Imports.{IsIndexed, newest_place, latest_person};
 ghost use Rattle.template_check.specs.declared.compiling.Compiled.{Compiled as Added};
 ghost use Rattle.template_store.specs.Store.{version_place, with_compiled, is_refusal, AddsProcessesOf, IsSmall, KeepsIndex};
@@ -28,11 +29,12 @@ impl TemplateStore {
         }
     }
 
-    /// What a text would add; `Rule` where it breaks one. Nothing is changed.
+    /// What a text would add; `Rule` exactly where it breaks one, which is the first and its least place. Nothing is changed.
     pub fn check(&self, alloc: Global, text: &[u8]) -> Result<Compiled, ImportFault>
         ensures sound { IfOk result (λ compiled. AreSoundBehind (length self.now.catalog.library.templates) compiled.templates) }
         ensures named { IfOk result (λ compiled. IsNamedBy text.now compiled.templates) }
         ensures meant { IfOk result (λ compiled. IsMeantBy text.now self.now.catalog compiled.templates) }
+        ensures judged { IsIndexed self.now.catalog → IsJudged self.now.catalog.library text.now result }
     {
         compile(alloc, text, &self.catalog)
     }
@@ -45,6 +47,7 @@ impl TemplateStore {
         ensures of_text { OnOk result (AddsProcessesOf text.now self.old.catalog self.new.catalog.library) }
         ensures indexed { OnOk result (IsIndexed self.old.catalog → IsIndexed self.new.catalog) }
         ensures refused { is_refusal result ≡ true → self.new ≡ self.old }
+        ensures judged { IsIndexed self.old.catalog → IsJudged self.old.catalog.library text.now result }
         ensures sound { OnOk result (AreSound self.old.catalog.library.templates → AreSound self.new.catalog.library.templates) }
     {
         let compiled = self.check(alloc, text)?;

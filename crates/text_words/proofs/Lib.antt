@@ -1,4 +1,5 @@
 pub mod Reading
+pub mod Judging
 pub mod Answering
 pub mod Gathering
 pub mod Writing

@@ -14,8 +14,8 @@ use Rattle.flow_model.specs.declared.trees.ProcessTree.{ProcessTree}
 use Rattle.flow_model.specs.declared.trees.Tree.{Tree}
 use Rattle.reply_text.specs.Leaves.{container_text}
 use Rattle.reply_text.specs.Replies.{row_text}
-use Rattle.text_words.specs.Answers.{Tells, Refuses, RefusesRule}
-use Rattle.template_check.specs.declared.faults.RuleFault.{RuleFault}
+use Rattle.text_words.specs.Answers.{no_imports, Tells, Refuses, RefusesFirst}
+use Rattle.template_check.specs.Judged.{IsFaultless}
 use Rattle.template_check.specs.Built.{AreSound}
 use Rattle.process_rules.specs.Calling.{before_this}
 use Rattle.template_check.specs.Compiling.{HasTree, IsNamedBy}
@@ -113,6 +113,7 @@ pub record IsAnsweredBy (text : List ℕ) (answer : Answer) (ts : List Template)
   pub sound : AreSound ts
   pub answers : AnswersLibrary answer ts behind
 
--- the answer to a text that has an end: the refusal of a rule, or the answer over its processes
+-- the answer to a text that has an end: the refusal of the first rule that it breaks, or it breaks none, and this is the answer
+-- over its processes
 abbrev pub AnswersText : List ℕ → Answer → List Numbered → Type 0
-AnswersText text answer behind = ((fault : RuleFault) × RefusesRule answer fault) ⊎ (ts : List Template) × IsAnsweredBy text answer ts behind
+AnswersText text answer behind = RefusesFirst text answer ⊎ (IsFaultless no_imports text × (ts : List Template) × IsAnsweredBy text answer ts behind)

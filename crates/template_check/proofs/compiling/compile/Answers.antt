@@ -12,9 +12,9 @@ returns-in_err-tree-clause-judged c = λ indexed.
 pub returns-in-Ok-clause-judged : goal.returns-in-Ok-clause-judged
 returns-in-Ok-clause-judged c = λ indexed.
     let none : IsFirstBroken (later_rules c.args.earlier.now.library c.in_ok-tree.tree.items) None = rw c.in-Ok.is at (c.in_ok-compiled.ensures.first indexed) in
-    record { tree = c.in_ok-tree.tree; has = c.in_ok-tree.ensures.tree; none = none }
+    record { short = c.in_ok-tree.ensures.short; tree = c.in_ok-tree.tree; has = c.in_ok-tree.ensures.tree; none = none }
 
 pub returns-clause-judged : goal.returns-clause-judged
 returns-clause-judged c = λ indexed.
     let first : IsFirstBroken (later_rules c.args.earlier.now.library c.in_ok-tree.tree.items) (Some (c.in-Err.rule, c.in-Err.place)) = rw c.in-Err.is at (c.in_ok-compiled.ensures.first indexed) in
-    refused_judged c.args.earlier.now.library c.args.text.now c.fault.result c.in-Err.rule c.in-Err.place c.in_ok-tree.tree c.in_ok-tree.ensures.tree first c.fault.ensures
+    refused_judged c.args.earlier.now.library c.args.text.now c.fault.result c.in-Err.rule c.in-Err.place c.in_ok-tree.tree c.in_ok-tree.ensures.short c.in_ok-tree.ensures.tree first c.fault.ensures
