@@ -28,6 +28,8 @@ use Rattle.navigator.specs.Items.{Entry, stand, entry_at}
 use Rattle.navigator.specs.Serving.{Served}
 use Rattle.navigator.specs.Showing.{note_in}
 use Rattle.navigator.specs.Views.{Shows}
+use Rattle.navigator.specs.declared.instance.HoldChange.{HoldChange}
+use Rattle.navigator.specs.declared.instance.HoldChange.TheVariants as hold
 use Rattle.navigator.specs.declared.instance.Instance.{Instance}
 use Rattle.recover_queue.specs.Queues.{queue, with_queue, root_of}
 use Rattle.root_laws.proofs.GoesOn.{holds_right, stops_right, mode_right, completes_right, turns_right, requeued, imports_right, starts_right}
@@ -168,12 +170,12 @@ module _ (c c' : Core) (root : ℕ) (h : List Event) (was : (i : Instance) → i
   quietly h' i i' live live' none template same right =
       still c c' given c.queues queues refl some_ library root h h' i i' live live' template same (ap (filter (λ m. root_of m == root)) none) (λ n. refl) (was i live) right
 
-  pub held : (item : Path) (b : Bool) → BecomesQuietly (HoldsIn (templates c)) given (instance_of c root) (instance_of c' root)
+  pub held : (item : Path) (change : HoldChange) (b : Bool) → BecomesQuietly (HoldsIn (templates c) item change) given (instance_of c root) (instance_of c' root)
       → (i' : Instance) → instance_of c' root ≡ Some i' → IsRightRoot c' root (Held item.parts b ∷ h) i'
-  held item b becomes i' live' =
-      let found = if_live (HoldsIn (templates c)) given (instance_of c root) (instance_of c' root) becomes.0 i' live' in
+  held item change b becomes i' live' =
+      let found = if_live (HoldsIn (templates c) item change) given (instance_of c root) (instance_of c' root) becomes.0 i' live' in
       quietly (Held item.parts b ∷ h) found.0 i' found.1 live' becomes.1 (ap (λ (u : Instance). u.template) found.2.kept) (ap (λ (u : Instance). u.root) found.2.kept)
-      (holds_right (templates c) (note_queue c root) h (messages_in c.queues root) found.0 i' (was found.0 found.1).right item.parts b found.2)
+      (holds_right (templates c) (note_queue c root) h (messages_in c.queues root) found.0 i' (was found.0 found.1).right item change b found.2)
 
   pub suspended : (b : Bool) → BecomesQuietly (λ i i'. i' ≡ record i { suspended = b }) given (instance_of c root) (instance_of c' root)
       → (i' : Instance) → instance_of c' root ≡ Some i' → IsRightRoot c' root h i'
@@ -355,12 +357,12 @@ module _ (c c' : Core) (runs : ℕ → List Event) (are : AreRight c runs) where
   on_none given same none queues some_ library root i' live' = stays c c' root (runs root) (are root) given queues some_ library none (same root) i' live'
 
   -- one that holds an item, or gives it back
-  on_item : (item : Path) (b : Bool) (given : List Message) → ChangesRoot item.root (BecomesQuietly (HoldsIn (templates c)) given) c c'
+  on_item : (item : Path) (change : HoldChange) (b : Bool) (given : List Message) → ChangesRoot item.root (BecomesQuietly (HoldsIn (templates c) item change) given) c c'
       → c'.queues ≡ put_in (queue_now c') given c.queues → 1 ≤ length c.queues → Agrees (templates c) (templates c') → AreOf item.root given
       → (root : ℕ) (i' : Instance) → instance_of c' root ≡ Some i' → IsRightRoot c' root (if item.root == root then Held item.parts b ∷ runs root else runs root) i'
-  on_item item b given changes queues some_ library of =
-      on_root item.root (λ h. Held item.parts b ∷ h) given (BecomesQuietly (HoldsIn (templates c)) given) changes queues some_ library of
-      (held c c' item.root (runs item.root) (are item.root) given queues some_ library item b changes.here)
+  on_item item change b given changes queues some_ library of =
+      on_root item.root (λ h. Held item.parts b ∷ h) given (BecomesQuietly (HoldsIn (templates c) item change) given) changes queues some_ library of
+      (held c c' item.root (runs item.root) (are item.root) given queues some_ library item change b changes.here)
 
   pub stays_right : (t : Transaction) (drives : Drives c t c') → MayBe c t drives.given c' → AreRight c' (runs_after c t runs)
   stays_right (Import text) drives may = on_none drives.given drives.roots.0 drives.roots.1 drives.queues may.queued may.library
@@ -377,17 +379,17 @@ module _ (c c' : Core) (runs : ℕ → List Event) (are : AreRight c runs) where
       (root_of message) runs (λ h. with_turn (note_now c message) h) are drives.roots.others of
       (λ other apart n. taken_there other c.queues number message low front (λ e. apart (sym e)) n)
       (turned_right c c' number message drives.given drives.queues may.queued may.library of low front (runs (root_of message)) (are (root_of message)) drives.roots.here)
-  stays_right (Claim item who) drives may = on_item item true drives.given drives.roots drives.queues may.queued may.library (none_of item.root drives.given drives.roots.here.1)
-  stays_right (Release item who) drives may = on_item item false drives.given drives.roots drives.queues may.queued may.library (none_of item.root drives.given drives.roots.here.1)
-  stays_right (Transfer item who to) drives may = on_item item true drives.given drives.roots drives.queues may.queued may.library (none_of item.root drives.given drives.roots.here.1)
-  stays_right (Take item take) drives may = on_item item true drives.given drives.roots drives.queues may.queued may.library (none_of item.root drives.given drives.roots.here.1)
+  stays_right (Claim item who) drives may = on_item item (hold.Person who) true drives.given drives.roots drives.queues may.queued may.library (none_of item.root drives.given drives.roots.here.1)
+  stays_right (Release item who) drives may = on_item item hold.Nobody false drives.given drives.roots drives.queues may.queued may.library (none_of item.root drives.given drives.roots.here.1)
+  stays_right (Transfer item who to) drives may = on_item item (hold.Person to) true drives.given drives.roots drives.queues may.queued may.library (none_of item.root drives.given drives.roots.here.1)
+  stays_right (Take item take) drives may = on_item item hold.Agent true drives.given drives.roots drives.queues may.queued may.library (none_of item.root drives.given drives.roots.here.1)
   stays_right (Done item who settings) drives may =
       on_root item.root (λ h. with_output item settings (item_of c item) h) drives.given _ drives.roots drives.queues may.queued may.library may.asked.1
       (completed_right c c' item settings drives.given drives.queues may.queued may.library may.asked.1 may.asked.0 (runs item.root) (are item.root) (item_of c item) refl drives.roots.here)
   stays_right (Force item settings) drives may =
       on_root item.root (λ h. with_output item settings (item_of c item) h) drives.given _ drives.roots drives.queues may.queued may.library may.asked.1
       (completed_right c c' item settings drives.given drives.queues may.queued may.library may.asked.1 may.asked.0 (runs item.root) (are item.root) (item_of c item) refl drives.roots.here)
-  stays_right (Restart item) drives may = on_item item false drives.given drives.roots drives.queues may.queued may.library (none_of item.root drives.given drives.roots.here.1)
+  stays_right (Restart item) drives may = on_item item hold.Nobody false drives.given drives.roots drives.queues may.queued may.library (none_of item.root drives.given drives.roots.here.1)
   stays_right (Suspend root) drives may =
       on_root root (λ h. h) drives.given _ drives.roots drives.queues may.queued may.library (none_of root drives.given drives.roots.here.1)
       (suspended c c' root (runs root) (are root) drives.given drives.queues may.queued may.library true drives.roots.here)

@@ -17,6 +17,7 @@ use Rattle.flow_model.specs.declared.transactions.Transaction.{Transaction}
 use Rattle.flow_model.specs.declared.transactions.Transaction.TheVariants.{Import, Start, Turn, Claim, Release, Transfer, Take, Done, Force, Restart, Suspend, Resume, Terminate, Delete, Clock}
 use Rattle.containers.specs.Settings.{filled}
 use Rattle.navigator.specs.Instances.{IsStarted, Starts}
+use Rattle.navigator.specs.declared.instance.HoldChange.TheVariants as hold
 use Rattle.navigator.specs.declared.instance.Instance.{Instance}
 use Rattle.process_rules.specs.Imports.{IsIndexed}
 use Rattle.template_store.specs.declared.store.TemplateStore.{TemplateStore}
@@ -109,11 +110,11 @@ starts_in (Ok (Some i)) ts ts' template g input root process version starter sta
 }
 
 -- a hold that changes is what a Release and a Transfer do
-pub released : {T E : Type 0} (r : Result T E) (c c' : Core) (item : Path) (who : Name) → OnOk r (HoldsItem c item c') → OnOk r (Drives c (Release item who) c')
+pub released : {T E : Type 0} (r : Result T E) (c c' : Core) (item : Path) (who : Name) → OnOk r (HoldsItem c item hold.Nobody c') → OnOk r (Drives c (Release item who) c')
 released (Ok x) c c' item who h = record { given = []; roots = h.roots; queues = h.queues; library = h.library; indexed = h.indexed }
 released (Err e) c c' item who h = tt
 
-pub transferred : {T E : Type 0} (r : Result T E) (c c' : Core) (item : Path) (who to : Name) → OnOk r (HoldsItem c item c') → OnOk r (Drives c (Transfer item who to) c')
+pub transferred : {T E : Type 0} (r : Result T E) (c c' : Core) (item : Path) (who to : Name) → OnOk r (HoldsItem c item (hold.Person to) c') → OnOk r (Drives c (Transfer item who to) c')
 transferred (Ok x) c c' item who to h = record { given = []; roots = h.roots; queues = h.queues; library = h.library; indexed = h.indexed }
 transferred (Err e) c c' item who to h = tt
 

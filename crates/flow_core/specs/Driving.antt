@@ -20,6 +20,8 @@ use Rattle.containers.specs.Settings.{filled}
 use Rattle.navigator.specs.Instances.{IsStarted}
 use Rattle.navigator.specs.Items.{Entry, entry_at, stand}
 use Rattle.navigator.specs.Reading.{place_of}
+use Rattle.navigator.specs.declared.instance.HoldChange.{HoldChange}
+use Rattle.navigator.specs.declared.instance.HoldChange.TheVariants as hold
 use Rattle.navigator.specs.declared.instance.Instance.{Instance}
 use Rattle.recover_queue.specs.Queues.{root_of as root_of_message, queue, with_queue}
 use Rattle.root_laws.specs.Becoming.{TakesIn, CompletesIn, HoldsIn}
@@ -130,13 +132,13 @@ abbrev pub Becomes : List Template → (Path → Option Entry) → Transaction �
 Becomes ts found (Import text) given before after = Stays given before after
 Becomes ts found (Start root process version starter key settings) given before after = BecomesStarted ts root process version starter settings given before after
 Becomes ts found (Turn queue message) given before after = IfLive (TakesIn ts message given) given before after
-Becomes ts found (Claim item who) given before after = BecomesQuietly (HoldsIn ts) given before after
-Becomes ts found (Release item who) given before after = BecomesQuietly (HoldsIn ts) given before after
-Becomes ts found (Transfer item who to) given before after = BecomesQuietly (HoldsIn ts) given before after
-Becomes ts found (Take item take) given before after = BecomesQuietly (HoldsIn ts) given before after
+Becomes ts found (Claim item who) given before after = BecomesQuietly (HoldsIn ts item (hold.Person who)) given before after
+Becomes ts found (Release item who) given before after = BecomesQuietly (HoldsIn ts item hold.Nobody) given before after
+Becomes ts found (Transfer item who to) given before after = BecomesQuietly (HoldsIn ts item (hold.Person to)) given before after
+Becomes ts found (Take item take) given before after = BecomesQuietly (HoldsIn ts item hold.Agent) given before after
 Becomes ts found (Done item who settings) given before after = BecomesCompleted ts item settings (found item) given before after
 Becomes ts found (Force item settings) given before after = BecomesCompleted ts item settings (found item) given before after
-Becomes ts found (Restart item) given before after = BecomesQuietly (HoldsIn ts) given before after
+Becomes ts found (Restart item) given before after = BecomesQuietly (HoldsIn ts item hold.Nobody) given before after
 Becomes ts found (Suspend root) given before after = BecomesQuietly (IsSuspended true) given before after
 Becomes ts found (Resume root) given before after = BecomesQuietly (IsSuspended false) given before after
 Becomes ts found (Terminate root) given before after = BecomesQuietly IsTerminated given before after
@@ -226,9 +228,9 @@ LibraryAfter t ts ts' = ts' ≡ ts
 
 -- ---- a transaction
 
--- the hold of an item changes, and nothing is put
-pub record HoldsItem (c : Core) (item : Path) (c' : Core) : Type 0 where
-  pub roots : ChangesRoot item.root (BecomesQuietly (HoldsIn (templates c)) []) c c'
+-- the hold of an item is changed so, and nothing is put
+pub record HoldsItem (c : Core) (item : Path) (change : HoldChange) (c' : Core) : Type 0 where
+  pub roots : ChangesRoot item.root (BecomesQuietly (HoldsIn (templates c) item change) []) c c'
   pub queues : c'.queues ≡ c.queues
   pub library : templates c' ≡ templates c
   pub indexed : IsIndexed c.store.catalog → IsIndexed c'.store.catalog

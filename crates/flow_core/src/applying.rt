@@ -10,6 +10,7 @@ ghost use Rattle.flow_model.specs.Containers.{fresh as fresh_of};
 ghost use Rattle.flow_model.specs.declared.transactions.Transaction.TheVariants as made;
 ghost use Rattle.flow_core.specs.Allowing.{CountsRoot};
 ghost use Rattle.flow_core.specs.Driving.{templates, IsVersionAt, IsVersionPlace, IsMade, IsSuspended, IsTerminated, IfLive, ChangesRoot, LibraryAfter, Drives, IsFrontOf, HoldsItem, CompletesItem, item_of, put_in, queue_now};
+ghost use Rattle.navigator.specs.declared.instance.HoldChange.TheVariants as holds;
 ghost use Rattle.recover_queue.specs.Queues.{root_of as root_of_message};
 ghost use Rattle.root_laws.specs.Becoming.{TakesIn, CompletesIn, HoldsIn};
 ghost use Rattle.flow_core.specs.Summaries.{summary, noted, next, with_transaction, with_root_of, without, kept_by, root_about, is_root, deleted, started};
@@ -175,7 +176,7 @@ impl Root {
     /// The hold of an item of the root changes; an agent gets the next take number of the item.
     fn change_hold(&mut self, library: &Library, item: &Path, change: HoldChange)
         ensures rest { self.new ≡ record self.old { instance = self.new.instance } }
-        ensures held { HoldsIn library.now.templates self.old.instance self.new.instance }
+        ensures held { HoldsIn library.now.templates item.now change self.old.instance self.new.instance }
     {
         let _take = self.instance.change_hold(library, item, change);
     }
@@ -475,7 +476,7 @@ impl Core {
     /// What a change of a hold does to its root, where that is live.
     fn hold_in_root(&mut self, item: &Path, change: HoldChange)
         ensures rest { self.new ≡ record self.old { live_roots = self.new.live_roots } }
-        ensures roots { ChangesRoot item.now.root (IfLive (HoldsIn (templates self.old)) []) self.old self.new }
+        ensures roots { ChangesRoot item.now.root (IfLive (HoldsIn (templates self.old) item.now change) []) self.old self.new }
     {
         if let Some(root) = self.live_roots.get_mut(&item.root) {
             root.change_hold(self.store.library(), item, change);
@@ -485,7 +486,7 @@ impl Core {
     /// Changes who holds an item.
     fn change_hold(&mut self, item: &Path, change: HoldChange) -> Result<(), AllocError>
         ensures rest { self.new ≡ record self.old { live_roots = self.new.live_roots; worklists = self.new.worklists } }
-        ensures roots { OnOk result (ChangesRoot item.now.root (IfLive (HoldsIn (templates self.old)) []) self.old self.new) }
+        ensures roots { OnOk result (ChangesRoot item.now.root (IfLive (HoldsIn (templates self.old) item.now change) []) self.old self.new) }
     {
         self.hold_in_root(item, change);
         self.list_item(item)
@@ -493,7 +494,7 @@ impl Core {
 
     fn hold_by(&mut self, item: &Path, who: &Name) -> Result<Note, AllocError>
         ensures kept { noted self.new ≡ noted self.old }
-        ensures held { OnOk result (HoldsItem self.old item.now self.new) }
+        ensures held { OnOk result (HoldsItem self.old item.now (holds.Person who.now) self.new) }
         ensures note { IfOk result (λ n. n ≡ notes.Fated (fate_now self.new item.now)) }
     {
         let who = who.copy(self.alloc)?;
@@ -503,7 +504,7 @@ impl Core {
 
     fn hold_by_agent(&mut self, item: &Path, take: u64) -> Result<Note, AllocError>
         ensures kept { noted self.new ≡ noted self.old }
-        ensures held { OnOk result (HoldsItem self.old item.now self.new) }
+        ensures held { OnOk result (HoldsItem self.old item.now holds.Agent self.new) }
         ensures note { IfOk result (λ n. n ≡ notes.Taken take) }
     {
         self.change_hold(item, HoldChange::Agent)?;
@@ -512,7 +513,7 @@ impl Core {
 
     fn give_back(&mut self, item: &Path) -> Result<Note, AllocError>
         ensures kept { noted self.new ≡ noted self.old }
-        ensures held { OnOk result (HoldsItem self.old item.now self.new) }
+        ensures held { OnOk result (HoldsItem self.old item.now holds.Nobody self.new) }
         ensures note { IfOk result (λ n. n ≡ notes.Fated (fate_now self.new item.now)) }
     {
         self.change_hold(item, HoldChange::Nobody)?;

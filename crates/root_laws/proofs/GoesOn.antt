@@ -11,7 +11,6 @@ use Rattle.flow_model.specs.declared.graphs.Template.{Template}
 use Rattle.flow_model.specs.declared.instances.Message.{Message}
 use Rattle.flow_model.specs.declared.instances.Fact.{Fact}
 use Rattle.flow_model.specs.declared.instances.Message.TheVariants.{Begin}
-use Rattle.flow_model.specs.declared.instances.Part.{Part}
 use Rattle.flow_model.specs.declared.instances.Path.{Path}
 use Rattle.flow_model.specs.declared.names.Name.{Name}
 use Rattle.library_laws.proofs.SameDue.{messages_kept}
@@ -26,6 +25,7 @@ use Rattle.navigator.specs.Giving.{root_named, AreOf, Gives}
 use Rattle.navigator.specs.Instances.{IsStarted}
 use Rattle.navigator.specs.Showing.{note_in}
 use Rattle.navigator.specs.Views.{Shows}
+use Rattle.navigator.specs.declared.instance.HoldChange.{HoldChange}
 use Rattle.navigator.specs.declared.instance.Instance.{Instance}
 use Rattle.view_laws.proofs.WholeRuns.{running_is}
 use Rattle.view_laws.specs.LegalRuns.{Awaits, IsLegal}
@@ -99,9 +99,9 @@ module _ (ts : List Template) (q : Note → ℕ) (h : List Event) (queued : Queu
   shows_same : i'.scope ≡ i.scope → Shows ts right.depth (seen (running h)) right.graph right.input i'.scope
   shows_same same = subst (λ s. Shows ts right.depth (seen (running h)) right.graph right.input s) (sym same) right.shows
 
-  pub holds_right : (item : List Part) (held : Bool) → HoldsIn ts i i' → IsRight ts q (Held item held ∷ h) queued i'
-  holds_right item held holds =
-      let e : Event = Held item held in
+  pub holds_right : (item : Path) (change : HoldChange) (held : Bool) → HoldsIn ts item change i i' → IsRight ts q (Held item.parts held ∷ h) queued i'
+  holds_right item change held holds =
+      let e : Event = Held item.parts held in
       let tells : TellsNothing e h = record { seen = refl; started = refl } in
       let legal : IsLegal the_root q (e ∷ h) = record { fronts = (right.legal.fronts, λ m takes. absurd (none-some m takes)); awaited = right.legal.awaited } in
       next_right e queued holds.kept refl refl legal

@@ -1,5 +1,5 @@
 -- What becomes of one root by an event, whatever is known in its scopes.
-use Rattle.std.specs.Prelude.{◌≡◌, true, false, Some, List, []}
+use Rattle.std.specs.Prelude.{◌≡◌, ℕ, true, false, Some, List, []}
 use Rattle.flow_model.specs.ScopeContainers.{graph_of}
 use Rattle.flow_model.specs.declared.graphs.Container.{Container}
 use Rattle.flow_model.specs.declared.graphs.Graph.{Graph}
@@ -7,7 +7,9 @@ use Rattle.flow_model.specs.declared.graphs.Template.{Template}
 use Rattle.flow_model.specs.declared.instances.Message.{Message}
 use Rattle.flow_model.specs.declared.instances.Path.{Path}
 use Rattle.navigator.specs.Giving.{GivesTaken, GivesCompleted}
+use Rattle.navigator.specs.Holding.{HoldsChanged}
 use Rattle.navigator.specs.Showing.{ShowsTaken, ShowsCompleted, StaysShown}
+use Rattle.navigator.specs.declared.instance.HoldChange.{HoldChange}
 use Rattle.navigator.specs.declared.instance.Instance.{Instance}
 
 -- it takes a message: a root that is terminated stays as it is and gives nothing, each other one goes on showing its view, and gives what came to be due
@@ -23,7 +25,8 @@ pub record CompletesIn (ts : List Template) (item : Path) (out : Container) (giv
   pub shows : (g : Graph) → graph_of ts i.template ≡ Some g → ShowsCompleted ts g item.parts out i.scope i'.scope
   pub gives : (g : Graph) → graph_of ts i.template ≡ Some g → GivesCompleted ts g item out i.scope given
 
--- an item of it is held, or given back
-pub record HoldsIn (ts : List Template) (i i' : Instance) : Type 0 where
+-- the hold of an item of it is changed so
+pub record HoldsIn (ts : List Template) (item : Path) (change : HoldChange) (i i' : Instance) : Type 0 where
   pub kept : i' ≡ record i { scope = i'.scope }
   pub shows : (g : Graph) → graph_of ts i.template ≡ Some g → StaysShown ts g i.scope i'.scope
+  pub sets : (g : Graph) → graph_of ts i.template ≡ Some g → (take : ℕ) × HoldsChanged ts item.parts change g i.scope i'.scope take

@@ -10,7 +10,6 @@ use Rattle.flow_model.specs.declared.graphs.Graph.{Graph}
 use Rattle.flow_model.specs.declared.graphs.Template.{Template}
 use Rattle.flow_model.specs.declared.instances.Message.{Message}
 use Rattle.flow_model.specs.declared.instances.Message.TheVariants.{Begin}
-use Rattle.flow_model.specs.declared.instances.Part.{Part}
 use Rattle.flow_model.specs.declared.instances.Path.{Path}
 use Rattle.flow_model.specs.declared.instances.Phase.TheVariants.{Ended}
 use Rattle.flow_model.specs.declared.names.Name.{Name}
@@ -20,6 +19,7 @@ use Rattle.navigator.specs.Giving.{root_named, AreOf}
 use Rattle.navigator.specs.Instances.{IsStarted}
 use Rattle.navigator.specs.Items.{Entry, stand, entry_at, phase_of}
 use Rattle.navigator.specs.Showing.{note_in}
+use Rattle.navigator.specs.declared.instance.HoldChange.{HoldChange}
 use Rattle.navigator.specs.declared.instance.Instance.{Instance}
 use Rattle.navigator.specs.declared.scopes.ScopeState.{out-ScopeState}
 use Rattle.root_laws.specs.Becoming.{TakesIn, CompletesIn, HoldsIn}
@@ -41,8 +41,8 @@ StartsRight =
 -- it stays right when an item of it is held or given back
 abbrev pub HoldsRight : Type 0
 HoldsRight =
-    (ts : List Template) (q : Note → ℕ) (h : List Event) (queued : Queued) (i i' : Instance) (item : List Part) (held : Bool)
-    → IsRight ts q h queued i → HoldsIn ts i i' → IsRight ts q (Held item held ∷ h) queued i'
+    (ts : List Template) (q : Note → ℕ) (h : List Event) (queued : Queued) (i i' : Instance) (item : Path) (change : HoldChange) (held : Bool)
+    → IsRight ts q h queued i → HoldsIn ts item change i i' → IsRight ts q (Held item.parts held ∷ h) queued i'
 
 -- when it is terminated
 abbrev pub StopsRight : Type 0
