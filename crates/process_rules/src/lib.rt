@@ -17,6 +17,6 @@ pub use callees::{mismatched_containers, unknown_processes};
 pub use catalog::Catalog;
 pub use counts::count_limit;
 pub use doers::{is_manual, unknown_people, wrong_performers};
-pub use numbers::{graph_numbers, number};
+pub use numbers::graph_numbers;
 pub use people::{Callee, Known};
 pub use sizes::{Shape, deep_processes, large_processes, shapes};

@@ -7,7 +7,6 @@ ghost use Rattle.text_graphs.specs.Texts.{activities_in};
 
 use crate::said::{Looked, in_conditions};
 use flow_model::{ActivityTree, AttrTree, ControlTree, JoinTree, NumberAt};
-use leaf_rules::Structures;
 use std::alloc::{AllocError, Global};
 use text_graphs::{Scope, lesser};
 
@@ -128,14 +127,4 @@ pub fn graph_numbers(alloc: Global, scopes: &[Scope<'_>]) -> Result<Option<u32>,
         least = lesser(least, wrong_in_graph(alloc, scope)?);
     }
     Ok(least)
-}
-
-/// Rule 23: a number is out of its range.
-pub fn number(
-    alloc: Global,
-    structures: &Structures<'_>,
-    scopes: &[Scope<'_>],
-) -> Result<Option<u32>, AllocError> {
-    let in_graphs = graph_numbers(alloc, scopes)?;
-    Ok(lesser(structures.count_fault(), in_graphs))
 }

@@ -67,7 +67,7 @@ module _ (library : Library) (processes : List ProcessTree) (x y : Leafing) (cal
       (misfit r.0 p (All-contains (λ (a : ActivityTree). AgreeOn x y a.input.name a.output.name) (activities_in g.elements) r.0 h.activities r.1) (called calls g.process r.0.work) r.2)
 
 module _ (items : List ItemTree) (scopes : List Scope) (graphs : AreGraphsOf items (graphs_in scopes)) (wanted there : Leafing) (all : All (λ s. HasContainers wanted there (graph_at s)) scopes) where
-  of_graph : (g : GraphAt) → IsGraphOf items g → HasContainers wanted there g
+  pub of_graph : (g : GraphAt) → IsGraphOf items g → HasContainers wanted there g
   of_graph g is = All-contains (HasContainers wanted there) (graphs_in scopes) g (All-map (HasContainers wanted there) graph_at scopes all) (graphs.whole g is)
 
   of_process : (number : ℕ) (p : ProcessTree) → slice_get (processes_in items) number ≡ Some p → AgreeOn there wanted p.input.name p.output.name

@@ -12,7 +12,10 @@ use Rattle.process_rules.specs.Imports.{IsIndexed}
 use Rattle.process_rules.specs.Knowing.{place_named}
 use Rattle.process_rules.specs.declared.catalog.Catalog.{Catalog}
 use Rattle.template_check.specs.Meant.{Reading, AreMeantFrom}
-use Rattle.text_graphs.specs.Texts.{processes_in}
+use Rattle.leaf_rules.specs.StructureLeaves.{Leafing, leaves_in}
+use Rattle.leaf_rules.specs.Tables.{HasContainers}
+use Rattle.text_graphs.specs.Graphs.{GraphAt, IsGraphOf}
+use Rattle.text_graphs.specs.Texts.{processes_in, structures_in}
 
 -- this is the tree of a text
 pub record HasTree (text : List ℕ) (tree : Tree) : Type 0 where
@@ -28,9 +31,14 @@ process_names items = map (λ p. p.name.name) (processes_in items)
 abbrev pub template_names : List Template → List (List ℕ)
 template_names ts = map (λ t. t.name) ts
 
--- a reading of the names of a text, behind a library: a process is the one that stands before in the text, else the newest
--- that was imported, where the index of the library is right
+-- leaves that are those of the structures of a text, for the containers of its graphs and of their activities
+abbrev pub AreLeavesOf : List ItemTree → Leafing → Type 0
+AreLeavesOf items leaves = (g : GraphAt) → IsGraphOf items g → HasContainers (leaves_in (structures_in items)) leaves g
+
+-- a reading of the names of a text, behind a library: the structures of containers have the leaves of their members; a process
+-- is the one that stands before in the text, else the newest that was imported, where the index of the library is right
 pub record IsReading (earlier : Catalog) (items : List ItemTree) (reading : Reading) : Type 0 where
+  pub leaves : AreLeavesOf items reading.leaves
   pub places : IsIndexed earlier → (number : ℕ) (name : List ℕ) → reading.place number name ≡ place_named earlier (processes_in items) number name
 
 -- templates that a tree compiles to behind a library: sound, named as the processes, and their graphs meant by them

@@ -10,7 +10,7 @@ ghost use Rattle.process_rules.specs.Imports.{IsIndexed};
 ghost use Rattle.process_rules.specs.Knowing.{IsKnowing};
 ghost use Rattle.process_rules.specs.Shapes.{shapes_of, told_shape};
 ghost use Rattle.template_check.specs.Built.{AreSoundBehind, AreSoundWithin, IsSound};
-ghost use Rattle.template_check.specs.Compiling.{AreBuilt, HasTree, IsNamedBy, IsMeantBy};
+ghost use Rattle.template_check.specs.Compiling.{AreBuilt, AreLeavesOf, HasTree, IsNamedBy, IsMeantBy};
 ghost use Rattle.template_check.specs.Judged.{line_at, IsFault, IsEarlyFault, IsJudged};
 ghost use Rattle.template_check.specs.Rules.{fault_in, from_callees, from_connectors, from_leaves, from_sizes, later_rules, IsFirstBroken};
 ghost use Rattle.text_graphs.specs.Blocks.{lists_of, IsCovered};
@@ -96,6 +96,7 @@ fn built<'a>(
     shapes: &[Shape],
 ) -> Result<Compiled, BuildFault>
     requires sound { All (λ p. IsSound p.elements) (processes_in tree.now.items) }
+    requires leaves { AreLeavesOf tree.now.items (table_leaves builder.now.table) }
     requires knowing { IsKnowing builder.now.known (processes_in tree.now.items) }
     ensures { IfOk result (λ compiled. AreBuilt builder.now.known.catalog.now tree.now.items compiled.templates) }
 {
@@ -138,6 +139,7 @@ fn sized_and_built<'a>(
     requires graphs { AreGraphsOf tree.now.items (graphs_in scopes.now) }
     requires sound { AreSoundWithin scopes.now (processes_in tree.now.items) }
     requires structures { behind builder.now.table.structures.definitions.items ≡ structures_in tree.now.items }
+    requires leaves { AreLeavesOf tree.now.items (table_leaves builder.now.table) }
     requires knowing { IsKnowing builder.now.known (processes_in tree.now.items) }
     requires shapes { IsIndexed builder.now.known.catalog.now → shapes.now ≡ map told_shape (shapes_of builder.now.known.catalog.now.library (processes_in tree.now.items)) }
     ensures built { IfOk result (λ judged. IfOk judged (λ compiled. AreBuilt builder.now.known.catalog.now tree.now.items compiled.templates)) }

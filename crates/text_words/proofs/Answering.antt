@@ -135,6 +135,7 @@ meant_alone text old new indexed empty adds =
       tree = meant.tree;
       has = meant.has;
       reading = meant.reading;
+      leaves = meant.read.leaves;
       places = λ number name. meant.read.places indexed number name ∙ place_alone old (processes_in meant.tree.items) number name empty;
       meant = meant.meant;
     })

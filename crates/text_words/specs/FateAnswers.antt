@@ -18,7 +18,7 @@ use Rattle.text_words.specs.Answers.{no_imports, Tells, Refuses, RefusesFirst}
 use Rattle.template_check.specs.Judged.{IsFaultless}
 use Rattle.template_check.specs.Built.{AreSound}
 use Rattle.process_rules.specs.Calling.{before_this}
-use Rattle.template_check.specs.Compiling.{HasTree, IsNamedBy}
+use Rattle.template_check.specs.Compiling.{AreLeavesOf, HasTree, IsNamedBy}
 use Rattle.process_rules.specs.Imports.{last_place}
 use Rattle.template_check.specs.Meant.{Reading, AreMeantFrom}
 use Rattle.text_graphs.specs.Texts.{processes_in}
@@ -98,11 +98,13 @@ abbrev pub number_named : List ProcessTree → ℕ → List ℕ → Option ℕ
 number_named processes number name = before_this number (last_place (λ p. bytes_eq p.name.name name) processes)
 
 -- the graphs of these templates are what a text means behind an empty library: there is one reading of its names, the same
--- for all its processes, by which each is meant, and a process stands at the place of its number
+-- for all its processes, by which each is meant; its leaves are those of the structures, and a process stands at the place of
+-- its number
 pub record IsMeantAlone (text : List ℕ) (ts : List Template) : Type 0 where
   pub tree : Tree
   pub has : HasTree text tree
   pub reading : Reading
+  pub leaves : AreLeavesOf tree.items reading.leaves
   pub places : (number : ℕ) (name : List ℕ) → reading.place number name ≡ number_named (processes_in tree.items) number name
   pub meant : AreMeantFrom reading 0 (processes_in tree.items) ts
 

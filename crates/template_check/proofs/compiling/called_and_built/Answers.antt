@@ -2,8 +2,12 @@ use Rattle.std.proofs.Common.{◌++◌, Some, None, subst}
 use Rattle.std.specs.Prelude.{IfOk}
 use Rattle.process_rules.specs.Imports.{IsIndexed}
 use Rattle.process_rules.specs.declared.catalog.Catalog.{Catalog}
+use Rattle.leaf_rules.specs.Leaves.{table_leaves}
+use Rattle.leaf_rules.specs.StructureLeaves.{leaves_in}
+use Rattle.text_graphs.specs.Texts.{structures_in}
 use Rattle.template_check.specs.Compiling.{AreBuilt}
 use Rattle.template_check.specs.Rules.{fault_in, rules_on_callees, rules_on_people, from_sizes, IsFirstBroken}
+use Rattle.template_check.proofs.Fitting.{of_graph}
 use Rattle.template_check.proofs.FirstBroken.{none_then, some_then, then_first}
 use Rattle.template_check.proofs.compiling.called_and_built.Goals as goal
 
@@ -23,6 +27,11 @@ returns-in-Some-2-clause-first c = λ indexed.
     let none = subst (λ (k : Catalog). IsIndexed k → IsFirstBroken (rules_on_callees k.library items) None) c.in_ok-known.ensures.catalog c.in_default.ensures indexed in
     let here = subst (λ (k : Catalog). IsIndexed k → IsFirstBroken (rules_on_people k.library items) (Some c.in-Some-2.fault)) c.in_ok-known.ensures.catalog people indexed in
     none_then (rules_on_callees library items) (rules_on_people library items ++ from_sizes library items) (Some c.in-Some-2.fault) none (some_then (rules_on_people library items) (from_sizes library items) c.in-Some-2.fault here)
+
+pub sized_and_built-requires-clause-leaves : goal.sized_and_built-requires-clause-leaves
+sized_and_built-requires-clause-leaves c =
+    let items = c.args.tree.now.items in
+    of_graph items c.args.scopes.now c.requires.graphs (leaves_in (structures_in items)) (table_leaves c.args.table) c.requires.leaves
 
 pub returns-clause-built : goal.returns-clause-built
 returns-clause-built c =

@@ -1,11 +1,23 @@
-use Rattle.std.proofs.Common.{inl, inr, refl}
+use Rattle.std.proofs.Common.{inl, inr, refl, subst}
 use Rattle.std.proofs.lemmas.Result.{IfOk-weaker}
+use Rattle.flow_model.specs.declared.graphs.Library.{Library}
+use Rattle.template_check.specs.Judged.{IsFaultless}
 use Rattle.text_words.specs.Answers.{AnswersTree, RefusesRule}
 use Rattle.text_words.specs.declared.check.Answer.{Answer}
+use Rattle.text_words.proofs.Judging.{refuses_first}
 use Rattle.text_words.proofs.check.judged.Goals as goal
 
 pub returns-in-Err-Rule : goal.returns-in-Err-Rule
-returns-in-Err-Rule c = ?
+returns-in-Err-Rule c =
+    let fault = c.in-Err-Rule.fault in
+    IfOk-weaker c.rule_refusal.result (λ (answer : Answer). RefusesRule answer fault) (AnswersTree c.args.text.now)
+    (λ (answer : Answer) h. inl (refuses_first c.new.result.library c.args.text.now fault answer c.new.ensures.empty (c.in-Err-Rule.ensures.judged c.new.ensures.indexed) h)) c.rule_refusal.ensures
 
 pub returns-in_ok-canonical-in-Ok-syntax_tree : goal.returns-in_ok-canonical-in-Ok-syntax_tree
-returns-in_ok-canonical-in-Ok-syntax_tree c = ?
+returns-in_ok-canonical-in-Ok-syntax_tree c =
+    inr (record {
+      faultless = subst (λ (l : Library). IsFaultless l c.args.text.now) c.new.ensures.empty (c.in-Ok.ensures.judged c.new.ensures.indexed);
+      tree = c.in-Ok-syntax_tree.tree;
+      has = c.in-Ok-syntax_tree.ensures.tree;
+      tells = record { text = c.in_ok-canonical-in-Ok-syntax_tree.ensures; told = refl };
+    })
