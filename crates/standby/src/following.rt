@@ -10,6 +10,7 @@ ghost use Rattle.flow_session.specs.Runs.{KeepsOrServes};
 ghost use Rattle.flow_session.specs.Serving.{Makes};
 ghost use Rattle.flow_session.specs.Stopping.{IsStopCause};
 ghost use Rattle.standby.specs.Endings.{FollowEnd};
+ghost use Rattle.standby.specs.Fronts.{FrontJudged};
 
 use crate::blocks::Blocks;
 use crate::frames::{END, FRAME, FRONT, Front, agrees, front_of, length_of};
@@ -123,7 +124,8 @@ impl<D: Disk + Drop> Standby<D> {
 
     /// Judges the front of a stream.
     fn judge_front(&self, bytes: &[u8]) -> Result<Front, FollowStop>
-        ensures { IfErr result (λ stop. (source disk : ℕ) → FollowEnd source source disk disk stop) }
+        ensures judged { FrontJudged (summary self.now.core) bytes.now result }
+        ensures cause { IfErr result (λ stop. (source disk : ℕ) → FollowEnd source source disk disk stop) }
     {
         if !agrees(bytes) {
             return Err(FollowStop::Frame(0));

@@ -27,4 +27,4 @@ returns-in_err-front-clause-cause g c =
     let new = g.S.Source.faults c.read.new.src in
     let disk = g.D.Disk.faults c.args.self.now.journal.disk in
     let stop = c.in_err-front.field-0.0 in
-    stops (λ _. (new ≡ old) × (disk ≡ disk)) (FollowEnd old new disk disk) c.from_residual-in_err-front.result stop c.from_residual-in_err-front.ensures.1 (end_since old new new disk disk disk stop c.in_ok-read.ensures refl (c.in_err-front.ensures new disk))
+    stops (λ _. (new ≡ old) × (disk ≡ disk)) (FollowEnd old new disk disk) c.from_residual-in_err-front.result stop c.from_residual-in_err-front.ensures.1 (end_since old new new disk disk disk stop c.in_ok-read.ensures refl (c.in_err-front.ensures.cause new disk))
