@@ -1,2 +1,4 @@
 pub mod Taken
 mod Growing
+mod Ended
+mod Fronts

@@ -1,6 +1,7 @@
--- Why a store isn't shipped or a stream not followed: a fault of the sink or the source only where its count rose.
+-- Why a store isn't shipped or a stream not followed: a fault of the sink, the source or the disk only where its count rose.
 use Rattle.std.specs.Prelude.{◌≡◌, ◌<◌, ℕ}
 use Rattle.flow_io.specs.Causes.{Rose}
+use Rattle.flow_session.specs.Stopping.{IsOpenCause}
 use Rattle.standby.specs.declared.stops.ShipStop.{ShipStop}
 use Rattle.standby.specs.declared.stops.ShipStop.TheVariants as ship
 use Rattle.standby.specs.declared.stops.FollowStop.{FollowStop}
@@ -22,14 +23,14 @@ PutEnd before now (ship.Ahead number) = ⊥
 PutEnd before now ship.WriteFault = Rose before now
 PutEnd before now ship.NoMemory = now ≡ before
 
--- how following stops
-abbrev pub FollowEnd : ℕ → ℕ → FollowStop → Type 0
-FollowEnd before now (follow.Store stop) = now ≡ before
-FollowEnd before now (follow.Frame place) = now ≡ before
-FollowEnd before now (follow.Cut number) = now ≡ before
-FollowEnd before now follow.Other = now ≡ before
-FollowEnd before now (follow.Gap number) = now ≡ before
-FollowEnd before now (follow.NotAllowed number) = now ≡ before
-FollowEnd before now follow.ReadFault = Rose before now
-FollowEnd before now follow.TooLong = now ≡ before
-FollowEnd before now follow.NoMemory = now ≡ before
+-- How following stops, by the counts of the faults of its source and of its disk: each stayed, but that of the one that failed.
+abbrev pub FollowEnd : ℕ → ℕ → ℕ → ℕ → FollowStop → Type 0
+FollowEnd source source' disk disk' (follow.Store stop) = (source' ≡ source) × IsOpenCause disk disk' stop
+FollowEnd source source' disk disk' (follow.Frame place) = (source' ≡ source) × (disk' ≡ disk)
+FollowEnd source source' disk disk' (follow.Cut number) = (source' ≡ source) × (disk' ≡ disk)
+FollowEnd source source' disk disk' follow.Other = (source' ≡ source) × (disk' ≡ disk)
+FollowEnd source source' disk disk' (follow.Gap number) = (source' ≡ source) × (disk' ≡ disk)
+FollowEnd source source' disk disk' (follow.NotAllowed number) = (source' ≡ source) × (disk' ≡ disk)
+FollowEnd source source' disk disk' follow.ReadFault = Rose source source' × (disk' ≡ disk)
+FollowEnd source source' disk disk' follow.TooLong = (source' ≡ source) × (disk' ≡ disk)
+FollowEnd source source' disk disk' follow.NoMemory = (source' ≡ source) × (disk' ≡ disk)

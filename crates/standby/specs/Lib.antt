@@ -1,3 +1,5 @@
 pub mod Endings
 pub mod Streams
 pub mod Shipped
+pub mod Texts
+pub mod Fronts

@@ -1,5 +1,5 @@
 //! A source read in blocks.
-ghost use Rattle.std.specs.Prelude.{◌≡◌, ◌≤◌, ◌<◌, vec_len, length, IfOk, MatchResult};
+ghost use Rattle.std.specs.Prelude.{◌≡◌, ◌≤◌, ◌<◌, ℕ, vec_len, length, IfOk, MatchResult};
 ghost use Rattle.standby.specs.Endings.{FollowEnd};
 
 use crate::stops::FollowStop;
@@ -43,7 +43,7 @@ impl Blocks {
 
     /// Whether there is a byte more; takes the next block where none is held.
     pub fn has_more<S: Source>(&mut self, src: &mut S) -> Result<bool, FollowStop>
-        ensures { MatchResult result (λ _. S.faults src.new ≡ S.faults src.old) (FollowEnd (S.faults src.old) (S.faults src.new)) }
+        ensures { MatchResult result (λ _. S.faults src.new ≡ S.faults src.old) (λ stop. (disk : ℕ) → FollowEnd (S.faults src.old) (S.faults src.new) disk disk stop) }
     {
         if self.from < self.to {
             return Ok(true);
@@ -79,7 +79,7 @@ impl Blocks {
         most: usize,
         out: &mut Vec<u8>,
     ) -> Result<usize, FollowStop>
-        ensures cause { MatchResult result (λ _. S.faults src.new ≡ S.faults src.old) (FollowEnd (S.faults src.old) (S.faults src.new)) }
+        ensures cause { MatchResult result (λ _. S.faults src.new ≡ S.faults src.old) (λ stop. (disk : ℕ) → FollowEnd (S.faults src.old) (S.faults src.new) disk disk stop) }
         ensures bound { IfOk result (λ n. n ≤ most) }
     {
         if !self.has_more(src)? {
@@ -98,7 +98,7 @@ impl Blocks {
         count: usize,
         out: &mut Vec<u8>,
     ) -> Result<bool, FollowStop>
-        ensures { MatchResult result (λ _. S.faults src.new ≡ S.faults src.old) (FollowEnd (S.faults src.old) (S.faults src.new)) }
+        ensures { MatchResult result (λ _. S.faults src.new ≡ S.faults src.old) (λ stop. (disk : ℕ) → FollowEnd (S.faults src.old) (S.faults src.new) disk disk stop) }
     {
         out.clear();
         let mut missing = count;

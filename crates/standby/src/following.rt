@@ -8,7 +8,9 @@ ghost use Rattle.flow_session.specs.Histories.{StandsFor};
 ghost use Rattle.flow_session.specs.Keeping.{IsOpen};
 ghost use Rattle.flow_session.specs.Runs.{KeepsOrServes};
 ghost use Rattle.flow_session.specs.Serving.{Makes};
+ghost use Rattle.flow_session.specs.Stopping.{IsStopCause};
 ghost use Rattle.standby.specs.Endings.{FollowEnd};
+ghost use Rattle.standby.specs.Fronts.{FrontJudged};
 
 use crate::blocks::Blocks;
 use crate::frames::{END, FRAME, FRONT, Front, agrees, front_of, length_of};
@@ -47,7 +49,8 @@ fn follow_from<S: Source, D: Disk + Drop>(
     disk: D,
 ) -> (Result<Followed, FollowStop>, D)
     requires open { D.tells → IsOpen D.seen D.images log disk (summary core) }
-    ensures { Makes D.tells D.moment D.left_since disk result.1 (summary core) (λ s. IsOk result.0 → D.tells → (c : Image) → D.images result.1 c → StandsFor s c) }
+    ensures makes { Makes D.tells D.moment D.left_since disk result.1 (summary core) (λ s. IsOk result.0 → D.tells → (c : Image) → D.images result.1 c → StandsFor s c) }
+    ensures cause { MatchResult result.0 (λ _. (S.faults src.new ≡ S.faults src.old) × (D.faults result.1 ≡ D.faults disk)) (FollowEnd (S.faults src.old) (S.faults src.new) (D.faults disk) (D.faults result.1)) }
 {
     let mut standby = Standby {
         alloc,
@@ -67,7 +70,7 @@ fn follow_from<S: Source, D: Disk + Drop>(
 
 /// Why following ends where the journal keeps no record.
 fn unkept(stop: Stop) -> FollowStop
-    ensures { (count : ℕ) → FollowEnd count count result }
+    ensures { (source disk disk' : ℕ) → IsStopCause disk disk' stop → FollowEnd source source disk disk' result }
 {
     match stop {
         Stop::StoreFault => FollowStop::Store(LogStop::StoreFault),
@@ -82,7 +85,7 @@ impl<D: Disk + Drop> Standby<D> {
         requires spelled { record_bytes numbered.number numbered.transaction ≡ payload.now }
         ensures kept { OnOk result (D.tells → IsOpen D.seen D.images self.new.journal.log self.new.journal.disk (summary self.new.core)) }
         ensures makes { Makes D.tells D.moment D.left_since self.old.journal.disk self.new.journal.disk (summary self.old.core) (λ s. OnOk result (summary self.new.core ≡ s)) }
-        ensures cause { IfErr result (λ stop. (count : ℕ) → FollowEnd count count stop) }
+        ensures cause { MatchResult result (λ _. D.faults self.new.journal.disk ≡ D.faults self.old.journal.disk) (λ stop. (source : ℕ) → FollowEnd source source (D.faults self.old.journal.disk) (D.faults self.new.journal.disk) stop) }
     {
         let Numbered {
             number,
@@ -109,7 +112,7 @@ impl<D: Disk + Drop> Standby<D> {
         requires open { D.tells → IsOpen D.seen D.images self.old.journal.log self.old.journal.disk (summary self.old.core) }
         ensures kept { OnOk result (D.tells → IsOpen D.seen D.images self.new.journal.log self.new.journal.disk (summary self.new.core)) }
         ensures makes { Makes D.tells D.moment D.left_since self.old.journal.disk self.new.journal.disk (summary self.old.core) (λ s. OnOk result (summary self.new.core ≡ s)) }
-        ensures cause { IfErr result (λ stop. (count : ℕ) → FollowEnd count count stop) }
+        ensures cause { MatchResult result (λ _. D.faults self.new.journal.disk ≡ D.faults self.old.journal.disk) (λ stop. (source : ℕ) → FollowEnd source source (D.faults self.old.journal.disk) (D.faults self.new.journal.disk) stop) }
     {
         match decode(self.alloc, payload) {
             Ok(numbered) if numbered.number == number => self.take(numbered, payload),
@@ -121,7 +124,8 @@ impl<D: Disk + Drop> Standby<D> {
 
     /// Judges the front of a stream.
     fn judge_front(&self, bytes: &[u8]) -> Result<Front, FollowStop>
-        ensures { IfErr result (λ stop. (count : ℕ) → FollowEnd count count stop) }
+        ensures judged { FrontJudged (summary self.now.core) bytes.now result }
+        ensures cause { IfErr result (λ stop. (source disk : ℕ) → FollowEnd source source disk disk stop) }
     {
         if !agrees(bytes) {
             return Err(FollowStop::Frame(0));
@@ -148,6 +152,7 @@ impl<D: Disk + Drop> Standby<D> {
         requires open { D.tells → IsOpen D.seen D.images self.old.journal.log self.old.journal.disk (summary self.old.core) }
         ensures kept { OnOk result (D.tells → IsOpen D.seen D.images self.new.journal.log self.new.journal.disk (summary self.new.core)) }
         ensures makes { Makes D.tells D.moment D.left_since self.old.journal.disk self.new.journal.disk (summary self.old.core) (λ s. OnOk result (summary self.new.core ≡ s)) }
+        ensures cause { MatchResult result (λ _. (S.faults src.new ≡ S.faults src.old) × (D.faults self.new.journal.disk ≡ D.faults self.old.journal.disk)) (FollowEnd (S.faults src.old) (S.faults src.new) (D.faults self.old.journal.disk) (D.faults self.new.journal.disk)) }
     {
         let mut payload = Vec::new(self.alloc);
         'frames: for number in from.saturating_add(1)..u64::MAX {
@@ -166,6 +171,7 @@ impl<D: Disk + Drop> Standby<D> {
         requires open { D.tells → IsOpen D.seen D.images self.old.journal.log self.old.journal.disk (summary self.old.core) }
         ensures kept { OnOk result (D.tells → IsOpen D.seen D.images self.new.journal.log self.new.journal.disk (summary self.new.core)) }
         ensures makes { Makes D.tells D.moment D.left_since self.old.journal.disk self.new.journal.disk (summary self.old.core) (λ s. OnOk result (summary self.new.core ≡ s)) }
+        ensures cause { MatchResult result (λ _. (S.faults src.new ≡ S.faults src.old) × (D.faults self.new.journal.disk ≡ D.faults self.old.journal.disk)) (FollowEnd (S.faults src.old) (S.faults src.new) (D.faults self.old.journal.disk) (D.faults self.new.journal.disk)) }
     {
         let mut blocks = Blocks::new(self.alloc)?;
         let mut bytes = Vec::new(self.alloc);
@@ -186,7 +192,7 @@ fn read_frame<S: Source>(
     number: u64,
     payload: &mut Vec<u8>,
 ) -> Result<bool, FollowStop>
-    ensures { MatchResult result (λ _. S.faults src.new ≡ S.faults src.old) (FollowEnd (S.faults src.old) (S.faults src.new)) }
+    ensures { MatchResult result (λ _. S.faults src.new ≡ S.faults src.old) (λ stop. (disk : ℕ) → FollowEnd (S.faults src.old) (S.faults src.new) disk disk stop) }
 {
     let place = blocks.place();
     let _ = blocks.read(src, 1, payload)?;
@@ -212,7 +218,7 @@ fn read_frame<S: Source>(
 
 /// Behind the end byte there is nothing.
 fn at_end<S: Source>(src: &mut S, blocks: &mut Blocks) -> Result<(), FollowStop>
-    ensures { MatchResult result (λ _. S.faults src.new ≡ S.faults src.old) (FollowEnd (S.faults src.old) (S.faults src.new)) }
+    ensures { MatchResult result (λ _. S.faults src.new ≡ S.faults src.old) (λ stop. (disk : ℕ) → FollowEnd (S.faults src.old) (S.faults src.new) disk disk stop) }
 {
     if blocks.has_more(src)? {
         return Err(FollowStop::Frame(blocks.place()));
@@ -231,7 +237,8 @@ pub fn follow<S: Source, D: Disk + Drop>(
     src: &mut S,
     disk: D,
 ) -> (Result<Followed, FollowStop>, D)
-    ensures { D.tells → Only (D.seen disk) (D.images disk) → KeepsOrServes D.tells D.moment D.left_since D.seen D.images disk result.1 (IsOk result.0) }
+    ensures kept { D.tells → Only (D.seen disk) (D.images disk) → KeepsOrServes D.tells D.moment D.left_since D.seen D.images disk result.1 (IsOk result.0) }
+    ensures cause { MatchResult result.0 (λ _. (S.faults src.new ≡ S.faults src.old) × (D.faults result.1 ≡ D.faults disk)) (FollowEnd (S.faults src.old) (S.faults src.new) (D.faults disk) (D.faults result.1)) }
 {
     let mut disk = disk;
     match open(alloc, &mut disk) {

@@ -1,5 +1,7 @@
 //! The front and the frames of a stream as bytes.
-ghost use Rattle.std.specs.Prelude.{◌≡◌, ◌++◌, length, OnOk};
+ghost use Rattle.std.specs.Prelude.{◌≡◌, ◌∷◌, ◌++◌, length, drop, OnOk, MatchOption, IsTrue, ◌↔◌};
+ghost use Rattle.std.specs.Int.{w64, to_be_bytes};
+ghost use Rattle.standby.specs.Fronts.{Agrees};
 ghost use Rattle.standby.specs.Streams.{front_bytes, frame_bytes, end_bytes};
 
 use std::alloc::AllocError;
@@ -28,6 +30,7 @@ pub struct Front {
 /// The number that eight bytes write.
 fn number_of(bytes: &[u8]) -> u64
     requires { length bytes.now ≡ 8 }
+    ensures { to_be_bytes w64 result ≡ bytes.now }
 {
     u64::from_be_bytes([
         bytes[0], bytes[1], bytes[2], bytes[3], bytes[4], bytes[5], bytes[6], bytes[7],
@@ -43,15 +46,16 @@ pub fn length_of(bytes: &[u8]) -> Option<u32> {
 }
 
 /// Whether bytes begin as the magic does, or are the front of it.
-pub fn agrees(bytes: &[u8]) -> bool {
-    bytes
-        .iter()
-        .zip(MAGIC.iter())
-        .all(|(have, want)| have == want)
+pub fn agrees(bytes: &[u8]) -> bool
+    ensures { IsTrue result ↔ Agrees bytes.now }
+{
+    bytes.starts_with(MAGIC) || MAGIC.starts_with(bytes)
 }
 
 /// What the front of a stream says behind its magic; None where it isn't whole.
-pub fn front_of(bytes: &[u8]) -> Option<Front> {
+pub fn front_of(bytes: &[u8]) -> Option<Front>
+    ensures { MatchOption result (length bytes.now ≡ 25 → ⊥) (λ front. drop 8 bytes.now ≡ front.queues ∷ to_be_bytes w64 front.limit ++ to_be_bytes w64 front.from) }
+{
     if bytes.len() != FRONT {
         return None;
     }

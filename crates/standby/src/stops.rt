@@ -1,5 +1,6 @@
 //! Why nothing, or no more, is shipped or followed.
 ghost use Rattle.std.specs.Prelude.{◌≡◌, ℕ};
+ghost use Rattle.flow_session.specs.Stopping.{IsOpenCause};
 ghost use Rattle.standby.specs.Endings.{ShipEnd, FollowEnd};
 ghost use Rattle.standby.specs.Shipped.{IsUnopened};
 
@@ -91,7 +92,7 @@ impl From<LogStop> for ShipStop {
 }
 
 impl From<LogStop> for FollowStop {
-    ghost from_gives = { λ _ e. (count : ℕ) → FollowEnd count count e };
+    ghost from_gives = { λ stop e. (source disk disk' : ℕ) → IsOpenCause disk disk' stop → FollowEnd source source disk disk' e };
 
     fn from(stop: LogStop) -> FollowStop {
         match stop {

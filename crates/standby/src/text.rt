@@ -1,11 +1,16 @@
 //! The text of what following came to, and of refusals.
+ghost use Rattle.std.specs.Prelude.{◌≡◌, IfOk};
+ghost use Rattle.standby.specs.Texts.{numbered_line, ship_refusal_line, follow_refusal_line, followed_line};
+
 use crate::following::Followed;
 use crate::stops::{FollowStop, ShipStop};
 use flow_text::decimal;
 use std::alloc::{AllocError, Global};
 
 /// A line of a word and a number.
-fn numbered(alloc: Global, word: &[u8], number: u64) -> Result<Vec<u8>, AllocError> {
+fn numbered(alloc: Global, word: &[u8], number: u64) -> Result<Vec<u8>, AllocError>
+    ensures { IfOk result (λ text. text.items ≡ numbered_line word.now number) }
+{
     let mut text = Vec::from_slice(alloc, word)?;
     text.push(b' ')?;
     decimal(&mut text, number)?;
@@ -14,7 +19,9 @@ fn numbered(alloc: Global, word: &[u8], number: u64) -> Result<Vec<u8>, AllocErr
 }
 
 /// The line of a refusal to ship; empty where the stop is no refusal of a stream's own.
-pub fn ship_refusal(alloc: Global, stop: ShipStop) -> Result<Vec<u8>, AllocError> {
+pub fn ship_refusal(alloc: Global, stop: ShipStop) -> Result<Vec<u8>, AllocError>
+    ensures { IfOk result (λ text. text.items ≡ ship_refusal_line stop) }
+{
     match stop {
         ShipStop::Gone(number) => numbered(alloc, b"no GONE", number),
         ShipStop::Ahead(number) => numbered(alloc, b"no AHEAD", number),
@@ -25,7 +32,9 @@ pub fn ship_refusal(alloc: Global, stop: ShipStop) -> Result<Vec<u8>, AllocError
 }
 
 /// The line of a refusal to follow; empty where the stop is no refusal of a stream's own.
-pub fn follow_refusal(alloc: Global, stop: FollowStop) -> Result<Vec<u8>, AllocError> {
+pub fn follow_refusal(alloc: Global, stop: FollowStop) -> Result<Vec<u8>, AllocError>
+    ensures { IfOk result (λ text. text.items ≡ follow_refusal_line stop) }
+{
     match stop {
         FollowStop::Frame(place) => numbered(alloc, b"no FRAME", place),
         FollowStop::Cut(number) => numbered(alloc, b"no CUT", number),
@@ -40,7 +49,9 @@ pub fn follow_refusal(alloc: Global, stop: FollowStop) -> Result<Vec<u8>, AllocE
 }
 
 /// The line of what following came to: the number of the transactions, and how many were taken.
-pub fn followed_text(alloc: Global, followed: Followed) -> Result<Vec<u8>, AllocError> {
+pub fn followed_text(alloc: Global, followed: Followed) -> Result<Vec<u8>, AllocError>
+    ensures { IfOk result (λ text. text.items ≡ followed_line followed) }
+{
     let mut text = Vec::from_slice(alloc, b"ok FOLLOW ")?;
     decimal(&mut text, followed.number)?;
     text.push(b' ')?;

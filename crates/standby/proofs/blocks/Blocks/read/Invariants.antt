@@ -1,4 +1,4 @@
-use Rattle.std.proofs.Common.{◌≡◌, ℕ}
+use Rattle.std.proofs.Common.{◌≡◌}
 use Rattle.standby.proofs.blocks.Blocks.read.Given as goal
 
 abbrev pub invariant-parts : goal.invariant-parts

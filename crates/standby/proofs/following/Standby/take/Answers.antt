@@ -1,8 +1,8 @@
-use Rattle.std.proofs.Common.{◌≡◌, ◌∙◌, ◌<◌, sym, ap, refl, rules}
+use Rattle.std.proofs.Common.{◌∙◌, ◌<◌, sym, ap, rules}
 use Rattle.flow_core.specs.Summaries.{summary}
 use Rattle.flow_txn.specs.Records.{record_bytes}
 use Rattle.flow_session.specs.Serving.{WithOrWithout}
-use Rattle.flow_session.proofs.Calls.{makes_one, makes_more, makes_last}
+use Rattle.flow_session.proofs.Calls.{makes_one}
 use Rattle.flow_session.proofs.Runs.{on_disk}
 use Rattle.standby.proofs.Taken.{untouched, next_one}
 use Rattle.standby.proofs.following.Standby.take.Goals as goal
@@ -39,3 +39,6 @@ returns-clause-makes g c =
     let one = next_one c.args.self.now.core.kept (summary c.args.self.now.core) (record { number = c.args.numbered.number; transaction = c.args.numbered.transaction }) lt c.in-Ok.ensures.follows in
     let spelled = sym c.requires.spelled ∙ ap (λ k. record_bytes k c.args.numbered.transaction) one.0 in
     makes_one g.D.Disk.tells g.D.Disk.moment g.D.Disk.left_since c.args.self.now.journal.disk c.keep.new.self.disk (summary c.args.self.now.core) c.args.numbered.transaction _ (λ told. on_disk (λ j. j.disk) g.D.Disk.moment g.D.Disk.left_since c.args.self.now.journal c.keep.new.self (WithOrWithout c.args.numbered.transaction (summary c.args.self.now.core)) (c.keep.ensures.any_moment (summary c.args.self.now.core) c.args.numbered.transaction told (c.requires.open told) spelled)) (c.in-Ok.ensures.taken ∙ one.1)
+
+pub returns-in-Err-clause-cause : goal.returns-in-Err-clause-cause
+returns-in-Err-clause-cause g c source = c.unkept.ensures source (g.D.Disk.faults c.args.self.now.journal.disk) (g.D.Disk.faults c.keep.new.self.disk) c.in-Err.ensures.cause

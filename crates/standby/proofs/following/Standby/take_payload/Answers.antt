@@ -1,10 +1,6 @@
-use Rattle.std.proofs.Common.{◌≡◌, ◌∙◌, ◌<◌, sym, ap, refl, rules}
+use Rattle.std.proofs.Common.{rules}
 use Rattle.flow_core.specs.Summaries.{summary}
-use Rattle.flow_txn.specs.Records.{record_bytes}
-use Rattle.flow_session.specs.Serving.{WithOrWithout}
-use Rattle.flow_session.proofs.Calls.{makes_one, makes_more, makes_last}
-use Rattle.flow_session.proofs.Runs.{on_disk}
-use Rattle.standby.proofs.Taken.{untouched, next_one}
+use Rattle.standby.proofs.Taken.{untouched}
 use Rattle.standby.proofs.following.Standby.take_payload.Goals as goal
 
 pub returns-in-Ok-2-clause-makes : goal.returns-in-Ok-2-clause-makes
