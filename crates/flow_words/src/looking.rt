@@ -12,7 +12,7 @@ use crate::script::{line_status, print};
 use crate::status::Status;
 use crate::stored::refuse;
 use deadlines::overdue_text;
-use explain::{activity_in, explain_word, verify_lines};
+use explain::{explain_word, named_activity, verify_lines};
 use flow_core::Core;
 use flow_disk::Disk;
 use flow_io::{Sink, Source};
@@ -48,7 +48,7 @@ pub fn explain_in<K: Sink, D: Disk>(
 ) -> Result<Status, Status>
     ensures { D.tells → Only (D.seen disk.old) (D.images disk.old) → KeepsStore D.moment D.left_since D.seen disk.old disk.new }
 {
-    if activity_in(alloc, activity)?.is_none() {
+    if named_activity(alloc, activity)?.is_none() {
         return print_usage(out);
     }
     match reopen(alloc, disk) {
