@@ -8,3 +8,4 @@ pub mod Turns
 pub mod Rights
 pub mod Scripts
 pub mod Inputs
+pub mod Stopping

@@ -1,11 +1,13 @@
 //! A DRAIN: the queues are served in turn, until all are empty or the limit is met.
-ghost use Rattle.std.specs.Prelude.{◌≡◌, ℕ, ◌<◌, ◌≤◌, true, false, if◌then◌else◌, None, length, IfOk, IfSome, OnOk, IsTrue};
+ghost use Rattle.std.specs.Prelude.{◌≡◌, ℕ, ◌<◌, ◌≤◌, true, false, if◌then◌else◌, None, length, IfOk, IfErr, IfSome, OnOk, IsTrue, MatchResult};
 ghost use Rattle.core_laws.specs.RightStates.{IsRightCore};
 ghost use Rattle.recover_queue.specs.Queues.{is_quiet};
 ghost use Rattle.flow_core.specs.Answers.{has_message};
 ghost use Rattle.flow_core.specs.Summaries.{summary};
 ghost use Rattle.flow_session.specs.Draining.{IsNextQueue, TakesFront, IsDrained, queue_behind, turns_text, full_text};
 ghost use Rattle.flow_session.specs.Serving.{Makes};
+ghost use Rattle.flow_session.specs.Stopping.{IsStopCause};
+ghost use Rattle.flow_session.specs.declared.serving.Stop.TheVariants.{NoMemory};
 
 use crate::journal::Journal;
 use crate::serving::{Session, Stop, numbered};
@@ -65,6 +67,7 @@ impl Session {
         requires room { self.old.core.number < self.old.core.limit }
         requires has { has_message self.old.core queue ≡ true }
         ensures kept { J.tells → OnOk result (J.holds journal.new (summary self.new.core)) }
+        ensures cause { MatchResult result (λ _. J.faults journal.new ≡ J.faults journal.old) (IsStopCause (J.faults journal.old) (J.faults journal.new)) }
         ensures makes { Makes J.tells J.moment J.left_since journal.old journal.new (summary self.old.core) (λ s. OnOk result (summary self.new.core ≡ s)) }
         ensures right { IsRightCore self.old.core → OnOk result (IsRightCore self.new.core) }
         ensures gathers { OnOk result (self.new.gathered ≡ self.old.gathered) }
@@ -83,7 +86,8 @@ impl Session {
 
     /// The reply of a DRAIN that made so many turns.
     fn drained(&self, turns: u64) -> Result<Vec<u8>, Stop>
-        ensures { IfOk result (λ reply. reply.items ≡ (if is_quiet self.now.core.queues then turns_text turns else full_text self.now.core.limit turns)) }
+        ensures said { IfOk result (λ reply. reply.items ≡ (if is_quiet self.now.core.queues then turns_text turns else full_text self.now.core.limit turns)) }
+        ensures silent { IfErr result (λ stop. stop ≡ NoMemory) }
     {
         if self.core.is_quiet() {
             return numbered(self.alloc, b"ok TURNS ", turns);
@@ -100,6 +104,7 @@ impl Session {
     pub(crate) fn drain<J: Journal>(&mut self, journal: &mut J) -> Result<Vec<u8>, Stop>
         requires { J.tells → J.holds journal.old (summary self.old.core) }
         ensures kept { J.tells → OnOk result (J.holds journal.new (summary self.new.core)) }
+        ensures cause { MatchResult result (λ _. J.faults journal.new ≡ J.faults journal.old) (IsStopCause (J.faults journal.old) (J.faults journal.new)) }
         ensures makes { Makes J.tells J.moment J.left_since journal.old journal.new (summary self.old.core) (λ s. OnOk result (summary self.new.core ≡ s)) }
         ensures right { IsRightCore self.old.core → OnOk result (IsRightCore self.new.core) }
         ensures gathers { OnOk result (self.new.gathered ≡ self.old.gathered) }

@@ -1,5 +1,5 @@
 //! Where transactions are kept.
-ghost use Rattle.std.specs.Prelude.{◌≡◌, ℕ, ◌+◌, IfOk, OnOk};
+ghost use Rattle.std.specs.Prelude.{◌≡◌, ℕ, ◌+◌, IfOk, IfErr, OnOk, MatchResult};
 ghost use Rattle.flow_disk.specs.Images.{Image};
 ghost use Rattle.flow_disk.specs.Moments.{LeavesOnly};
 ghost use Rattle.flow_model.specs.declared.transactions.Transaction.{Transaction as TransactionOf};
@@ -7,6 +7,8 @@ ghost use Rattle.flow_txn.specs.Records.{record_bytes};
 ghost use Rattle.flow_core.specs.Summaries.{Summary, summary, next};
 ghost use Rattle.flow_session.specs.Histories.{StandsFor};
 ghost use Rattle.flow_session.specs.Serving.{WithOrWithout};
+ghost use Rattle.flow_session.specs.Stopping.{IsStopCause};
+ghost use Rattle.flow_session.specs.declared.serving.Stop.TheVariants.{NoMemory};
 
 use crate::serving::Stop;
 use flow_core::Core;
@@ -26,29 +28,36 @@ pub trait Journal {
     /// The moment, as a number that doesn't fall.
     ghost moment: { Self → ℕ };
 
+    /// The number of its faults so far.
+    ghost faults: { Self → ℕ };
+
     /// What a crash at some moment from that one on might have left.
     ghost left_since: { Self → ℕ → Image → Type 0 };
 
     /// The payload of a transaction under a number; a journal that keeps nothing needs none. `NoMemory` comes
     /// where there is no memory.
     fn payload(&self, number: u64, t: &Transaction) -> Result<Vec<u8>, Stop>
-        ensures { IfOk result (λ bytes. tells → bytes.items ≡ record_bytes number t.now) };
+        ensures spelled { IfOk result (λ bytes. tells → bytes.items ≡ record_bytes number t.now) }
+        ensures silent { IfErr result (λ stop. stop ≡ NoMemory) };
 
-    /// Keeps a payload: that of the next transaction. `StoreFault` comes where it may not be kept; then a crash
-    /// leaves the history with or without it.
+    /// Keeps a payload: that of the next transaction. `StoreFault` comes where its count of faults rose, so that it
+    /// may not be kept; then a crash leaves the history with or without it. `NoMemory` comes where it can take no
+    /// more; then nothing was done.
     fn keep(&mut self, payload: &[u8]) -> Result<(), Stop>
         requires open { tells → (s : Summary) × holds self.old s }
         ensures kept { (s : Summary) (t : TransactionOf) → tells → holds self.old s → payload.now ≡ record_bytes (s.transactions + 1) t
             → OnOk result (holds self.new (next t s)) }
         ensures any_moment { (s : Summary) (t : TransactionOf) → tells → holds self.old s → payload.now ≡ record_bytes (s.transactions + 1) t
-            → LeavesOnly moment left_since self.old self.new (WithOrWithout t s) };
+            → LeavesOnly moment left_since self.old self.new (WithOrWithout t s) }
+        ensures cause { MatchResult result (λ _. faults self.new ≡ faults self.old) (IsStopCause (faults self.old) (faults self.new)) };
 
     /// Keeps the live transactions alone from now on. `StoreFault` and `NoMemory` come as above; then a crash
     /// leaves the same history.
     fn checkpoint(&mut self, core: &Core) -> Result<(), Stop>
         requires open { tells → holds self.old (summary core.now) }
         ensures kept { tells → OnOk result (holds self.new (summary core.now)) }
-        ensures any_moment { tells → LeavesOnly moment left_since self.old self.new (StandsFor (summary core.now)) };
+        ensures any_moment { tells → LeavesOnly moment left_since self.old self.new (StandsFor (summary core.now)) }
+        ensures cause { MatchResult result (λ _. faults self.new ≡ faults self.old) (IsStopCause (faults self.old) (faults self.new)) };
 
     /// At one moment a crash leaves what it may leave then.
     ghost at_rest: { (journal : Self) (s : Summary) (c : Image) → tells → holds journal s → left_since journal (moment journal) c → StandsFor s c };
@@ -73,6 +82,8 @@ impl Journal for NoJournal {
     ghost holds = { λ _ _. ⊥ };
 
     ghost moment = { λ _. 0 };
+
+    ghost faults = { λ _. 0 };
 
     ghost left_since = { λ _ _ _. ⊥ };
 

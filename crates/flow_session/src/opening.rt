@@ -1,5 +1,5 @@
 //! How a store is opened: the state that its records give.
-ghost use Rattle.std.specs.Prelude.{None, ◌≡◌, ◌≤◌, IfOk, OnOk};
+ghost use Rattle.std.specs.Prelude.{None, ◌≡◌, ◌≤◌, ℕ, IfErr, IfOk, MatchResult, OnOk};
 ghost use Rattle.flow_disk.specs.Moments.{LeavesOnly};
 ghost use Rattle.flow_model.specs.declared.transactions.Numbered.{Numbered as NumberedOf};
 ghost use Rattle.flow_txn.specs.Records.{record_bytes};
@@ -8,6 +8,7 @@ ghost use Rattle.core_laws.specs.RightStates.{IsRightCore};
 ghost use Rattle.flow_core.specs.Summaries.{summary, taken_up, Follows};
 ghost use Rattle.flow_session.specs.Inputs.{unended};
 ghost use Rattle.flow_session.specs.Keeping.{IsOpen, ComesTo};
+ghost use Rattle.flow_session.specs.Stopping.{IsOpenCause};
 
 use crate::serving::Session;
 use flow_core::{AdoptFault, Core};
@@ -29,6 +30,7 @@ fn adopt(
         × Follows core.old.kept (summary core.old) n × (summary core.new ≡ taken_up core.old.kept n (summary core.old))) }
     ensures kept { OnOk result (core.new.kept ≡ core.old.kept) }
     ensures right { IsRightCore core.old → OnOk result (IsRightCore core.new) }
+    ensures silent { IfErr result (λ stop. (count : ℕ) → IsOpenCause count count stop) }
 {
     let Numbered {
         number,
@@ -49,6 +51,7 @@ fn adopt(
 fn state_of(alloc: Global, opened: &Opened) -> Result<Core, LogStop>
     ensures comes { IfOk result (λ core. ComesTo opened.now (summary core)) }
     ensures right { IfOk result (λ core. 1 ≤ (summary core).queues → IsRightCore core) }
+    ensures silent { IfErr result (λ stop. (count : ℕ) → IsOpenCause count count stop) }
 {
     let header = &opened.header;
     let mut core = Core::resume(
@@ -68,7 +71,8 @@ fn state_of(alloc: Global, opened: &Opened) -> Result<Core, LogStop>
 /// Opens a store: the state that its records give, and what its slot that counts holds.
 ///
 /// `Unmade`, `Foreign` and `Damaged` come by the slots, and `Damaged` at the first record that isn't in
-/// the grammar of records or isn't allowed there. The disk isn't written.
+/// the grammar of records or isn't allowed there. The disk isn't written. `StoreFault` comes only where its count of
+/// faults rose.
 pub fn open<D: Disk>(alloc: Global, disk: &mut D) -> Result<(Core, Opened), LogStop>
     ensures open { IfOk result (λ r. D.tells → IsOpen D.seen D.images r.1.log disk.new (summary r.0)) }
     ensures right { IfOk result (λ r. 1 ≤ (summary r.0).queues → IsRightCore r.0) }
@@ -76,6 +80,7 @@ pub fn open<D: Disk>(alloc: Global, disk: &mut D) -> Result<(Core, Opened), LogS
     ensures comes { IfOk result (λ r. ComesTo r.1 (summary r.0)) }
     ensures seen { OnOk result (D.seen disk.new ≡ D.seen disk.old) }
     ensures any_moment { LeavesOnly D.moment D.left_since disk.old disk.new (D.images disk.old) }
+    ensures cause { MatchResult result (λ _. D.faults disk.new ≡ D.faults disk.old) (IsOpenCause (D.faults disk.old) (D.faults disk.new)) }
 {
     let opened = Log::reopen(alloc, disk)?;
     let core = state_of(alloc, &opened)?;
@@ -89,6 +94,7 @@ pub fn reopen<D: Disk>(alloc: Global, disk: &mut D) -> Result<(Session, Log), Lo
     ensures outside { IfOk result (λ r. unended r.0 ≡ None) }
     ensures seen { OnOk result (D.seen disk.new ≡ D.seen disk.old) }
     ensures any_moment { LeavesOnly D.moment D.left_since disk.old disk.new (D.images disk.old) }
+    ensures cause { MatchResult result (λ _. D.faults disk.new ≡ D.faults disk.old) (IsOpenCause (D.faults disk.old) (D.faults disk.new)) }
 {
     let (core, opened) = open(alloc, disk)?;
     let Opened {

@@ -1,5 +1,5 @@
 //! A session: the state, and the text of an IMPORT that isn't ended yet.
-ghost use Rattle.std.specs.Prelude.{◌≡◌, ◌⊎◌, ◌<◌, ◌≤◌, ◌+◌, ◌++◌, ◌∷◌, [], Some, None, length, IfOk, OnOk};
+ghost use Rattle.std.specs.Prelude.{◌≡◌, ◌⊎◌, ◌<◌, ◌≤◌, ◌+◌, ◌++◌, ◌∷◌, [], Some, None, length, IfOk, IfErr, OnOk, MatchResult};
 ghost use Rattle.std.specs.Fmt.{decimal as digits_of};
 ghost use Rattle.flow_disk.specs.Moments.{LeavesOnly};
 ghost use Rattle.flow_core.specs.declared.applying.Note.{Note as NoteOf};
@@ -13,6 +13,7 @@ ghost use Rattle.flow_core.specs.Queries.{IsAnswer};
 ghost use Rattle.flow_session.specs.Inputs.{given, unended_in, no_lines, is_end, with_line, unended, long_text, Answers, IsCommanded, ServesLine, ServesText, ServesInside, IsServed};
 ghost use Rattle.flow_session.specs.Replying.{IsObeyed, checkpoint_text};
 ghost use Rattle.flow_session.specs.Serving.{Makes, WithOrWithout};
+ghost use Rattle.flow_session.specs.Stopping.{IsStopCause};
 ghost use Rattle.flow_session.specs.declared.serving.Stop.TheVariants.{NoMemory};
 
 use crate::journal::Journal;
@@ -41,7 +42,7 @@ pub enum Input<'a> {
 /// Why a session stops. It isn't used any more then.
 #[derive(Clone, Copy, Debug, PartialEq, Eq, Drop, Error)]
 pub enum Stop {
-    /// The disk failed.
+    /// The disk failed: its count of faults rose.
     #[error("StoreFault")]
     StoreFault,
     /// There was no memory.
@@ -58,6 +59,8 @@ impl From<AllocError> for Stop {
 }
 
 impl<T: Drop> From<AllocFailed<T>> for Stop {
+    ghost from_gives = { λ _ e. e ≡ NoMemory };
+
     fn from(_fault: AllocFailed<T>) -> Stop {
         Stop::NoMemory
     }
@@ -80,14 +83,16 @@ pub struct Session {
 
 /// A reply of words alone.
 fn words(alloc: Global, text: &[u8]) -> Result<Vec<u8>, Stop>
-    ensures { IfOk result (λ out. out.items ≡ text.now) }
+    ensures said { IfOk result (λ out. out.items ≡ text.now) }
+    ensures silent { IfErr result (λ stop. stop ≡ NoMemory) }
 {
     Ok(Vec::from_slice(alloc, text)?)
 }
 
 /// A reply of words, a number and a line feed.
 pub(crate) fn numbered(alloc: Global, text: &[u8], number: u64) -> Result<Vec<u8>, Stop>
-    ensures { IfOk result (λ out. out.items ≡ text.now ++ digits_of number ++ 10 ∷ []) }
+    ensures said { IfOk result (λ out. out.items ≡ text.now ++ digits_of number ++ 10 ∷ []) }
+    ensures silent { IfErr result (λ stop. stop ≡ NoMemory) }
 {
     let mut out = Vec::from_slice(alloc, text)?;
     decimal(&mut out, number)?;
@@ -97,7 +102,8 @@ pub(crate) fn numbered(alloc: Global, text: &[u8], number: u64) -> Result<Vec<u8
 
 /// The reply of a refusal.
 fn refused(alloc: Global, refusal: &Refusal) -> Result<Vec<u8>, Stop>
-    ensures { IfOk result (λ out. out.items ≡ refusal_text refusal.now) }
+    ensures said { IfOk result (λ out. out.items ≡ refusal_text refusal.now) }
+    ensures silent { IfErr result (λ stop. stop ≡ NoMemory) }
 {
     let mut out = Vec::new(alloc);
     write_refusal(&mut out, refusal)?;
@@ -175,6 +181,7 @@ impl Session {
         ensures told { OnOk result ((note : NoteOf) × IsNoteOf self.old.core t self.new.core note
             × (out.new.items ≡ out.old.items ++ applied_text (record { number = self.old.core.number + 1; note = note }))) }
         ensures kept { J.tells → OnOk result (J.holds journal.new (summary self.new.core)) }
+        ensures cause { MatchResult result (λ _. J.faults journal.new ≡ J.faults journal.old) (IsStopCause (J.faults journal.old) (J.faults journal.new)) }
         ensures any_moment { J.tells → LeavesOnly J.moment J.left_since journal.old journal.new (WithOrWithout t (summary self.old.core)) }
     {
         let payload = journal.payload(self.core.next_number(), &t)?;
@@ -187,6 +194,7 @@ impl Session {
     fn obey<J: Journal>(&mut self, journal: &mut J, command: &Command) -> Result<Vec<u8>, Stop>
         requires { J.tells → J.holds journal.old (summary self.old.core) }
         ensures kept { J.tells → OnOk result (J.holds journal.new (summary self.new.core)) }
+        ensures cause { MatchResult result (λ _. J.faults journal.new ≡ J.faults journal.old) (IsStopCause (J.faults journal.old) (J.faults journal.new)) }
         ensures makes { Makes J.tells J.moment J.left_since journal.old journal.new (summary self.old.core) (λ s. OnOk result (summary self.new.core ≡ s)) }
         ensures right { IsRightCore self.old.core → OnOk result (IsRightCore self.new.core) }
         ensures gathers { OnOk result (self.new.gathered ≡ self.old.gathered) }
@@ -207,6 +215,7 @@ impl Session {
     fn checkpoint<J: Journal>(&mut self, journal: &mut J) -> Result<Vec<u8>, Stop>
         requires { J.tells → J.holds journal.old (summary self.old.core) }
         ensures kept { J.tells → OnOk result (J.holds journal.new (summary self.new.core)) }
+        ensures cause { MatchResult result (λ _. J.faults journal.new ≡ J.faults journal.old) (IsStopCause (J.faults journal.old) (J.faults journal.new)) }
         ensures makes { Makes J.tells J.moment J.left_since journal.old journal.new (summary self.old.core) (λ s. OnOk result (summary self.new.core ≡ s)) }
         ensures right { IsRightCore self.old.core → OnOk result (IsRightCore self.new.core) }
         ensures gathers { OnOk result (self.new.gathered ≡ self.old.gathered) }
@@ -219,7 +228,8 @@ impl Session {
 
     /// The reply to a query.
     fn answer(&self, query: &Query) -> Result<Vec<u8>, Stop>
-        ensures { IfOk result (λ reply. IsAnswer self.now.core query.now reply.items) }
+        ensures answers { IfOk result (λ reply. IsAnswer self.now.core query.now reply.items) }
+        ensures silent { IfErr result (λ stop. stop ≡ NoMemory) }
     {
         Ok(self.core.answer(query)?)
     }
@@ -229,6 +239,7 @@ impl Session {
         requires open { J.tells → J.holds journal.old (summary self.old.core) }
         requires outside { self.old.gathered ≡ None }
         ensures kept { J.tells → OnOk result (J.holds journal.new (summary self.new.core)) }
+        ensures cause { MatchResult result (λ _. J.faults journal.new ≡ J.faults journal.old) (IsStopCause (J.faults journal.old) (J.faults journal.new)) }
         ensures makes { Makes J.tells J.moment J.left_since journal.old journal.new (summary self.old.core) (λ s. OnOk result (summary self.new.core ≡ s)) }
         ensures right { IsRightCore self.old.core → OnOk result (IsRightCore self.new.core) }
         ensures served { IfOk result (λ reply. IsCommanded self.old.core self.new.core command.now (unended self.new) reply.items) }
@@ -253,6 +264,7 @@ impl Session {
         requires open { J.tells → J.holds journal.old (summary self.old.core) }
         requires outside { self.old.gathered ≡ None }
         ensures kept { J.tells → OnOk result (J.holds journal.new (summary self.new.core)) }
+        ensures cause { MatchResult result (λ _. J.faults journal.new ≡ J.faults journal.old) (IsStopCause (J.faults journal.old) (J.faults journal.new)) }
         ensures makes { Makes J.tells J.moment J.left_since journal.old journal.new (summary self.old.core) (λ s. OnOk result (summary self.new.core ≡ s)) }
         ensures right { IsRightCore self.old.core → OnOk result (IsRightCore self.new.core) }
         ensures served { IfOk result (λ reply. ServesLine line.now self.old.core self.new.core (unended self.new) reply.items) }
@@ -275,6 +287,7 @@ impl Session {
         requires open { J.tells → J.holds journal.old (summary self.old.core) }
         requires outside { self.old.gathered ≡ None }
         ensures kept { J.tells → OnOk result (J.holds journal.new (summary self.new.core)) }
+        ensures cause { MatchResult result (λ _. J.faults journal.new ≡ J.faults journal.old) (IsStopCause (J.faults journal.old) (J.faults journal.new)) }
         ensures makes { Makes J.tells J.moment J.left_since journal.old journal.new (summary self.old.core) (λ s. OnOk result (summary self.new.core ≡ s)) }
         ensures right { IsRightCore self.old.core → OnOk result (IsRightCore self.new.core) }
         ensures served { IfOk result (λ reply. ServesText gathered.has_long gathered.text.items self.old.core self.new.core (unended self.new) reply.items) }
@@ -297,6 +310,7 @@ impl Session {
         requires open { J.tells → J.holds journal.old (summary self.old.core) }
         requires outside { self.old.gathered ≡ None }
         ensures kept { J.tells → OnOk result (J.holds journal.new (summary self.new.core)) }
+        ensures cause { MatchResult result (λ _. J.faults journal.new ≡ J.faults journal.old) (IsStopCause (J.faults journal.old) (J.faults journal.new)) }
         ensures makes { Makes J.tells J.moment J.left_since journal.old journal.new (summary self.old.core) (λ s. OnOk result (summary self.new.core ≡ s)) }
         ensures right { IsRightCore self.old.core → OnOk result (IsRightCore self.new.core) }
         ensures served { IfOk result (λ reply. ServesInside (unended_in gathered) (given input.entry) self.old.core self.new.core (unended self.new) reply.items) }
@@ -326,6 +340,7 @@ impl Session {
     pub fn serve<J: Journal>(&mut self, journal: &mut J, input: Input<'_>) -> Result<Vec<u8>, Stop>
         requires { J.tells → J.holds journal.old (summary self.old.core) }
         ensures kept { J.tells → OnOk result (J.holds journal.new (summary self.new.core)) }
+        ensures cause { MatchResult result (λ _. J.faults journal.new ≡ J.faults journal.old) (IsStopCause (J.faults journal.old) (J.faults journal.new)) }
         ensures makes { Makes J.tells J.moment J.left_since journal.old journal.new (summary self.old.core) (λ s. OnOk result (summary self.new.core ≡ s)) }
         ensures right { IsRightCore self.old.core → OnOk result (IsRightCore self.new.core) }
         ensures served { IfOk result (λ reply. IsServed self.old self.new (given input.entry) reply.items) }

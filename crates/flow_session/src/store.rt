@@ -1,5 +1,5 @@
 //! The journal of a store: its log and its disk.
-ghost use Rattle.std.specs.Prelude.{◌≡◌, ◌+◌, false, IfOk, IfSome, OnOk, IsTrue, ◌↔◌};
+ghost use Rattle.std.specs.Prelude.{◌≡◌, ◌+◌, false, IfOk, IfSome, MatchResult, OnOk, IsTrue, ◌↔◌};
 ghost use Rattle.std.specs.List.{All};
 ghost use Rattle.flow_disk.specs.Images.{opposite};
 ghost use Rattle.flow_disk.specs.Moments.{LeavesOnly, Only};
@@ -10,6 +10,7 @@ ghost use Rattle.checkpoint.specs.Compacting.{IsCompacted, MayBeCompacted};
 ghost use Rattle.flow_core.specs.Summaries.{summary};
 ghost use Rattle.flow_session.specs.Histories.{payloads as payloads_of, IsHeaderOf};
 ghost use Rattle.flow_session.specs.Keeping.{IsOpen, rests};
+ghost use Rattle.flow_session.specs.Stopping.{IsStopCause};
 
 use crate::journal::Journal;
 use crate::serving::Stop;
@@ -103,19 +104,20 @@ impl<D: Disk + Drop> Stored<D> {
 
 /// Appends a payload to a log.
 ///
-/// `StoreFault` comes where the disk failed, or has failed before, and where the payload is longer than a
-/// record or the log is full, which no store of the program is.
+/// `StoreFault` comes exactly where the disk failed. `NoMemory` comes where nothing was tried: the log has failed
+/// before, it is full, or the payload is longer than a record, to none of which a store of the program comes.
 fn append<D: Disk>(log: &mut Log, disk: &mut D, payload: &[u8]) -> Result<(), Stop>
     requires stands { D.tells → StandsOn log.old (D.seen disk.old) }
     ensures stands { OnOk result (D.tells → StandsOn log.new (D.seen disk.new)) }
     ensures added { OnOk result (D.tells → HasRecord payload.now (D.seen disk.old) (D.seen disk.new)) }
     ensures durable { OnOk result (Only (D.seen disk.new) (D.images disk.new)) }
     ensures alive { OnOk result (log.new.failed ≡ false) }
+    ensures cause { MatchResult result (λ _. D.faults disk.new ≡ D.faults disk.old) (IsStopCause (D.faults disk.old) (D.faults disk.new)) }
     ensures any_moment { D.tells → Only (D.seen disk.old) (D.images disk.old)
         → LeavesOnly D.moment D.left_since disk.old disk.new (MayHaveRecord payload.now (D.seen disk.old)) }
 {
     if !is_payload(payload) || log.has_failed() || log.records() >= MOST_RECORDS {
-        return Err(Stop::StoreFault);
+        return Err(Stop::NoMemory);
     }
     match log.append(disk, payload) {
         Ok(()) => Ok(()),
@@ -124,6 +126,8 @@ fn append<D: Disk>(log: &mut Log, disk: &mut D, payload: &[u8]) -> Result<(), St
 }
 
 /// Moves a log to its other slot.
+///
+/// `StoreFault` comes exactly where the disk failed. `NoMemory` comes where nothing was tried, as for [`append`].
 fn move_log<D: Disk>(
     log: &mut Log,
     disk: &mut D,
@@ -138,11 +142,12 @@ fn move_log<D: Disk>(
     ensures compacted { OnOk result (D.tells → IsCompacted (opposite log.old.slot) header.now kept.now (D.seen disk.new)) }
     ensures durable { OnOk result (Only (D.seen disk.new) (D.images disk.new)) }
     ensures alive { OnOk result (log.new.failed ≡ false) }
+    ensures cause { MatchResult result (λ _. D.faults disk.new ≡ D.faults disk.old) (IsStopCause (D.faults disk.old) (D.faults disk.new)) }
     ensures any_moment { D.tells → Only (D.seen disk.old) (D.images disk.old)
         → LeavesOnly D.moment D.left_since disk.old disk.new (MayBeCompacted (opposite log.old.slot) header.now kept.now (D.seen disk.old)) }
 {
     if log.has_failed() || kept.len() as u64 >= MOST_RECORDS {
-        return Err(Stop::StoreFault);
+        return Err(Stop::NoMemory);
     }
     match compact(log, disk, header, kept) {
         Ok(()) => Ok(()),
@@ -156,6 +161,8 @@ impl<D: Disk + Drop> Journal for Stored<D> {
     ghost holds = { λ journal s. IsOpen D.seen D.images journal.log journal.disk s };
 
     ghost moment = { λ journal. D.moment journal.disk };
+
+    ghost faults = { λ journal. D.faults journal.disk };
 
     ghost left_since = { λ journal. D.left_since journal.disk };
 

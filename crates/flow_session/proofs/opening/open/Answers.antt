@@ -1,4 +1,6 @@
 use Rattle.flow_session.proofs.Keeping.{stands_for}
+use Rattle.flow_session.proofs.Stopping.{open_after}
+use Rattle.std.proofs.lemmas.Result.{err_from_is_err_and}
 use Rattle.flow_session.proofs.opening.open.Goals as goal
 
 pub returns-clause-open : goal.returns-clause-open
@@ -8,3 +10,8 @@ returns-clause-open g c told = record {
   only = c.in_ok-opened.ensures.durable;
   holds = stands_for _ _ _ _ _ _ (c.in_ok-opened.ensures.opened told) c.in_ok-core.ensures.comes;
 }
+
+pub returns-in_err-core-clause-cause : goal.returns-in_err-core-clause-cause
+returns-in_err-core-clause-cause g c =
+    let p = err_from_is_err_and c.from_residual-in_err-core.result c.from_residual-in_err-core.ensures.1 in
+    rw (p.1, p.2) (open_after (g.D.Disk.faults c.args.disk.now) (g.D.Disk.faults c.reopen.new.disk) c.in_err-core.field-0.0 c.in_ok-opened.ensures.cause c.in_err-core.ensures.silent)

@@ -6,6 +6,7 @@ use Rattle.flow_core.specs.Summaries.{Summary, summary}
 use Rattle.flow_session.specs.Keeping.{Brings}
 use Rattle.flow_session.proofs.Keeping.{brings_more}
 use Rattle.flow_session.proofs.Rights.{begun_right}
+use Rattle.std.proofs.lemmas.Result.{err_from_is_err_and}
 use Rattle.flow_session.proofs.opening.state_of.Goals as goal
 
 pub loop-record-preserved : goal.loop-record-preserved
@@ -35,3 +36,8 @@ loop-record-init c =
       queues = ap (λ (s : Summary). s.queues) begins;
       right = λ some_. begun_right c.in_ok-core.core _ c.in_ok-core.ensures.blank c.in_ok-core.ensures.kept begins some_;
     }
+
+pub returns-in_err-adopt-clause-silent : goal.returns-in_err-adopt-clause-silent
+returns-in_err-adopt-clause-silent c =
+    let p = err_from_is_err_and c.from_residual-in_err-adopt.result c.from_residual-in_err-adopt.ensures.1 in
+    rw (p.1, p.2) c.in_err-adopt.ensures.silent

@@ -2,6 +2,7 @@ use Rattle.std.proofs.Common.{rules}
 use Rattle.flow_core.specs.Summaries.{summary}
 use Rattle.flow_session.proofs.Calls.{makes_nothing}
 use Rattle.flow_session.proofs.Inputs.{obeyed}
+use Rattle.flow_session.proofs.Stopping.{silent}
 use Rattle.flow_session.proofs.serving.Session.command.Goals as goal
 
 pub returns-in-Import-clause-makes : goal.returns-in-Import-clause-makes
@@ -12,3 +13,6 @@ returns-in-Ask-clause-makes g c = makes_nothing g.J.Journal.tells g.J.Journal.mo
 
 pub returns-in_default-clause-served : goal.returns-in_default-clause-served
 returns-in_default-clause-served g c = obeyed c.args.self.now c.obey.new.self c.args.command.now c.obey.result c.in_default.not-Import c.in_default.not-Drain c.in_default.not-Checkpoint c.in_default.not-Ask c.obey.ensures.replied c.obey.ensures.gathers c.requires.outside
+
+pub returns-in-Ask-clause-cause : goal.returns-in-Ask-clause-cause
+returns-in-Ask-clause-cause g c = silent (g.J.Journal.faults c.args.journal.now) c.answer.result c.answer.ensures.silent

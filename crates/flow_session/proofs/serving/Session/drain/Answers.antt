@@ -3,6 +3,8 @@ use Rattle.flow_core.specs.Summaries.{summary}
 use Rattle.flow_session.proofs.Calls.{makes_nothing, makes_more, makes_last}
 use Rattle.flow_session.proofs.Rights.{whatever}
 use Rattle.flow_session.proofs.Turns.{taken_none, taken_more, behind_some, one_less, drained}
+use Rattle.flow_session.proofs.Stopping.{silent_after, cause_after}
+use Rattle.std.proofs.lemmas.Result.{err_from_is_err_and}
 use Rattle.flow_session.proofs.serving.Session.drain.Goals as goal
 
 pub loop-self-init : goal.loop-self-init
@@ -13,6 +15,7 @@ loop-self-init g c = record {
   some = omega arith;
   right = λ right. right;
   text = refl;
+  unfailed = refl;
 }
 
 pub loop-self-preserved : goal.loop-self-preserved
@@ -23,6 +26,7 @@ loop-self-preserved g c = record {
   some = rw c.behind-queue.ensures (behind_some (length c.loop-self.self.core.queues) c.in-Some.next);
   right = λ right. c.in_ok-turn.ensures.right (c.loop-self.invariant.right right);
   text = c.in_ok-turn.ensures.gathers ∙ c.loop-self.invariant.text;
+  unfailed = c.in_ok-turn.ensures.cause ∙ c.loop-self.invariant.unfailed;
 }
 
 pub returns-in_err-turn-clause-makes : goal.returns-in_err-turn-clause-makes
@@ -30,3 +34,14 @@ returns-in_err-turn-clause-makes g c = makes_last g.J.Journal.tells g.J.Journal.
 
 pub returns-clause-gathers : goal.returns-clause-gathers
 returns-clause-gathers g c = whatever c.drained-2.result c.loop-self.invariant.text
+
+pub returns-in_err-turn-clause-cause : goal.returns-in_err-turn-clause-cause
+returns-in_err-turn-clause-cause g c =
+    let p = err_from_is_err_and c.from_residual.result c.from_residual.ensures.1 in
+    rw (p.1, p.2) (cause_after (g.J.Journal.faults c.args.journal.now) (g.J.Journal.faults c.loop-self.journal) (g.J.Journal.faults c.turn.new.journal) c.in_err-turn.field-0.0 c.loop-self.invariant.unfailed c.in_err-turn.ensures.cause)
+
+pub returns-in_default-clause-cause : goal.returns-in_default-clause-cause
+returns-in_default-clause-cause g c = silent_after (g.J.Journal.faults c.args.journal.now) (g.J.Journal.faults c.loop-self.journal) c.drained.result c.loop-self.invariant.unfailed c.drained.ensures.silent
+
+pub returns-clause-cause : goal.returns-clause-cause
+returns-clause-cause g c = silent_after (g.J.Journal.faults c.args.journal.now) (g.J.Journal.faults c.loop-self.journal) c.drained-2.result c.loop-self.invariant.unfailed c.drained-2.ensures.silent

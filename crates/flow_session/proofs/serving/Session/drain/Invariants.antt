@@ -13,6 +13,7 @@ invariant-loop-self g l = record {
   some : 1 ≤ l.queue;
   right : IsRightCore l.initial.self.core → IsRightCore l.self.core;
   text : l.self.gathered ≡ l.initial.self.gathered;
+  unfailed : g.J.Journal.faults l.journal ≡ g.J.Journal.faults l.initial.journal;
 }
 
 abbrev pub decreases-loop-self : goal.decreases-loop-self

@@ -3,6 +3,7 @@ use Rattle.flow_core.specs.Summaries.{summary}
 use Rattle.flow_session.proofs.Calls.{makes_nothing}
 use Rattle.flow_session.proofs.Inputs.{says_command, says_none}
 use Rattle.flow_session.specs.Inputs.{unended}
+use Rattle.flow_session.proofs.Stopping.{silent}
 use Rattle.flow_session.proofs.serving.Session.line.Goals as goal
 
 pub returns-then-line-gt-MOST_LINE-clause-makes : goal.returns-then-line-gt-MOST_LINE-clause-makes
@@ -29,3 +30,9 @@ returns-in-Err-Word-clause-served g c =
     let none = rw c.in-Err-Word.field-0-is at c.in-Err-Word.ensures.none in
     let first = rw c.in-Err-Word.field-0-is at c.in-Err-Word.ensures.first in
     says_none c.args.self.now c.args.line.now c.in-Err-Word.place c.numbered.result (record { refused = refused; none = none; first = first }) c.requires.outside (search rules)
+
+pub returns-then-line-gt-MOST_LINE-clause-cause : goal.returns-then-line-gt-MOST_LINE-clause-cause
+returns-then-line-gt-MOST_LINE-clause-cause g c = silent (g.J.Journal.faults c.args.journal.now) c.words.result c.words.ensures.silent
+
+pub returns-in-Err-Word-clause-cause : goal.returns-in-Err-Word-clause-cause
+returns-in-Err-Word-clause-cause g c = silent (g.J.Journal.faults c.args.journal.now) c.numbered.result c.numbered.ensures.silent

@@ -4,16 +4,18 @@ use Rattle.core_laws.proofs.Making.{core_right}
 use Rattle.flow_core.proofs.Moved.{front_of}
 use Rattle.flow_core.specs.Summaries.{Summary, summary}
 use Rattle.flow_session.proofs.Rights.{whatever}
+use Rattle.flow_session.proofs.Stopping.{silent_stop}
+use Rattle.std.proofs.lemmas.Result.{err_from_is_err_and}
 use Rattle.flow_session.proofs.serving.Session.make.Goals as goal
 
 pub returns-clause-kept : goal.returns-clause-kept
 returns-clause-kept g c told =
-    let spelled = c.deref.ensures.value ∙ c.in_ok-payload.ensures told ∙ ap (λ n. record_bytes n c.args.t) c.next_number.ensures in
+    let spelled = c.deref.ensures.value ∙ c.in_ok-payload.ensures.spelled told ∙ ap (λ n. record_bytes n c.args.t) c.next_number.ensures in
     rw c.in_ok-applied.ensures.next (c.keep.ensures.kept (summary c.args.self.now.core) c.args.t told (c.requires.open told) spelled)
 
 pub returns-clause-any_moment : goal.returns-clause-any_moment
 returns-clause-any_moment g c told =
-    let spelled = c.deref.ensures.value ∙ c.in_ok-payload.ensures told ∙ ap (λ n. record_bytes n c.args.t) c.next_number.ensures in
+    let spelled = c.deref.ensures.value ∙ c.in_ok-payload.ensures.spelled told ∙ ap (λ n. record_bytes n c.args.t) c.next_number.ensures in
     c.keep.ensures.any_moment (summary c.args.self.now.core) c.args.t told (c.requires.open told) spelled
 
 pub returns-clause-drives : goal.returns-clause-drives
@@ -26,3 +28,8 @@ returns-clause-right g c = λ was. whatever c.keep.result (core_right c.args.sel
   counts = c.in_ok-applied.ensures.counts;
   lives = (c.args.self.now.core.number + 1, ap (λ (s : Summary). s.live) c.in_ok-applied.ensures.next);
 }) was)
+
+pub returns-in_err-payload-clause-cause : goal.returns-in_err-payload-clause-cause
+returns-in_err-payload-clause-cause g c =
+    let p = err_from_is_err_and c.from_residual.result c.from_residual.ensures.1 in
+    rw (p.1, p.2) (silent_stop (g.J.Journal.faults c.args.journal.now) c.in_err-payload.field-0.0 c.in_err-payload.ensures.silent)

@@ -1,6 +1,7 @@
 use Rattle.std.proofs.Common.{rules}
 use Rattle.flow_core.specs.Summaries.{summary}
 use Rattle.flow_session.proofs.Calls.{makes_nothing, makes_one}
+use Rattle.flow_session.proofs.Stopping.{silent}
 use Rattle.flow_session.proofs.serving.Session.obey.Goals as goal
 
 pub returns-in_err-make-in-Ok-Do-clause-makes : goal.returns-in_err-make-in-Ok-Do-clause-makes
@@ -17,3 +18,9 @@ returns-in-Ok-Refused-clause-makes g c = makes_nothing g.J.Journal.tells g.J.Jou
 
 pub returns-in-Err-clause-makes : goal.returns-in-Err-clause-makes
 returns-in-Err-clause-makes g c = makes_nothing g.J.Journal.tells g.J.Journal.moment g.J.Journal.left_since g.J.Journal.holds g.met.J.Journal.at_rest c.args.journal.now (summary c.args.self.now.core) _ c.requires (search rules)
+
+pub returns-in-Ok-Same-clause-cause : goal.returns-in-Ok-Same-clause-cause
+returns-in-Ok-Same-clause-cause g c = silent (g.J.Journal.faults c.args.journal.now) c.numbered.result c.numbered.ensures.silent
+
+pub returns-in-Ok-Refused-clause-cause : goal.returns-in-Ok-Refused-clause-cause
+returns-in-Ok-Refused-clause-cause g c = silent (g.J.Journal.faults c.args.journal.now) c.refused.result c.refused.ensures.silent

@@ -1,6 +1,7 @@
 use Rattle.std.proofs.Common.{rules}
 use Rattle.flow_core.specs.Summaries.{summary}
 use Rattle.flow_session.proofs.Calls.{makes_nothing}
+use Rattle.flow_session.proofs.Stopping.{silent}
 use Rattle.flow_session.proofs.serving.Session.serve.Goals as goal
 
 pub returns-in-TooLong-clause-makes : goal.returns-in-TooLong-clause-makes
@@ -8,3 +9,6 @@ returns-in-TooLong-clause-makes g c = makes_nothing g.J.Journal.tells g.J.Journa
 
 pub returns-in-Ended-clause-makes : goal.returns-in-Ended-clause-makes
 returns-in-Ended-clause-makes g c = makes_nothing g.J.Journal.tells g.J.Journal.moment g.J.Journal.left_since g.J.Journal.holds g.met.J.Journal.at_rest c.args.journal.now (summary c.args.self.now.core) _ c.requires (search rules)
+
+pub returns-in-TooLong-clause-cause : goal.returns-in-TooLong-clause-cause
+returns-in-TooLong-clause-cause g c = silent (g.J.Journal.faults c.args.journal.now) c.words.result c.words.ensures.silent
