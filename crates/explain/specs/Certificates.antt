@@ -7,8 +7,6 @@ use Rattle.flow_model.specs.declared.instances.Path.{Path}
 use Rattle.certificates.specs.Lines.{line_text}
 use Rattle.certificates.specs.declared.lines.CertLine.{CertLine}
 use Rattle.certificates.specs.declared.lines.CertLine.TheVariants.{Scope, Dead, Finished, Ended}
-use Rattle.explain.specs.declared.making.ExplainFault.{ExplainFault}
-use Rattle.explain.specs.declared.making.ExplainFault.TheVariants.{Root, Activity, Unsettled, NoMemory}
 
 -- the line tells how this activity has ended
 abbrev pub Settles : Path → List ℕ → CertLine → Type 0
@@ -24,13 +22,6 @@ IsUnsettled (Ready attempt) = Unit {0}
 IsUnsettled (Running attempt) = Unit {0}
 IsUnsettled (FinishedFate attempt) = ⊥
 IsUnsettled DeadFate = ⊥
-
--- why an activity of this scope has no certificate
-abbrev pub HasNone : Path → ExplainFault → Type 0
-HasNone p (Root root) = root ≡ p.root
-HasNone p Activity = Unit {0}
-HasNone p (Unsettled fate) = IsUnsettled fate
-HasNone p NoMemory = Unit {0}
 
 -- a line with its line feed
 abbrev pub line_printed : CertLine → List ℕ

@@ -1,12 +1,15 @@
 //! Certificates from what the engine shows.
-ghost use Rattle.std.specs.Prelude.{◌≡◌, ◌-◌, length, slice_get, Some, IfOk, IfErr, IfSome, MatchOption};
-ghost use Rattle.explain.specs.Certificates.{Settles, IsUnsettled, HasNone};
+ghost use Rattle.std.specs.Prelude.{◌≡◌, ◌-◌, length, slice_get, Some, IfOk, IfErr, MatchOption};
+ghost use Rattle.explain.specs.Certificates.{Settles, IsUnsettled};
+ghost use Rattle.explain.specs.Explained.{EndsWith, AreJustifiedBy, IsCertificate, IsWithout, HasNone};
 ghost use Rattle.explain.specs.declared.making.ExplainFault.TheVariants.{NoMemory};
 
+use crate::checking::checked;
 use crate::graphs::{all_sources, control_sources, graph_at, split_path};
+use crate::naming::activity_text;
 use certificates::{CertLine, activity_at, line_bytes, path_below};
-use flow_core::Core;
-use flow_model::{Fate, FateRow, Graph, Library, List, Name, Path, Work, path_text};
+use flow_core::{Core, RootFacts};
+use flow_model::{Fate, FateRow, Graph, Library, List, Name, Path, Work};
 use indexmap::IndexMap;
 use std::alloc::{AllocError, Global};
 use thiserror::Error;
@@ -43,14 +46,6 @@ struct Shown<'a> {
     library: &'a Library,
     graph: &'a Graph,
     fates: IndexMap<Vec<u8>, Fate>,
-}
-
-/// A scope's text, `/`, and an activity's name.
-fn activity_text(alloc: Global, scope: &Path, name: &Name) -> Result<Vec<u8>, AllocError> {
-    let mut text = path_text(alloc, scope)?;
-    text.push(b'/')?;
-    text.extend_from_slice(name.as_slice())?;
-    Ok(text)
 }
 
 /// The rows of a view by the texts of their activities.
@@ -274,46 +269,86 @@ fn certificate(shown: &Shown<'_>, line: CertLine) -> Result<List<CertLine>, Allo
     Ok(lines)
 }
 
-/// The graph of a live root.
+/// The graph of a template.
 fn root_graph(core: &Core, template: u32) -> Option<&Graph> {
     let template = core.library().templates.as_slice().get(template as usize)?;
     Some(&template.graph)
 }
 
-/// The certificate of an activity that is dead or finished: its line behind all that it needs, each once.
+/// The fates that the engine shows of a live root; none where it shows none.
+fn fates_shown<'a>(
+    alloc: Global,
+    core: &'a Core,
+    facts: &RootFacts,
+) -> Result<Option<Shown<'a>>, AllocError> {
+    let Some(graph) = root_graph(core, facts.template) else {
+        return Ok(None);
+    };
+    let Some(rows) = core.begun_rows(alloc, facts.root)? else {
+        return Ok(None);
+    };
+    Ok(Some(Shown {
+        alloc,
+        library: core.library(),
+        graph,
+        fates: by_text(alloc, rows.as_slice())?,
+    }))
+}
+
+/// The certificate of an activity of a live root.
+fn explain_shown(
+    shown: &Shown<'_>,
+    scope: &Path,
+    activity: &Name,
+) -> Result<List<CertLine>, ExplainFault>
+    ensures certificate { IfOk result (EndsWith scope.now activity.now) }
+    ensures fault { IfErr result IsWithout }
+{
+    let text = activity_text(shown.alloc, scope, activity)?;
+    let Some(fate) = shown.fates.get(text.as_slice()).copied() else {
+        return Err(ExplainFault::Activity);
+    };
+    match settled_line(shown.alloc, scope, activity, fate)? {
+        None => Err(ExplainFault::Unsettled(fate)),
+        Some(line) => Ok(certificate(shown, line)?),
+    }
+}
+
+/// The certificate of an activity of a root with these facts, every line of it justified by them.
+fn explain_over(
+    alloc: Global,
+    core: &Core,
+    facts: &RootFacts,
+    scope: &Path,
+    activity: &Name,
+) -> Result<List<CertLine>, ExplainFault>
+    ensures certificate { IfOk result (EndsWith scope.now activity.now) }
+    ensures justified { IfOk result (AreJustifiedBy core.now facts.now) }
+    ensures fault { IfErr result IsWithout }
+{
+    let Some(shown) = fates_shown(alloc, core, facts)? else {
+        return Err(ExplainFault::Activity);
+    };
+    let lines = explain_shown(&shown, scope, activity)?;
+    Ok(checked(alloc, core, facts, lines)?)
+}
+
+/// The certificate of an activity that is dead or finished: its line behind all that it needs, each once. Every
+/// line is justified by those before it, over the accepted completions of the root.
 ///
-/// `Root` where there is no live root of that number, else `Activity` where its scope isn't begun or has no
-/// such activity, else `Unsettled` where it is neither dead nor finished.
+/// `Root` exactly where there is no live root of that number, else `Activity` where its scope isn't begun or has
+/// no such activity, else `Unsettled` where it is neither dead nor finished.
 pub fn explain(
     alloc: Global,
     core: &Core,
     scope: &Path,
     activity: &Name,
 ) -> Result<List<CertLine>, ExplainFault>
-    ensures certificate { IfOk result (λ lines. IfSome (slice_get lines (length lines - 1)) (Settles scope.now activity.now)) }
-    ensures fault { IfErr result (HasNone scope.now) }
+    ensures certificate { IfOk result (IsCertificate core.now scope.now activity.now) }
+    ensures fault { IfErr result (HasNone core.now scope.now) }
 {
-    let Some(template) = core.root_template(scope.root) else {
+    let Some(facts) = core.root_facts(alloc, scope.root)? else {
         return Err(ExplainFault::Root(scope.root));
     };
-    let Some(graph) = root_graph(core, template) else {
-        return Err(ExplainFault::Root(scope.root));
-    };
-    let Some(rows) = core.begun_rows(alloc, scope.root)? else {
-        return Err(ExplainFault::Root(scope.root));
-    };
-    let shown = Shown {
-        alloc,
-        library: core.library(),
-        graph,
-        fates: by_text(alloc, rows.as_slice())?,
-    };
-    let text = activity_text(alloc, scope, activity)?;
-    let Some(fate) = shown.fates.get(text.as_slice()).copied() else {
-        return Err(ExplainFault::Activity);
-    };
-    match settled_line(alloc, scope, activity, fate)? {
-        None => Err(ExplainFault::Unsettled(fate)),
-        Some(line) => Ok(certificate(&shown, line)?),
-    }
+    explain_over(alloc, core, &facts, scope, activity)
 }

@@ -1,13 +1,15 @@
 //! The texts of the words `explain` and `verify`, with whether each is a refusal.
-ghost use Rattle.std.specs.Prelude.{◌≡◌, ◌≤◌, ◌∷◌, [], ◌++◌, length, IfOk, vec_len, decimal as digits_of};
-ghost use Rattle.certificates.specs.Kept.{AreLaidTemplates};
-ghost use Rattle.flow_core.specs.Driving.{templates};
+ghost use Rattle.std.specs.Prelude.{◌≡◌, ◌≤◌, ◌∷◌, [], ◌++◌, length, IfOk, IfSome, vec_len, decimal as digits_of};
 ghost use Rattle.explain.specs.Certificates.{certificate_printed, IsVerdict};
-ghost use Rattle.explain.specs.Verified.{basis_in, AreFirst, AreGood, AreGoodIn, IsVerified};
+ghost use Rattle.explain.specs.Explained.{IsFaultText, IsExplained, ExplainsWord};
+ghost use Rattle.explain.specs.Verified.{AreFirst, AreGoodIn, IsVerified};
 
+use crate::checking::justified;
 use crate::making::{ExplainFault, explain};
-use certificates::{AcceptFault, CertLine, Grounds, accept, activity_in, read_line, write_line};
-use flow_core::{Core, RootFacts};
+use crate::naming::named_activity;
+use certificates::{CertLine, read_line, write_line};
+use flow_core::Core;
+use flow_model::{Name, Path};
 use flow_text::decimal;
 use reply_text::write_fate;
 use std::alloc::{AllocError, Global};
@@ -35,7 +37,9 @@ fn certificate_text(alloc: Global, lines: &[CertLine]) -> Result<Vec<u8>, AllocE
 }
 
 /// What is printed where there is no certificate.
-fn fault_text(alloc: Global, fault: ExplainFault) -> Result<Vec<u8>, AllocError> {
+fn fault_text(alloc: Global, fault: ExplainFault) -> Result<Vec<u8>, AllocError>
+    ensures { IfOk result (λ text. IsFaultText fault text.items) }
+{
     match fault {
         ExplainFault::Root(root) => numbered(alloc, b"no ROOT ", root),
         ExplainFault::Activity => Vec::from_slice(alloc, b"no ACTIVITY\n"),
@@ -49,20 +53,34 @@ fn fault_text(alloc: Global, fault: ExplainFault) -> Result<Vec<u8>, AllocError>
     }
 }
 
+/// What is printed of an activity, and whether it is a refusal.
+fn explained(
+    alloc: Global,
+    core: &Core,
+    scope: &Path,
+    name: &Name,
+) -> Result<(Vec<u8>, bool), AllocError>
+    ensures { IfOk result (λ answer. IsExplained core.now scope.now name.now answer.0.items answer.1) }
+{
+    match explain(alloc, core, scope, name) {
+        Ok(lines) => Ok((certificate_text(alloc, lines.as_slice())?, false)),
+        Err(fault) => Ok((fault_text(alloc, fault)?, true)),
+    }
+}
+
 /// What `explain` prints over a word that is a path, `/` and an activity's name, and whether it is a
 /// refusal; None where the word isn't of that form.
 pub fn explain_word(
     alloc: Global,
     core: &Core,
     path_word: &[u8],
-) -> Result<Option<(Vec<u8>, bool)>, AllocError> {
-    let Some((scope, name)) = activity_in(alloc, path_word)? else {
+) -> Result<Option<(Vec<u8>, bool)>, AllocError>
+    ensures { IfOk result (λ found. IfSome found (λ answer. ExplainsWord core.now path_word.now answer.0.items answer.1)) }
+{
+    let Some((scope, name)) = named_activity(alloc, path_word)? else {
         return Ok(None);
     };
-    Ok(Some(match explain(alloc, core, &scope, &name) {
-        Ok(lines) => (certificate_text(alloc, lines.as_slice())?, false),
-        Err(fault) => (fault_text(alloc, fault)?, true),
-    }))
+    Ok(Some(explained(alloc, core, &scope, &name)?))
 }
 
 /// The lines up to the first that isn't a line of a certificate or is too long.
@@ -80,30 +98,6 @@ fn read_lines(alloc: Global, lines: &[(Vec<u8>, bool)]) -> Result<Vec<CertLine>,
         }
     }
     Ok(read)
-}
-
-/// How many of the lines, from the first on, are justified.
-fn justified(
-    alloc: Global,
-    core: &Core,
-    facts: &RootFacts,
-    lines: &[CertLine],
-) -> Result<u64, AllocError>
-    ensures good { IfOk result (λ count. AreLaidTemplates (templates core.now) → AreGood (basis_in core.now facts.now) lines.now count) }
-    ensures within { IfOk result (λ count. count ≤ length lines.now) }
-{
-    let grounds = Grounds {
-        library: core.library(),
-        root: facts.root,
-        template: facts.template,
-        input: &facts.input,
-        facts: facts.facts.as_slice(),
-    };
-    match accept(alloc, &grounds, lines) {
-        Ok(()) => Ok(lines.len() as u64),
-        Err(AcceptFault::Line(number)) => Ok(number),
-        Err(AcceptFault::NoMemory) => Err(AllocError),
-    }
 }
 
 /// How many of the lines, from the first on, are justified by the root of the first.

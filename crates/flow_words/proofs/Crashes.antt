@@ -1,17 +1,15 @@
 -- What the words leave of a store.
-use Rattle.std.proofs.Common.{◌≡◌, ◌⊎◌, inl, inr, ℕ, Result, Ok, Err, OnOk, MatchResult, [], refl, arith}
+use Rattle.std.proofs.Common.{◌≡◌, inl, ℕ, Result, Ok, Err, OnOk, MatchResult, [], refl, arith}
 use Rattle.std.proofs.lemmas.List.Elements.{All-nil}
 use Rattle.flow_disk.specs.declared.disk.Slot.TheVariants.{A}
 use Rattle.flow_disk.specs.Images.{Image}
-use Rattle.flow_disk.specs.Moments.{LeavesOnly, Only}
+use Rattle.flow_disk.specs.Moments.{Only}
 use Rattle.txn_log.specs.Opening.{MayBeMade, first_header}
 use Rattle.txn_log.specs.Stores.{Counts, store_of}
 use Rattle.flow_core.specs.Summaries.{Summary}
 use Rattle.flow_session.specs.Histories.{StandsFor, IsLive}
 use Rattle.flow_session.specs.Serving.{Makes}
-use Rattle.flow_session.specs.Runs.{KeepsOrServes}
 use Rattle.flow_session.proofs.Keeping.{nothing_done}
-use Rattle.flow_session.proofs.Runs.{done_where}
 use Rattle.flow_words.specs.declared.status.Status.{Status}
 use Rattle.flow_words.specs.Crashes.{IsFailing, EndsDone, empty_history, MakesStore}
 

@@ -1,10 +1,16 @@
 -- How a run may end: a fault is answered only where the outside counted one.
-use Rattle.std.specs.Prelude.{ℕ}
+use Rattle.std.specs.Prelude.{ℕ, ◌≢◌, List, [], ◌∷◌, codes}
 use Rattle.flow_io.specs.Causes.{Rose}
 use Rattle.flow_io.specs.declared.lines.IoStop.{IoStop}
 use Rattle.flow_io.specs.declared.lines.IoStop.TheVariants as stop
+use Rattle.flow_session.specs.declared.serving.Stop.{Stop}
+use Rattle.flow_session.specs.declared.serving.Stop.TheVariants as session
 use Rattle.flow_words.specs.declared.status.Status.{Status}
 use Rattle.flow_words.specs.declared.status.Status.TheVariants.{Done, Usage, Store, StoreFault, ReadFault, WriteFault, NoMemory, ScriptTooLong, Refused}
+use Rattle.flow_words.specs.declared.stored.Look.{Look}
+use Rattle.flow_words.specs.declared.stored.Look.TheVariants.{Explain, Verify, Overdue, Ship}
+use Rattle.flow_words.specs.declared.stored.Word.{Word}
+use Rattle.flow_words.specs.declared.stored.Word.TheVariants.{New, Run, Follow, Look as LookInto}
 
 -- how a reader of lines that stops ends a run
 abbrev pub status_of : IoStop → Status
@@ -12,38 +18,86 @@ status_of stop.ReadFault = ReadFault
 status_of stop.ScriptTooLong = ScriptTooLong
 status_of stop.NoMemory = NoMemory
 
--- how a reply ends a run: by a sink whose count rose, or for another reason than the words or the source
+-- how a session that stops ends a run
+abbrev pub status_of_stop : Stop → Status
+status_of_stop session.StoreFault = StoreFault
+status_of_stop session.NoMemory = NoMemory
+
+-- how a reply ends a run: by a sink whose count rose, or for another reason than the words, the source or the store
 abbrev pub PrintCause : ℕ → ℕ → Status → Type 0
 PrintCause before now Done = Unit {0}
 PrintCause before now Usage = ⊥
 PrintCause before now Store = ⊥
-PrintCause before now StoreFault = Unit {0}
+PrintCause before now StoreFault = ⊥
 PrintCause before now ReadFault = ⊥
 PrintCause before now WriteFault = Rose before now
 PrintCause before now NoMemory = Unit {0}
 PrintCause before now ScriptTooLong = ⊥
 PrintCause before now Refused = Unit {0}
 
--- how a run ends: by a source or a sink whose count rose, or for another reason than the words
-abbrev pub RunCause : ℕ → ℕ → ℕ → ℕ → Status → Type 0
-RunCause read read' put put' Done = Unit {0}
-RunCause read read' put put' Usage = ⊥
-RunCause read read' put put' Store = ⊥
-RunCause read read' put put' StoreFault = Unit {0}
-RunCause read read' put put' ReadFault = Rose read read'
-RunCause read read' put put' WriteFault = Rose put put'
-RunCause read read' put put' NoMemory = Unit {0}
-RunCause read read' put put' ScriptTooLong = Unit {0}
-RunCause read read' put put' Refused = Unit {0}
+-- how serving an input ends a run: by a sink or a store whose count rose, or without memory
+abbrev pub ServeCause : ℕ → ℕ → ℕ → ℕ → Status → Type 0
+ServeCause put put' store store' Done = Unit {0}
+ServeCause put put' store store' Usage = ⊥
+ServeCause put put' store store' Store = ⊥
+ServeCause put put' store store' StoreFault = Rose store store'
+ServeCause put put' store store' ReadFault = ⊥
+ServeCause put put' store store' WriteFault = Rose put put'
+ServeCause put put' store store' NoMemory = Unit {0}
+ServeCause put put' store store' ScriptTooLong = ⊥
+ServeCause put put' store store' Refused = Unit {0}
 
--- the same, where the words may be none that the program knows
+-- how a run ends: by a source, a sink or a store whose count rose, or for another reason than the words
+abbrev pub RunCause : ℕ → ℕ → ℕ → ℕ → ℕ → ℕ → Status → Type 0
+RunCause read read' put put' store store' Done = Unit {0}
+RunCause read read' put put' store store' Usage = ⊥
+RunCause read read' put put' store store' Store = ⊥
+RunCause read read' put put' store store' StoreFault = Rose store store'
+RunCause read read' put put' store store' ReadFault = Rose read read'
+RunCause read read' put put' store store' WriteFault = Rose put put'
+RunCause read read' put put' store store' NoMemory = Unit {0}
+RunCause read read' put put' store store' ScriptTooLong = Unit {0}
+RunCause read read' put put' store store' Refused = Unit {0}
+
+-- how a word ends that needs no store: by a source or a sink whose count rose, or for another reason
 abbrev pub EndCause : ℕ → ℕ → ℕ → ℕ → Status → Type 0
 EndCause read read' put put' Done = Unit {0}
 EndCause read read' put put' Usage = Unit {0}
 EndCause read read' put put' Store = ⊥
-EndCause read read' put put' StoreFault = Unit {0}
+EndCause read read' put put' StoreFault = ⊥
 EndCause read read' put put' ReadFault = Rose read read'
 EndCause read read' put put' WriteFault = Rose put put'
 EndCause read read' put put' NoMemory = Unit {0}
 EndCause read read' put put' ScriptTooLong = Unit {0}
 EndCause read read' put put' Refused = Unit {0}
+
+-- how any word ends: a fault of the source, the sink or the store is answered only where its count rose
+abbrev pub WordCause : ℕ → ℕ → ℕ → ℕ → ℕ → ℕ → Status → Type 0
+WordCause read read' put put' store store' Done = Unit {0}
+WordCause read read' put put' store store' Usage = Unit {0}
+WordCause read read' put put' store store' Store = Unit {0}
+WordCause read read' put put' store store' StoreFault = Rose store store'
+WordCause read read' put put' store store' ReadFault = Rose read read'
+WordCause read read' put put' store store' WriteFault = Rose put put'
+WordCause read read' put put' store store' NoMemory = Unit {0}
+WordCause read read' put put' store store' ScriptTooLong = Unit {0}
+WordCause read read' put put' store store' Refused = Unit {0}
+
+-- these words begin with none of the two that send or take a stream
+abbrev pub SendNoStream : List (List ℕ) → Type 0
+SendNoStream [] = Unit {0}
+SendNoStream (first ∷ rest) = (first ≢ codes "ship") × (first ≢ codes "follow")
+
+-- a word that only looks into a store, and sends no stream
+abbrev pub OnlyLooks : Look → Type 0
+OnlyLooks Explain = Unit {0}
+OnlyLooks Verify = Unit {0}
+OnlyLooks Overdue = Unit {0}
+OnlyLooks (Ship from) = ⊥
+
+-- a word over a store that sends or takes no stream
+abbrev pub SendsNoStream : Word → Type 0
+SendsNoStream (New settings) = Unit {0}
+SendsNoStream Run = Unit {0}
+SendsNoStream Follow = ⊥
+SendsNoStream (LookInto look) = OnlyLooks look

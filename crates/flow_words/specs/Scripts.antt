@@ -19,11 +19,12 @@ use Rattle.flow_session.specs.declared.journal.NoJournal.{NoJournal}
 use Rattle.core_laws.specs.RightStates.{IsRightCore}
 use Rattle.flow_words.specs.Crashes.{empty_history}
 use Rattle.flow_words.specs.Numbers.{AreSettings, NamesSome}
+use Rattle.flow_words.specs.Openings.{IsUnserved}
 use Rattle.flow_words.specs.Printed.{PrintsPart, Prints}
 use Rattle.flow_words.specs.declared.pure.Word.{Word}
 use Rattle.flow_words.specs.declared.pure.Word.TheVariants.{Check, Fate, Try, Load}
 use Rattle.flow_words.specs.declared.status.Status.{Status}
-use Rattle.flow_words.specs.declared.status.Status.TheVariants.{Done, Usage, Store, StoreFault, ReadFault, WriteFault, NoMemory, ScriptTooLong, Refused}
+use Rattle.flow_words.specs.declared.status.Status.TheVariants.{Done, Usage, NoMemory}
 
 -- what a session is given of a line
 abbrev pub input_of : LineInput → Given
@@ -106,22 +107,10 @@ abbrev pub status_of_word : Result Status Status → Status
 status_of_word (Ok status) = status
 status_of_word (Err status) = status
 
--- a run over a store ends without having served an input
-abbrev pub IsUnserved : Status → Type 0
-IsUnserved Done = ⊥
-IsUnserved Usage = ⊥
-IsUnserved Store = Unit {0}
-IsUnserved StoreFault = Unit {0}
-IsUnserved ReadFault = ⊥
-IsUnserved WriteFault = Unit {0}
-IsUnserved NoMemory = Unit {0}
-IsUnserved ScriptTooLong = ⊥
-IsUnserved Refused = ⊥
-
 -- `run`: the store isn't opened, or it is, and serves the script
 abbrev pub RunsStore : {D : Type 0} → Type 0 → (D → ℕ) → (D → ℕ → Image → Type 0) → (D → Image) → (D → Image → Type 0) → Option (List ℕ) → Option (List ℕ) → Option (List ℕ) → D → D → Status → Type 0
 RunsStore tells moment left_since seen images left held held' disk disk' ended =
-    IsUnserved ended
+    IsUnserved held held' ended
     ⊎ ((served : Result (Unit {0}) Status) × ServesStoreScript tells moment left_since seen images left held held' disk disk' served × (ended ≡ status_after served))
 
 -- the word `try` with these words behind it, which name its settings

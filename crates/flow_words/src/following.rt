@@ -5,8 +5,8 @@ ghost use Rattle.flow_session.specs.Runs.{KeepsStore, KeepsOrServes};
 ghost use Rattle.flow_words.specs.Crashes.{EndsDone};
 
 use crate::looking::print_answer;
+use crate::refusing::refuse;
 use crate::status::Status;
-use crate::stored::refuse;
 use flow_disk::Disk;
 use flow_io::{Sink, Source};
 use standby::{

@@ -9,6 +9,7 @@ mod load;
 mod looking;
 mod numbers;
 mod pure;
+mod refusing;
 mod script;
 mod status;
 mod stored;

@@ -1,18 +1,19 @@
 //! The words that only look into a store: `explain`, `verify` and `overdue`.
-ghost use Rattle.std.specs.Prelude.{◌≡◌, true, false, IfErr, MatchResult, if◌then◌else◌};
+ghost use Rattle.std.specs.Prelude.{◌≡◌, ℕ, true, false, codes, IfErr, MatchResult, if◌then◌else◌};
 ghost use Rattle.flow_disk.specs.Moments.{Only};
 ghost use Rattle.flow_session.specs.Runs.{KeepsStore};
 ghost use Rattle.flow_words.specs.Crashes.{IsFailing};
-ghost use Rattle.flow_words.specs.Looking.{PrintsOverdue, PrintsVerdict, PrintsVerified};
+ghost use Rattle.flow_words.specs.Endings.{WordCause};
+ghost use Rattle.flow_words.specs.Looking.{PrintsExplained, PrintsOverdue, PrintsVerdict, PrintsVerified};
 ghost use Rattle.flow_words.specs.Printed.{Prints};
 ghost use Rattle.flow_words.specs.Scripts.{status_of_word};
-ghost use Rattle.flow_words.specs.declared.status.Status.TheVariants.{Done as DoneStatus, Refused as RefusedStatus};
+ghost use Rattle.flow_words.specs.declared.status.Status.TheVariants.{Done as DoneStatus, Usage as UsageStatus, Refused as RefusedStatus};
 
+use crate::refusing::refuse;
 use crate::script::{line_status, print};
 use crate::status::Status;
-use crate::stored::refuse;
 use deadlines::overdue_text;
-use explain::{activity_in, explain_word, verify_lines};
+use explain::{explain_word, named_activity, verify_lines};
 use flow_core::Core;
 use flow_disk::Disk;
 use flow_io::{Sink, Source};
@@ -21,7 +22,9 @@ use std::alloc::Global;
 use text_words::all_lines;
 
 /// Prints an answer, and says whether it is a refusal.
+#[tactic(auto, using(crate::proofs::EndingLemmas::word_prints))]
 pub fn print_answer<K: Sink>(out: &mut K, text: &[u8], is_refused: bool) -> Result<Status, Status>
+    ensures cause { (read read' store store' : ℕ) → WordCause read read' (K.faults out.old) (K.faults out.new) store store' (status_of_word result) }
     ensures ended { MatchResult result (λ status. status ≡ (if is_refused then RefusedStatus else DoneStatus)) IsFailing }
     ensures prints { Prints text.now (if is_refused then RefusedStatus else DoneStatus) (K.held out.old) (K.held out.new) (status_of_word result) }
 {
@@ -34,7 +37,11 @@ pub fn print_answer<K: Sink>(out: &mut K, text: &[u8], is_refused: bool) -> Resu
 }
 
 /// Prints that the words are none that the program knows.
-fn print_usage<K: Sink>(out: &mut K) -> Result<Status, Status> {
+#[tactic(auto, using(crate::proofs::EndingLemmas::word_prints))]
+fn print_usage<K: Sink>(out: &mut K) -> Result<Status, Status>
+    ensures cause { (read read' store store' : ℕ) → WordCause read read' (K.faults out.old) (K.faults out.new) store store' (status_of_word result) }
+    ensures prints { Prints (codes "no USAGE\n") UsageStatus (K.held out.old) (K.held out.new) (status_of_word result) }
+{
     print(out, b"no USAGE\n")?;
     Ok(Status::Usage)
 }
@@ -46,9 +53,11 @@ pub fn explain_in<K: Sink, D: Disk>(
     out: &mut K,
     disk: &mut D,
 ) -> Result<Status, Status>
-    ensures { D.tells → Only (D.seen disk.old) (D.images disk.old) → KeepsStore D.moment D.left_since D.seen disk.old disk.new }
+    ensures keeps { D.tells → Only (D.seen disk.old) (D.images disk.old) → KeepsStore D.moment D.left_since D.seen disk.old disk.new }
+    ensures cause { (read read' : ℕ) → WordCause read read' (K.faults out.old) (K.faults out.new) (D.faults disk.old) (D.faults disk.new) (status_of_word result) }
+    ensures prints { PrintsExplained D.tells D.moment D.left_since D.seen D.images activity.now (K.held out.old) (K.held out.new) disk.old disk.new (status_of_word result) }
 {
-    if activity_in(alloc, activity)?.is_none() {
+    if named_activity(alloc, activity)?.is_none() {
         return print_usage(out);
     }
     match reopen(alloc, disk) {
@@ -61,13 +70,15 @@ pub fn explain_in<K: Sink, D: Disk>(
 }
 
 /// Reads a certificate to its end, and prints whether it holds over a state.
+#[tactic(auto, using(crate::proofs::EndingLemmas::word_stops))]
 fn verify_over<S: Source, K: Sink>(
     alloc: Global,
     core: &Core,
     src: &mut S,
     out: &mut K,
 ) -> Result<Status, Status>
-    ensures { PrintsVerdict (S.left src.old) (K.held out.old) (K.held out.new) (status_of_word result) core.now }
+    ensures cause { (store : ℕ) → WordCause (S.faults src.old) (S.faults src.new) (K.faults out.old) (K.faults out.new) store store (status_of_word result) }
+    ensures prints { PrintsVerdict (S.left src.old) (K.held out.old) (K.held out.new) (status_of_word result) core.now }
 {
     match all_lines(alloc, src) {
         Err(stop) => Err(line_status(stop)),
@@ -86,6 +97,7 @@ pub fn verify_in<S: Source, K: Sink, D: Disk>(
     disk: &mut D,
 ) -> Result<Status, Status>
     ensures keeps { D.tells → Only (D.seen disk.old) (D.images disk.old) → KeepsStore D.moment D.left_since D.seen disk.old disk.new }
+    ensures cause { WordCause (S.faults src.old) (S.faults src.new) (K.faults out.old) (K.faults out.new) (D.faults disk.old) (D.faults disk.new) (status_of_word result) }
     ensures prints { PrintsVerified D.tells D.moment D.left_since D.seen D.images (S.left src.old) (K.held out.old) (K.held out.new) disk.old disk.new (status_of_word result) }
 {
     match reopen(alloc, disk) {
@@ -101,6 +113,7 @@ pub fn overdue_in<K: Sink, D: Disk>(
     disk: &mut D,
 ) -> Result<Status, Status>
     ensures keeps { D.tells → Only (D.seen disk.old) (D.images disk.old) → KeepsStore D.moment D.left_since D.seen disk.old disk.new }
+    ensures cause { (read read' : ℕ) → WordCause read read' (K.faults out.old) (K.faults out.new) (D.faults disk.old) (D.faults disk.new) (status_of_word result) }
     ensures prints { PrintsOverdue D.tells D.moment D.left_since D.seen D.images (K.held out.old) (K.held out.new) disk.old disk.new (status_of_word result) }
 {
     match reopen(alloc, disk) {

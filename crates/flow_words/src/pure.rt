@@ -94,7 +94,7 @@ fn end_with<K: Sink>(out: &mut K, answer: Result<Answer, AllocError>) -> Status
 /// Reads an input, and prints what `check` answers to it.
 #[tactic(auto, using(crate::proofs::EndingLemmas::run_stops, crate::proofs::EndingLemmas::run_prints))]
 fn answer_check<S: Source, K: Sink>(alloc: Global, src: &mut S, out: &mut K) -> Status
-    ensures cause { RunCause (S.faults src.old) (S.faults src.new) (K.faults out.old) (K.faults out.new) result }
+    ensures cause { RunCause (S.faults src.old) (S.faults src.new) (K.faults out.old) (K.faults out.new) 0 0 result }
     ensures prints { PrintsAnswer (IsCheckOf (S.left src.old)) (K.held out.old) (K.held out.new) result }
 {
     match Input::read(alloc, src, false) {
@@ -106,7 +106,7 @@ fn answer_check<S: Source, K: Sink>(alloc: Global, src: &mut S, out: &mut K) -> 
 /// Reads an input, and prints what `fate` answers to it.
 #[tactic(auto, using(crate::proofs::EndingLemmas::run_stops, crate::proofs::EndingLemmas::run_prints))]
 fn answer_fate<S: Source, K: Sink>(alloc: Global, src: &mut S, out: &mut K) -> Status
-    ensures cause { RunCause (S.faults src.old) (S.faults src.new) (K.faults out.old) (K.faults out.new) result }
+    ensures cause { RunCause (S.faults src.old) (S.faults src.new) (K.faults out.old) (K.faults out.new) 0 0 result }
     ensures prints { PrintsAnswer (IsFateOf (S.left src.old)) (K.held out.old) (K.held out.new) result }
 {
     match Input::read(alloc, src, true) {
@@ -122,7 +122,7 @@ fn serve_script<S: Source, K: Sink>(
     src: &mut S,
     out: &mut K,
 ) -> Status
-    ensures cause { RunCause (S.faults src.old) (S.faults src.new) (K.faults out.old) (K.faults out.new) result }
+    ensures cause { RunCause (S.faults src.old) (S.faults src.new) (K.faults out.old) (K.faults out.new) 0 0 result }
     ensures tries { (served : Result (Unit {0}) StatusOf) × IsTried settings.queues settings.limit (S.left src.old) (K.held out.old) (K.held out.new) served × (result ≡ status_after served) }
 {
     match try_script(alloc, settings, src, out) {
@@ -142,7 +142,7 @@ fn print_load<K: Sink>(alloc: Global, seed: u64, roots: u64, out: &mut K) -> Sta
 
 #[tactic(auto, using(crate::proofs::EndingLemmas::run_prints))]
 fn obey<S: Source, K: Sink>(alloc: Global, word: Word, src: &mut S, out: &mut K) -> Status
-    ensures cause { RunCause (S.faults src.old) (S.faults src.new) (K.faults out.old) (K.faults out.new) result }
+    ensures cause { RunCause (S.faults src.old) (S.faults src.new) (K.faults out.old) (K.faults out.new) 0 0 result }
     ensures check { word ≡ CheckWord → PrintsAnswer (IsCheckOf (S.left src.old)) (K.held out.old) (K.held out.new) result }
     ensures fate { word ≡ FateWord → PrintsAnswer (IsFateOf (S.left src.old)) (K.held out.old) (K.held out.new) result }
     ensures tries { (settings : SettingsOf) → word ≡ TryWord settings → (served : Result (Unit {0}) StatusOf) × IsTried settings.queues settings.limit (S.left src.old) (K.held out.old) (K.held out.new) served × (result ≡ status_after served) }

@@ -5,7 +5,7 @@ ghost use Rattle.flow_core.specs.Summaries.{summary};
 ghost use Rattle.flow_session.specs.Inputs.{given};
 ghost use Rattle.flow_session.specs.Serving.{Makes};
 ghost use Rattle.flow_words.specs.Crashes.{IsFailing};
-ghost use Rattle.flow_words.specs.Endings.{PrintCause, RunCause, status_of};
+ghost use Rattle.flow_words.specs.Endings.{PrintCause, ServeCause, RunCause, status_of, status_of_stop};
 ghost use Rattle.flow_words.specs.Printed.{PrintsPart};
 ghost use Rattle.flow_words.specs.Scripts.{input_of as given_of, ServesAndPrints, ServesScript, IsTried};
 ghost use Rattle.text_words.specs.Gathered.{found_input};
@@ -33,7 +33,7 @@ pub fn print<K: Sink>(out: &mut K, text: &[u8]) -> Result<(), Status>
 
 /// The status of a session that stops.
 pub fn stop_status(stop: Stop) -> Status
-    ensures cause { (before now : ℕ) → PrintCause before now result }
+    ensures status { result ≡ status_of_stop stop }
     ensures fails { IsFailing result }
 {
     match stop {
@@ -76,7 +76,8 @@ fn serve_one<J: Journal, K: Sink>(
     ensures kept { J.tells → OnOk result (J.holds journal.new (summary session.new.core)) }
     ensures makes { Makes J.tells J.moment J.left_since journal.old journal.new (summary session.old.core) (λ s. OnOk result (summary session.new.core ≡ s)) }
     ensures fails { IfErr result IsFailing }
-    ensures cause { MatchResult result (λ _. K.faults out.new ≡ K.faults out.old) (PrintCause (K.faults out.old) (K.faults out.new)) }
+    ensures cause { MatchResult result (λ _. (K.faults out.new ≡ K.faults out.old) × (J.faults journal.new ≡ J.faults journal.old))
+        (ServeCause (K.faults out.old) (K.faults out.new) (J.faults journal.old) (J.faults journal.new)) }
     ensures served { ServesAndPrints J.tells J.holds J.moment J.left_since (K.held out.old) (K.held out.new) (given input.entry) session.old session.new journal.old journal.new result }
 {
     match session.serve(journal, input) {
@@ -91,7 +92,7 @@ fn serve_one<J: Journal, K: Sink>(
 }
 
 /// Serves a script to its end.
-#[tactic(auto, using(crate::proofs::EndingLemmas::run_stops, crate::proofs::EndingLemmas::run_prints))]
+#[tactic(auto, using(crate::proofs::EndingLemmas::run_stops, crate::proofs::EndingLemmas::run_serves))]
 pub fn serve_all<S: Source, K: Sink, J: Journal>(
     alloc: Global,
     session: &mut Session,
@@ -103,7 +104,7 @@ pub fn serve_all<S: Source, K: Sink, J: Journal>(
     ensures kept { J.tells → OnOk result (J.holds journal.new (summary session.new.core)) }
     ensures makes { Makes J.tells J.moment J.left_since journal.old journal.new (summary session.old.core) (λ s. OnOk result (summary session.new.core ≡ s)) }
     ensures fails { IfErr result IsFailing }
-    ensures cause { IfErr result (RunCause (S.faults src.old) (S.faults src.new) (K.faults out.old) (K.faults out.new)) }
+    ensures cause { IfErr result (RunCause (S.faults src.old) (S.faults src.new) (K.faults out.old) (K.faults out.new) (J.faults journal.old) (J.faults journal.new)) }
     ensures serves { ServesScript J.tells J.holds J.moment J.left_since (S.left src.old) (K.held out.old) (K.held out.new) session.old session.new journal.old journal.new result }
 {
     let mut lines = match Lines::new(alloc, MOST_BYTES) {
@@ -130,7 +131,7 @@ pub fn try_script<S: Source, K: Sink>(
     src: &mut S,
     out: &mut K,
 ) -> Result<(), Status>
-    ensures cause { IfErr result (RunCause (S.faults src.old) (S.faults src.new) (K.faults out.old) (K.faults out.new)) }
+    ensures cause { IfErr result (RunCause (S.faults src.old) (S.faults src.new) (K.faults out.old) (K.faults out.new) 0 0) }
     ensures tries { IsTried settings.queues settings.limit (S.left src.old) (K.held out.old) (K.held out.new) result }
 {
     match Session::fresh(alloc, settings.queues, settings.limit) {

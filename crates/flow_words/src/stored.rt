@@ -1,5 +1,5 @@
 //! The words over a store in two files, and the two that make and serve one: `new` and `run`.
-ghost use Rattle.std.specs.Prelude.{◌≡◌, ◌≢◌, ℕ, Some, None, List, [], ◌∷◌, codes, map, string_bytes, IfErr, IsOk, MatchResult};
+ghost use Rattle.std.specs.Prelude.{◌≡◌, ◌≢◌, ℕ, Some, None, List, [], ◌∷◌, codes, map, string_bytes, IfErr, IfSome, IsOk, MatchResult};
 ghost use Rattle.flow_disk.specs.Images.{Image};
 ghost use Rattle.flow_disk.specs.Moments.{Only};
 ghost use Rattle.flow_core.specs.Summaries.{summary};
@@ -8,25 +8,28 @@ ghost use Rattle.flow_session.specs.Keeping.{IsOpen};
 ghost use Rattle.flow_session.specs.Runs.{KeepsStore, KeepsOrServes};
 ghost use Rattle.flow_session.specs.Serving.{Makes};
 ghost use Rattle.flow_words.specs.Crashes.{IsFailing, EndsDone, MakesStore, MakesKeepsOrServes};
+ghost use Rattle.flow_words.specs.Endings.{RunCause, WordCause, OnlyLooks, SendsNoStream, SendNoStream};
 ghost use Rattle.flow_words.specs.Looking.{PrintsOverdue, PrintsVerified};
+ghost use Rattle.flow_words.specs.Making.{PrintsMade, IsNewWord, MakesNamed, PrintsNew};
+ghost use Rattle.flow_words.specs.Numbers.{AreQueues, IsLimit};
 ghost use Rattle.flow_words.specs.Printed.{PrintsAnswer, IsCheckOf, IsFateOf};
-ghost use Rattle.flow_words.specs.Scripts.{status_of_word, IsUnserved, ServesOver, RunsStore, PrintsTry};
+ghost use Rattle.flow_words.specs.Scripts.{status_of_word, ServesOver, RunsStore, PrintsTry};
 ghost use Rattle.flow_words.specs.declared.status.Status.TheVariants.{Done as DoneStatus};
 ghost use Rattle.flow_words.specs.declared.stored.Look.TheVariants.{Overdue as OverdueLook, Verify as VerifyLook};
 ghost use Rattle.flow_words.specs.declared.stored.Word.TheVariants.{Run as RunWord, Look as LookWord};
 
 use crate::following::{follow_into, ship_from};
-use crate::looking::{explain_in, overdue_in, verify_in};
+use crate::looking::{explain_in, overdue_in, print_answer, verify_in};
 use crate::numbers::{Settings, number_in, settings_of};
 use crate::pure::run_pure;
-use crate::script::{print, serve_all};
+use crate::refusing::refuse;
+use crate::script::serve_all;
 use crate::status::Status;
-use flow_disk::{Disk, Slot};
+use flow_disk::Disk;
 use flow_io::{Sink, Source};
 use flow_session::{Session, Stored, reopen};
-use flow_text::decimal;
-use std::alloc::{AllocError, Global};
-use txn_log::{Log, LogStop};
+use std::alloc::Global;
+use txn_log::Log;
 
 /// The greatest number that a stream is shipped from: the greatest limit of a store.
 const MOST_NUMBER: u64 = 10_000_000;
@@ -56,6 +59,7 @@ fn short_word(word: &str) -> Option<Word>
     ensures overdue { word.now ≡ codes "overdue" → result ≡ Some (LookWord OverdueLook) }
     ensures verify { word.now ≡ codes "verify" → result ≡ Some (LookWord VerifyLook) }
     ensures tries { word.now ≡ codes "try" → result ≡ None }
+    ensures streams { word.now ≢ codes "follow" → IfSome result SendsNoStream }
 {
     match word {
         "run" => Some(Word::Run),
@@ -66,15 +70,26 @@ fn short_word(word: &str) -> Option<Word>
     }
 }
 
+/// The word `new` with these words behind its two files.
+fn new_word(rest: &[String]) -> Option<Word>
+    ensures news { IsNewWord (map string_bytes rest.now) result }
+    ensures streams { IfSome result SendsNoStream }
+{
+    let settings = settings_of(rest)?;
+    Some(Word::New(settings))
+}
+
 /// The word over a store with these words behind its two files.
 fn store_word(word: &str, rest: &[String]) -> Option<Word>
     ensures run { word.now ≡ codes "run" → rest.now ≡ [] → result ≡ Some RunWord }
     ensures overdue { word.now ≡ codes "overdue" → rest.now ≡ [] → result ≡ Some (LookWord OverdueLook) }
     ensures verify { word.now ≡ codes "verify" → rest.now ≡ [] → result ≡ Some (LookWord VerifyLook) }
     ensures tries { word.now ≡ codes "try" → result ≡ None }
+    ensures news { word.now ≡ codes "new" → IsNewWord (map string_bytes rest.now) result }
+    ensures streams { word.now ≢ codes "ship" → word.now ≢ codes "follow" → IfSome result SendsNoStream }
 {
     if word == "new" {
-        return Some(Word::New(settings_of(rest)?));
+        return new_word(rest);
     }
     match rest {
         [] => short_word(word),
@@ -94,6 +109,8 @@ fn word_of(words: &[String]) -> Option<Word>
     ensures run { (a b : List ℕ) → map string_bytes words.now ≡ codes "run" ∷ a ∷ b ∷ [] → a ≢ b → result ≡ Some RunWord }
     ensures overdue { (a b : List ℕ) → map string_bytes words.now ≡ codes "overdue" ∷ a ∷ b ∷ [] → a ≢ b → result ≡ Some (LookWord OverdueLook) }
     ensures verify { (a b : List ℕ) → map string_bytes words.now ≡ codes "verify" ∷ a ∷ b ∷ [] → a ≢ b → result ≡ Some (LookWord VerifyLook) }
+    ensures news { (a b : List ℕ) (rest : List (List ℕ)) → map string_bytes words.now ≡ codes "new" ∷ a ∷ b ∷ rest → a ≢ b → IsNewWord rest result }
+    ensures streams { SendNoStream (map string_bytes words.now) → IfSome result SendsNoStream }
 {
     match words {
         [word, a, b, rest @ ..] if a.as_str() != b.as_str() => store_word(word.as_str(), rest),
@@ -109,54 +126,6 @@ fn last_word(words: &[String]) -> &[u8] {
     }
 }
 
-fn slot_name(slot: Slot) -> &'static [u8] {
-    match slot {
-        Slot::A => b"A",
-        Slot::B => b"B",
-    }
-}
-
-/// What is printed of a store that isn't opened; None where nothing is.
-fn stop_text(alloc: Global, stop: &LogStop) -> Result<Option<Vec<u8>>, AllocError> {
-    let mut text = Vec::from_slice(alloc, b"no STORE ")?;
-    match stop {
-        LogStop::Unmade => text.extend_from_slice(b"UNMADE")?,
-        LogStop::Made => text.extend_from_slice(b"MADE")?,
-        LogStop::Foreign(slot) => {
-            text.extend_from_slice(b"FOREIGN ")?;
-            text.extend_from_slice(slot_name(*slot))?;
-        }
-        LogStop::Damaged(slot, place) => {
-            text.extend_from_slice(b"DAMAGED ")?;
-            text.extend_from_slice(slot_name(*slot))?;
-            text.push(b' ')?;
-            decimal(&mut text, *place)?;
-        }
-        LogStop::StoreFault => return Ok(None),
-        LogStop::NoMemory => return Ok(None),
-    }
-    text.push(b'\n')?;
-    Ok(Some(text))
-}
-
-/// Prints why a store isn't opened.
-pub fn refuse<K: Sink>(alloc: Global, out: &mut K, stop: &LogStop) -> Result<Status, Status>
-    ensures fails { MatchResult result IsFailing IsFailing }
-    ensures unserved { IsUnserved (status_of_word result) }
-{
-    match stop_text(alloc, stop) {
-        Err(_) => Err(Status::NoMemory),
-        Ok(Some(text)) => {
-            print(out, &text)?;
-            Ok(Status::Store)
-        }
-        Ok(None) => match stop {
-            LogStop::StoreFault => Err(Status::StoreFault),
-            _ => Err(Status::NoMemory),
-        },
-    }
-}
-
 /// Makes a store.
 fn make<K: Sink, D: Disk>(
     alloc: Global,
@@ -164,7 +133,10 @@ fn make<K: Sink, D: Disk>(
     out: &mut K,
     disk: &mut D,
 ) -> Result<Status, Status>
-    ensures { D.tells → Only (D.seen disk.old) (D.images disk.old) → MakesStore D.moment D.left_since D.seen D.images disk.old disk.new (EndsDone result) }
+    ensures store { D.tells → Only (D.seen disk.old) (D.images disk.old) → MakesStore D.moment D.left_since D.seen D.images disk.old disk.new (EndsDone result) }
+    ensures cause { (read read' : ℕ) → WordCause read read' (K.faults out.old) (K.faults out.new) (D.faults disk.old) (D.faults disk.new) (status_of_word result) }
+    ensures prints { AreQueues settings.queues → IsLimit settings.limit
+        → PrintsMade D.tells D.seen D.images settings.queues settings.limit (K.held out.old) (K.held out.new) disk.old disk.new (status_of_word result) }
 {
     let (queues, limit) = (settings.queues, settings.limit);
     if queues < 1 || queues > 16 || limit < 1 || limit > 10_000_000 {
@@ -172,10 +144,7 @@ fn make<K: Sink, D: Disk>(
     }
     match Log::make(alloc, disk, queues, limit) {
         Err(stop) => refuse(alloc, out, &stop),
-        Ok(_log) => {
-            print(out, b"ok NEW\n")?;
-            Ok(Status::Done)
-        }
+        Ok(_log) => print_answer(out, b"ok NEW\n", false),
     }
 }
 
@@ -191,6 +160,7 @@ fn serve_store<S: Source, K: Sink, D: Disk + Drop>(
     requires open { D.tells → IsOpen D.seen D.images log disk (summary session.core) }
     ensures makes { Makes D.tells D.moment D.left_since disk result.1 (summary session.core) (λ s. IsOk result.0 → D.tells → (c : Image) → D.images result.1 c → StandsFor s c) }
     ensures fails { IfErr result.0 IsFailing }
+    ensures cause { IfErr result.0 (RunCause (S.faults src.old) (S.faults src.new) (K.faults out.old) (K.faults out.new) (D.faults disk) (D.faults result.1)) }
     ensures serves { ServesOver D.tells D.moment D.left_since D.seen D.images (S.left src.old) (K.held out.old) (K.held out.new) session log disk result.1 result.0 }
 {
     let mut session = session;
@@ -207,6 +177,7 @@ fn run_script<S: Source, K: Sink, D: Disk + Drop>(
     disk: D,
 ) -> (Result<Status, Status>, D)
     ensures store { D.tells → Only (D.seen disk) (D.images disk) → KeepsOrServes D.tells D.moment D.left_since D.seen D.images disk result.1 (EndsDone result.0) }
+    ensures cause { WordCause (S.faults src.old) (S.faults src.new) (K.faults out.old) (K.faults out.new) (D.faults disk) (D.faults result.1) (status_of_word result.0) }
     ensures runs { RunsStore D.tells D.moment D.left_since D.seen D.images (S.left src.old) (K.held out.old) (K.held out.new) disk result.1 (status_of_word result.0) }
 {
     let mut disk = disk;
@@ -229,6 +200,7 @@ fn look_into<S: Source, K: Sink, D: Disk>(
     disk: &mut D,
 ) -> Result<Status, Status>
     ensures keeps { D.tells → Only (D.seen disk.old) (D.images disk.old) → KeepsStore D.moment D.left_since D.seen disk.old disk.new }
+    ensures cause { OnlyLooks look → WordCause (S.faults src.old) (S.faults src.new) (K.faults out.old) (K.faults out.new) (D.faults disk.old) (D.faults disk.new) (status_of_word result) }
     ensures overdue { look ≡ OverdueLook → PrintsOverdue D.tells D.moment D.left_since D.seen D.images (K.held out.old) (K.held out.new) disk.old disk.new (status_of_word result) }
     ensures verify { look ≡ VerifyLook → PrintsVerified D.tells D.moment D.left_since D.seen D.images (S.left src.old) (K.held out.old) (K.held out.new) disk.old disk.new (status_of_word result) }
 {
@@ -250,9 +222,11 @@ fn obey<S: Source, K: Sink, D: Disk + Drop>(
     disk: D,
 ) -> (Result<Status, Status>, D)
     ensures store { D.tells → Only (D.seen disk) (D.images disk) → MakesKeepsOrServes D.tells D.moment D.left_since D.seen D.images disk result.1 (EndsDone result.0) }
+    ensures cause { SendsNoStream word → WordCause (S.faults src.old) (S.faults src.new) (K.faults out.old) (K.faults out.new) (D.faults disk) (D.faults result.1) (status_of_word result.0) }
     ensures runs { word ≡ RunWord → RunsStore D.tells D.moment D.left_since D.seen D.images (S.left src.old) (K.held out.old) (K.held out.new) disk result.1 (status_of_word result.0) }
     ensures overdue { word ≡ LookWord OverdueLook → PrintsOverdue D.tells D.moment D.left_since D.seen D.images (K.held out.old) (K.held out.new) disk result.1 (status_of_word result.0) }
     ensures verify { word ≡ LookWord VerifyLook → PrintsVerified D.tells D.moment D.left_since D.seen D.images (S.left src.old) (K.held out.old) (K.held out.new) disk result.1 (status_of_word result.0) }
+    ensures news { (rest : List (List ℕ)) → IsNewWord rest (Some word) → MakesNamed D.tells D.seen D.images rest (K.held out.old) (K.held out.new) disk result.1 (status_of_word result.0) }
 {
     let mut disk = disk;
     match word {
@@ -284,6 +258,7 @@ pub fn run<S: Source, K: Sink, D: Disk + Drop>(
     disk: D,
 ) -> (Status, D)
     ensures store { D.tells → Only (D.seen disk) (D.images disk) → MakesKeepsOrServes D.tells D.moment D.left_since D.seen D.images disk result.1 (result.0 ≡ DoneStatus) }
+    ensures cause { SendNoStream (map string_bytes words.now) → WordCause (S.faults src.old) (S.faults src.new) (K.faults out.old) (K.faults out.new) (D.faults disk) (D.faults result.1) result.0 }
     ensures check { map string_bytes words.now ≡ codes "check" ∷ [] → PrintsAnswer (IsCheckOf (S.left src.old)) (K.held out.old) (K.held out.new) result.0 }
     ensures fate { map string_bytes words.now ≡ codes "fate" ∷ [] → PrintsAnswer (IsFateOf (S.left src.old)) (K.held out.old) (K.held out.new) result.0 }
     ensures tries { (rest : List (List ℕ)) → map string_bytes words.now ≡ codes "try" ∷ rest → PrintsTry rest (S.left src.old) (K.held out.old) (K.held out.new) result.0 }
@@ -293,6 +268,8 @@ pub fn run<S: Source, K: Sink, D: Disk + Drop>(
         → PrintsOverdue D.tells D.moment D.left_since D.seen D.images (K.held out.old) (K.held out.new) disk result.1 result.0 }
     ensures verify { (a b : List ℕ) → map string_bytes words.now ≡ codes "verify" ∷ a ∷ b ∷ [] → a ≢ b
         → PrintsVerified D.tells D.moment D.left_since D.seen D.images (S.left src.old) (K.held out.old) (K.held out.new) disk result.1 result.0 }
+    ensures news { (a b : List ℕ) (rest : List (List ℕ)) → map string_bytes words.now ≡ codes "new" ∷ a ∷ b ∷ rest → a ≢ b
+        → PrintsNew D.tells D.seen D.images rest (K.held out.old) (K.held out.new) disk result.1 result.0 }
 {
     let Some(word) = word_of(words) else {
         return (run_pure(alloc, words, src, out), disk);

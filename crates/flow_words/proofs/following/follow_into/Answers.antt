@@ -1,4 +1,3 @@
-use Rattle.std.proofs.Common.{◌≡◌}
 use Rattle.flow_session.proofs.Runs.{done_where}
 use Rattle.flow_words.proofs.following.follow_into.Goals as goal
 

@@ -1,8 +1,8 @@
-use Rattle.std.proofs.Common.{inr}
+use Rattle.std.proofs.Common.{inl, inr, rules}
 use Rattle.flow_core.specs.Summaries.{summary}
 use Rattle.flow_session.proofs.Runs.{opened}
 use Rattle.flow_words.specs.Scripts.{status_of_word}
-use Rattle.flow_words.proofs.Verdicts.{prints_late}
+use Rattle.flow_words.proofs.Verdicts.{prints_late, no_memory}
 use Rattle.flow_words.proofs.Serving.{stood_there}
 use Rattle.flow_words.proofs.looking.overdue_in.Goals as goal
 
@@ -14,3 +14,12 @@ returns-in_ok-text-in-Ok-clause-prints g c = inr (record {
   right = c.in-Ok.ensures.right;
   printed = prints_late (g.K.Sink.held c.args.out.now) (g.K.Sink.held c.print_answer.new.out) (status_of_word c.print_answer.result) c.in-Ok.session.core c.core.result.now c.in_ok-text-in-Ok.text.items c.deref.result.now c.core.ensures c.in_ok-text-in-Ok.ensures c.deref.ensures.value c.print_answer.ensures.prints;
 })
+
+pub returns-in_err-text-in-Ok-clause-prints : goal.returns-in_err-text-in-Ok-clause-prints
+returns-in_err-text-in-Ok-clause-prints g c = inl (no_memory (g.K.Sink.held c.args.out.now) (status_of_word c.from_residual.result) (search rules))
+
+pub returns-in-Err-clause-cause : goal.returns-in-Err-clause-cause
+returns-in-Err-clause-cause g c read read' = c.refuse.ensures.cause read read' (g.D.Disk.faults c.args.disk.now) (g.D.Disk.faults c.reopen.new.disk) c.in-Err.ensures.cause
+
+pub returns-in_ok-text-in-Ok-clause-cause : goal.returns-in_ok-text-in-Ok-clause-cause
+returns-in_ok-text-in-Ok-clause-cause g c read read' = c.print_answer.ensures.cause read read' (g.D.Disk.faults c.args.disk.now) (g.D.Disk.faults c.reopen.new.disk)

@@ -12,5 +12,11 @@ returns-in-Ok-clause-prints g c = inr (record {
   keeps = λ only. opened g.D.Disk.tells g.D.Disk.moment g.D.Disk.left_since g.D.Disk.seen g.D.Disk.images c.args.disk.now c.reopen.new.disk only c.reopen.ensures.any_moment;
   stood = λ told. stood_there g.D.Disk.seen c.args.disk.now c.reopen.new.disk (summary c.in-Ok.session.core) c.in-Ok.ensures.seen (c.in-Ok.ensures.open told).holds;
   right = c.in-Ok.ensures.right;
-  printed = subst (PrintsVerdict (g.S.Source.left c.args.src.now) (g.K.Sink.held c.args.out.now) (g.K.Sink.held c.verify_over.new.out) (status_of_word c.verify_over.result)) c.core.ensures c.verify_over.ensures;
+  printed = subst (PrintsVerdict (g.S.Source.left c.args.src.now) (g.K.Sink.held c.args.out.now) (g.K.Sink.held c.verify_over.new.out) (status_of_word c.verify_over.result)) c.core.ensures c.verify_over.ensures.prints;
 })
+
+pub returns-in-Err-clause-cause : goal.returns-in-Err-clause-cause
+returns-in-Err-clause-cause g c = c.refuse.ensures.cause (g.S.Source.faults c.args.src.now) (g.S.Source.faults c.args.src.now) (g.D.Disk.faults c.args.disk.now) (g.D.Disk.faults c.reopen.new.disk) c.in-Err.ensures.cause
+
+pub returns-in-Ok-clause-cause : goal.returns-in-Ok-clause-cause
+returns-in-Ok-clause-cause g c = rw c.in-Ok.ensures.cause (c.verify_over.ensures.cause (g.D.Disk.faults c.args.disk.now))

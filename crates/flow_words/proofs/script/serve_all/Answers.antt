@@ -1,4 +1,4 @@
-use Rattle.std.proofs.Common.{◌≡◌, [], refl, rules}
+use Rattle.std.proofs.Common.{[], refl, rules}
 use Rattle.flow_core.specs.Summaries.{summary}
 use Rattle.flow_session.specs.Inputs.{given}
 use Rattle.flow_session.proofs.Calls.{makes_nothing, makes_more, makes_last}
@@ -21,6 +21,7 @@ inputs-init g c = record {
   makes = makes_nothing g.J.Journal.tells g.J.Journal.moment g.J.Journal.left_since g.J.Journal.holds g.met.J.Journal.at_rest c.args.journal.now (summary c.args.session.now.core) _ c.requires.open refl;
   read = search rules;
   put = search rules;
+  stored = search rules;
   so_far = nothing_so_far g.J.Journal.tells g.J.Journal.holds g.J.Journal.moment g.J.Journal.left_since (g.S.Source.left c.args.src.now) _ (g.K.Sink.held c.args.out.now) c.args.session.now c.args.journal.now (search rules);
 }
 
@@ -30,6 +31,7 @@ inputs-preserved g c = record {
   makes = makes_more g.J.Journal.tells g.J.Journal.moment g.J.Journal.left_since c.args.journal.now c.inputs.journal c.serve_one.new.journal (summary c.args.session.now.core) (summary c.inputs.session.core) _ c.inputs.invariant.makes c.in_ok-serve_one.ensures.makes;
   read = search rules;
   put = search rules;
+  stored = search rules;
   so_far = one_so_far g.J.Journal.tells g.J.Journal.holds g.J.Journal.moment g.J.Journal.left_since (g.S.Source.left c.args.src.now) (g.S.Source.left c.inputs.src) (g.S.Source.left c.next.new.src) c.inputs.lines c.next.new.self (g.K.Sink.held c.args.out.now) (g.K.Sink.held c.inputs.out) (g.K.Sink.held c.serve_one.new.out) c.args.session.now c.inputs.session c.serve_one.new.session c.args.journal.now c.inputs.journal c.serve_one.new.journal c.in-Ok-next.found (given c.input_of-input.result) c.inputs.invariant.so_far c.in-Ok-next.ensures.serves (search rules) (search rules) c.in_ok-serve_one.ensures.served;
 }
 

@@ -10,6 +10,7 @@ invariant-inputs g l = record {
   makes : Makes g.J.Journal.tells g.J.Journal.moment g.J.Journal.left_since l.initial.journal l.journal (summary l.initial.session.core) (λ s. summary l.session.core ≡ s);
   read : g.S.Source.faults l.src ≡ g.S.Source.faults l.initial.src;
   put : g.K.Sink.faults l.out ≡ g.K.Sink.faults l.initial.out;
+  stored : g.J.Journal.faults l.journal ≡ g.J.Journal.faults l.initial.journal;
   so_far : SoFar g.J.Journal.tells g.J.Journal.holds g.J.Journal.moment g.J.Journal.left_since (g.S.Source.left l.initial.src) (g.S.Source.left l.src) l.lines (g.K.Sink.held l.initial.out) (g.K.Sink.held l.out) l.initial.session l.session l.initial.journal l.journal;
 }
 

@@ -1,9 +1,15 @@
-use Rattle.std.proofs.Common.{rules}
+use Rattle.std.proofs.Common.{rules, subst, sym}
+use Rattle.flow_words.specs.Endings.{ServeCause}
+use Rattle.flow_words.proofs.EndingLemmas.{stop_serves}
 use Rattle.flow_words.proofs.Serving.{nothing_printed}
 use Rattle.flow_words.proofs.script.serve_one.Goals as goal
 
 pub returns-in-Err-clause-cause : goal.returns-in-Err-clause-cause
-returns-in-Err-clause-cause g c = c.stop_status.ensures.cause (g.K.Sink.faults c.args.out.now) (g.K.Sink.faults c.args.out.now)
+returns-in-Err-clause-cause g c =
+    let put = g.K.Sink.faults c.args.out.now in
+    let before = g.J.Journal.faults c.args.journal.now in
+    let now = g.J.Journal.faults c.serve.new.journal in
+    subst (ServeCause put put before now) (sym c.stop_status.ensures.status) (stop_serves put before now c.in-Err.stop c.in-Err.ensures.cause)
 
 pub returns-then-is_empty-clause-served : goal.returns-then-is_empty-clause-served
 returns-then-is_empty-clause-served g c = (

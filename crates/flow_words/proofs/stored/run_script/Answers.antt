@@ -1,4 +1,4 @@
-use Rattle.std.proofs.Common.{◌≡◌, inr, rules}
+use Rattle.std.proofs.Common.{inr, rules}
 use Rattle.flow_core.specs.Summaries.{summary}
 use Rattle.flow_session.proofs.Runs.{opened, served}
 use Rattle.flow_words.proofs.Serving.{stood_there}
@@ -52,3 +52,6 @@ returns-in-Err-default-clause-runs g c = inr (
   },
   search rules,
 )
+
+pub returns-in-Err-clause-cause : goal.returns-in-Err-clause-cause
+returns-in-Err-clause-cause g c = c.refuse.ensures.cause (g.S.Source.faults c.args.src.now) (g.S.Source.faults c.args.src.now) (g.D.Disk.faults c.args.disk) (g.D.Disk.faults c.reopen.new.disk) c.in-Err.ensures.cause

@@ -1,4 +1,3 @@
-use Rattle.std.proofs.Common.{◌≡◌}
 use Rattle.flow_core.specs.Summaries.{summary}
 use Rattle.flow_session.proofs.Runs.{makes_on_disk, served_to_end}
 use Rattle.flow_words.proofs.Crashes.{later_ok}
