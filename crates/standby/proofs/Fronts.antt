@@ -1,5 +1,5 @@
 -- The bytes at the front of a stream, read.
-use Rattle.std.proofs.Common.{◌≡◌, ◌∙◌, ℕ, List, ◌∷◌, ◌++◌, length, get_or, take, drop, inl, inr, refl, ap, sym, subst, arith, drop-cons, drop-drop, take_all, take-append-drop}
+use Rattle.std.proofs.Common.{◌≡◌, ◌∙◌, ℕ, List, ◌∷◌, ◌++◌, length, get_or, take, drop, inl, inr, ap, sym, subst, arith, drop-cons, drop-drop, take_all, take-append-drop}
 use Rattle.std.specs.Int.{w64, to_be_bytes}
 use Rattle.std.proofs.lemmas.List.{length-drop}
 use Rattle.standby.specs.declared.frames.Front.{Front}

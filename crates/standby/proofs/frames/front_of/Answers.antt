@@ -1,4 +1,3 @@
-use Rattle.std.proofs.Common.{◌≡◌}
 use Rattle.std.specs.Int.{w64, to_be_bytes}
 use Rattle.standby.proofs.Fronts.{behind_magic}
 use Rattle.standby.proofs.frames.front_of.Goals as goal
