@@ -1,5 +1,5 @@
 //! The words over a store in two files, and the two that make and serve one: `new` and `run`.
-ghost use Rattle.std.specs.Prelude.{◌≡◌, ◌≢◌, ℕ, Some, None, List, [], ◌∷◌, codes, map, string_bytes, IfErr, IfSome, IsOk, MatchResult};
+ghost use Rattle.std.specs.Prelude.{◌≡◌, ◌≢◌, ℕ, Some, None, List, [], ◌∷◌, codes, map, string_bytes, IfErr, IfSome, IsOk};
 ghost use Rattle.flow_disk.specs.Images.{Image};
 ghost use Rattle.flow_disk.specs.Moments.{Only};
 ghost use Rattle.flow_core.specs.Summaries.{summary};
@@ -249,7 +249,12 @@ fn obey<S: Source, K: Sink, D: Disk + Drop>(
 /// `specs/Scripts.antt` says: each transaction is kept before its reply is given, and the replies are printed in
 /// order, all of them under `Done`. Under `overdue` over two files the store isn't opened, or exactly the late items of
 /// the state for which it stands are printed; under `verify`, exactly how many lines of the source, from the first on,
-/// are justified over that state, as `specs/Looking.antt` says.
+/// are justified over that state, as `specs/Looking.antt` says. Under `new` a store is made with the settings of the
+/// words, or none is for the cause that is printed, as `specs/Making.antt` says. A store that isn't opened is refused
+/// as `specs/Openings.antt` says.
+///
+/// Under each word but `ship` and `follow`, `ReadFault`, `WriteFault` and `StoreFault` come only where the count of
+/// faults of the source, the sink and the disk rose.
 pub fn run<S: Source, K: Sink, D: Disk + Drop>(
     alloc: Global,
     words: &[String],
