@@ -1,9 +1,10 @@
-use Rattle.std.proofs.Common.{◌≡◌, ℕ, List, inl, inr, subst, sym}
+use Rattle.std.proofs.Common.{◌≡◌, ℕ, List, Err, inl, inr, subst, sym}
 use Rattle.std.proofs.lemmas.Result.{IfOk-weaker}
 use Rattle.flow_model.specs.declared.graphs.Library.{Library}
 use Rattle.template_check.specs.Built.{AreSound}
 use Rattle.template_check.specs.Compiling.{IsNamedBy}
-use Rattle.template_check.specs.Judged.{line_at, IsFaultless, IsRefused}
+use Rattle.template_check.specs.Judged.{line_at, IsFaultless, IsJudged, IsRefused}
+use Rattle.template_check.specs.declared.faults.ImportFault.{ImportFault}
 use Rattle.text_words.specs.Answers.{no_imports, RefusesRule}
 use Rattle.text_words.specs.FateAnswers.{IsMeantAlone, AnswersLibrary, AnswersText}
 use Rattle.text_words.specs.declared.check.Answer.{Answer}
@@ -16,7 +17,8 @@ returns-in-Err-Rule-clause-judged c = λ none ended.
     let text = c.args.input.now.text.items in
     let behind = c.args.input.now.behind.items in
     let fault = c.in-Err-Rule.fault in
-    let broken = subst (λ (t : List ℕ). IsRefused c.new-store.result.catalog.library t fault.rule fault.place × (fault.line ≡ line_at t fault.place)) c.deref.ensures.value (c.in-Err-Rule.ensures.judged c.new-store.ensures.indexed) in
+    let judged = subst (λ (f : ImportFault). IsJudged {T = ℕ} c.new-store.result.catalog.library c.deref.result.now (Err f)) c.in-Err-Rule.field-0-is (c.in-Err-Rule.ensures.judged c.new-store.ensures.indexed) in
+    let broken = subst (λ (t : List ℕ). IsRefused c.new-store.result.catalog.library t fault.rule fault.place × (fault.line ≡ line_at t fault.place)) c.deref.ensures.value judged in
     IfOk-weaker c.rule_refusal.result (λ (answer : Answer). RefusesRule answer fault) (λ (answer : Answer). AnswersText text answer behind)
     (λ (answer : Answer) h. inl (refuses_first c.new-store.result.catalog.library text fault answer c.new-store.ensures.empty broken h)) c.rule_refusal.ensures
 
