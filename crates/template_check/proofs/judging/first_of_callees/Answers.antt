@@ -20,12 +20,12 @@ returns-in-Some-mismatched_containers c = λ indexed.
     let items = c.args.tree.now.items in
     let library = c.args.known.now.catalog.now.library in
     let none =
-        in_text items c.args.scopes.now c.requires.graphs (NamesNoProcess library (processes_in items)) None
-        (none_found _ c.unknown_processes.result c.in_default.not-Some (c.unknown_processes.ensures (processes_in items) c.requires.knowing indexed)) in
+    in_text items c.args.scopes.now c.requires.graphs (NamesNoProcess library (processes_in items)) None
+    (none_found _ c.unknown_processes.result c.in_default.not-Some (c.unknown_processes.ensures (processes_in items) c.requires.knowing indexed)) in
     let p = c.in-Some-mismatched_containers.place in
     let h =
-        misfits_found items c.args.scopes.now c.requires.graphs (leaves_in (structures_in items)) (table_leaves c.args.table.now) c.requires.leaves library (Some p)
-        (c.in-Some-mismatched_containers.ensures (processes_in items) c.requires.knowing indexed) in
+    misfits_found items c.args.scopes.now c.requires.graphs (leaves_in (structures_in items)) (table_leaves c.args.table.now) c.requires.leaves library (Some p)
+    (c.in-Some-mismatched_containers.ensures (processes_in items) c.requires.knowing indexed) in
     inr (none, inl (p, refl, h.0, h.1))
 
 pub returns-in-None : goal.returns-in-None
@@ -33,9 +33,9 @@ returns-in-None c = λ indexed.
     let items = c.args.tree.now.items in
     let library = c.args.known.now.catalog.now.library in
     let none =
-        in_text items c.args.scopes.now c.requires.graphs (NamesNoProcess library (processes_in items)) None
-        (none_found _ c.unknown_processes.result c.in_default.not-Some (c.unknown_processes.ensures (processes_in items) c.requires.knowing indexed)) in
+    in_text items c.args.scopes.now c.requires.graphs (NamesNoProcess library (processes_in items)) None
+    (none_found _ c.unknown_processes.result c.in_default.not-Some (c.unknown_processes.ensures (processes_in items) c.requires.knowing indexed)) in
     let none' =
-        misfits_found items c.args.scopes.now c.requires.graphs (leaves_in (structures_in items)) (table_leaves c.args.table.now) c.requires.leaves library None
-        (c.in-None.ensures (processes_in items) c.requires.knowing indexed) in
+    misfits_found items c.args.scopes.now c.requires.graphs (leaves_in (structures_in items)) (table_leaves c.args.table.now) c.requires.leaves library None
+    (c.in-None.ensures (processes_in items) c.requires.knowing indexed) in
     inr (none, inr (none', refl))
