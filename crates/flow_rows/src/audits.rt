@@ -157,9 +157,16 @@ fn doubled(alloc: Global, at: usize) -> Result<Vec<&'static str>, Fail> {
 
 /// The lines with the one at a place behind the next one.
 fn exchanged(alloc: Global, at: usize) -> Result<Vec<&'static str>, Fail> {
-    let mut lines = without(alloc, at)?;
-    if let Some(line) = LINES.get(at) {
-        lines.insert(at.saturating_add(1), *line)?;
+    let mut lines = Vec::new(alloc);
+    for (i, line) in LINES.iter().enumerate() {
+        if i != at {
+            lines.push(*line)?;
+        }
+        if i == at.saturating_add(1) {
+            if let Some(first) = LINES.get(at) {
+                lines.push(*first)?;
+            }
+        }
     }
     Ok(lines)
 }
