@@ -70,18 +70,17 @@ module _ (r : Root) (q : Note → ℕ) (served : IsServedRoot r) where
 
 -- ---- a root
 
-module _ (ts : List Template) (q : Note → ℕ) (h : List Event) (queued : Queued) (i i' : Instance) (right : IsRight ts q h queued i) where
+module _ (ts : List Template) (q : Note → ℕ) (h : List Event) (queued : Queued) (input : Container) (i i' : Instance) (right : IsRight ts q h queued input i) where
   abbrev the_root : Root
-  the_root = root_in ts right.depth right.graph right.input
+  the_root = root_in ts right.depth right.graph input
 
   -- it is right after one more event that leaves all but its scope: where the run may go on so, the state shows what is known then, and the messages stand in their queues
   next_right : (e : Event) (queued' : Queued) → i' ≡ record i { scope = i'.scope } → has_started (e ∷ h) ≡ has_started h → is_stopped (e ∷ h) ≡ is_stopped h
-      → IsLegal the_root q (e ∷ h) → Shows ts right.depth (seen (running (e ∷ h))) right.graph right.input i'.scope → AreQueued the_root q (e ∷ h) queued'
-      → IsRight ts q (e ∷ h) queued' i'
+      → IsLegal the_root q (e ∷ h) → Shows ts right.depth (seen (running (e ∷ h))) right.graph input i'.scope → AreQueued the_root q (e ∷ h) queued'
+      → IsRight ts q (e ∷ h) queued' input i'
   next_right e queued' kept started stopped legal shows messages = record {
     depth = right.depth;
     graph = right.graph;
-    input = right.input;
     process = ap (λ (u : Instance). graph_of ts u.template) kept ∙ right.process;
     served = right.served;
     legal = legal;
@@ -92,45 +91,43 @@ module _ (ts : List Template) (q : Note → ℕ) (h : List Event) (queued : Queu
   }
 
   -- while it isn't terminated its state shows what the whole run tells
-  shows_now : is_stopped h ≡ false → Shows ts right.depth (seen h) right.graph right.input i.scope
-  shows_now runs = subst (λ (a : List Event). Shows ts right.depth (seen a) right.graph right.input i.scope) (running_is h runs) right.shows
+  shows_now : is_stopped h ≡ false → Shows ts right.depth (seen h) right.graph input i.scope
+  shows_now runs = subst (λ (a : List Event). Shows ts right.depth (seen a) right.graph input i.scope) (running_is h runs) right.shows
 
   -- a scope that is the same shows the same
-  shows_same : i'.scope ≡ i.scope → Shows ts right.depth (seen (running h)) right.graph right.input i'.scope
-  shows_same same = subst (λ s. Shows ts right.depth (seen (running h)) right.graph right.input s) (sym same) right.shows
+  shows_same : i'.scope ≡ i.scope → Shows ts right.depth (seen (running h)) right.graph input i'.scope
+  shows_same same = subst (λ s. Shows ts right.depth (seen (running h)) right.graph input s) (sym same) right.shows
 
-  pub holds_right : (item : Path) (change : HoldChange) (held : Bool) → HoldsIn ts item change i i' → IsRight ts q (Held item.parts held ∷ h) queued i'
+  pub holds_right : (item : Path) (change : HoldChange) (held : Bool) → HoldsIn ts item change i i' → IsRight ts q (Held item.parts held ∷ h) queued input i'
   holds_right item change held holds =
       let e : Event = Held item.parts held in
       let tells : TellsNothing e h = record { seen = refl; started = refl } in
       let legal : IsLegal the_root q (e ∷ h) = record { fronts = (right.legal.fronts, λ m takes. absurd (none-some m takes)); awaited = right.legal.awaited } in
       next_right e queued holds.kept refl refl legal
-      (subst (λ k. Shows ts right.depth k right.graph right.input i'.scope) (sym (still_seen e h refl))
-      (holds.shows right.graph right.process right.depth (seen (running h)) right.input right.shows))
+      (subst (λ k. Shows ts right.depth k right.graph input i'.scope) (sym (still_seen e h refl))
+      (holds.shows right.graph right.process right.depth (seen (running h)) input right.shows))
       (queued_still the_root q right.served e h queued legal.fronts refl (still_due the_root e h tells) right.messages)
 
-  pub stops_right : i' ≡ record i { terminated = true } → IsRight ts q (Stopped ∷ h) queued i'
+  pub stops_right : i' ≡ record i { terminated = true } → IsRight ts q (Stopped ∷ h) queued input i'
   stops_right is =
       let tells : TellsNothing Stopped h = record { seen = refl; started = refl } in
       let legal : IsLegal the_root q (Stopped ∷ h) = record { fronts = (right.legal.fronts, λ m takes. absurd (none-some m takes)); awaited = right.legal.awaited } in
       record {
         depth = right.depth;
         graph = right.graph;
-        input = right.input;
         process = ap (λ (u : Instance). graph_of ts u.template) is ∙ right.process;
         served = right.served;
         legal = legal;
         started = right.started;
         stopped = sym (ap (λ (u : Instance). u.terminated) is);
-        shows = subst (λ k. Shows ts right.depth k right.graph right.input i'.scope) (sym (still_seen Stopped h refl)) (shows_same (ap (λ (u : Instance). u.scope) is));
+        shows = subst (λ k. Shows ts right.depth k right.graph input i'.scope) (sym (still_seen Stopped h refl)) (shows_same (ap (λ (u : Instance). u.scope) is));
         messages = queued_still the_root q right.served Stopped h queued legal.fronts refl (still_due the_root Stopped h tells) right.messages;
       }
 
-  pub mode_right : (suspended : Bool) → i' ≡ record i { suspended = suspended } → IsRight ts q h queued i'
+  pub mode_right : (suspended : Bool) → i' ≡ record i { suspended = suspended } → IsRight ts q h queued input i'
   mode_right suspended is = record {
     depth = right.depth;
     graph = right.graph;
-    input = right.input;
     process = ap (λ (u : Instance). graph_of ts u.template) is ∙ right.process;
     served = right.served;
     legal = right.legal;
@@ -141,25 +138,25 @@ module _ (ts : List Template) (q : Note → ℕ) (h : List Event) (queued : Queu
   }
 
   -- what a completion gives came to be due by it
-  gave_completed : (item : Path) (out : Container) (given : List Message) → i.terminated ≡ false → Awaits ts right.depth (seen h) right.graph right.input item.parts
+  gave_completed : (item : Path) (out : Container) (given : List Message) → i.terminated ≡ false → Awaits ts right.depth (seen h) right.graph input item.parts
       → CompletesIn ts item out given i i'
-      → Gives item.root ts right.depth right.graph right.input (seen h) (seen (Completed (record { item = item; output = out }) ∷ h)) given
+      → Gives item.root ts right.depth right.graph input (seen h) (seen (Completed (record { item = item; output = out }) ∷ h)) given
   gave_completed item out given lives awaits completes =
       let f : Fact = record { item = item; output = out } in
       let runs : is_stopped h ≡ false = right.stopped ∙ lives in
       let legal : IsLegal the_root q (Completed f ∷ h)
       = record { fronts = (right.legal.fronts, λ m takes. absurd (none-some m takes)); awaited = (right.legal.awaited, runs, awaits) } in
-      completes.gives right.graph right.process right.depth (seen h) (seen (Completed f ∷ h)) right.input right.served.well right.served.served right.served.aimed (counted_run h)
+      completes.gives right.graph right.process right.depth (seen h) (seen (Completed f ∷ h)) input right.served.well right.served.served right.served.aimed (counted_run h)
       (output_comes the_root q right.served f h legal runs) (shows_now runs)
 
   -- and names its root
-  pub completes_named : (item : Path) (out : Container) (given : List Message) → i.terminated ≡ false → Awaits ts right.depth (seen h) right.graph right.input item.parts
+  pub completes_named : (item : Path) (out : Container) (given : List Message) → i.terminated ≡ false → Awaits ts right.depth (seen h) right.graph input item.parts
       → CompletesIn ts item out given i i' → AreOf item.root given
   completes_named item out given lives awaits completes = (gave_completed item out given lives awaits completes).named
 
   pub completes_right : (queue_of : Message → ℕ) (item : Path) (out : Container) (given : List Message) → i.terminated ≡ false
-      → Awaits ts right.depth (seen h) right.graph right.input item.parts → CompletesIn ts item out given i i' → AgreesOn ts right.graph queue_of q given
-      → IsRight ts q (Completed (record { item = item; output = out }) ∷ h) (after_put queue_of given queued) i'
+      → Awaits ts right.depth (seen h) right.graph input item.parts → CompletesIn ts item out given i i' → AgreesOn ts right.graph queue_of q given
+      → IsRight ts q (Completed (record { item = item; output = out }) ∷ h) (after_put queue_of given queued) input i'
   completes_right queue_of item out given lives awaits completes agrees =
       let f : Fact = record { item = item; output = out } in
       let runs : is_stopped h ≡ false = right.stopped ∙ lives in
@@ -168,8 +165,8 @@ module _ (ts : List Template) (q : Note → ℕ) (h : List Event) (queued : Queu
       let on : running (Completed f ∷ h) ≡ Completed f ∷ h = running_is (Completed f ∷ h) runs in
       let comes = output_comes the_root q right.served f h legal runs in
       next_right (Completed f) (after_put queue_of given queued) completes.kept refl refl legal
-      (subst (λ (a : List Event). Shows ts right.depth (seen a) right.graph right.input i'.scope) (sym on)
-      (completes.shows right.graph right.process right.depth (seen h) (seen (Completed f ∷ h)) right.input right.served.well right.served.served (counted_run h) comes (shows_now runs)))
+      (subst (λ (a : List Event). Shows ts right.depth (seen a) right.graph input i'.scope) (sym on)
+      (completes.shows right.graph right.process right.depth (seen h) (seen (Completed f ∷ h)) input right.served.well right.served.served (counted_run h) comes (shows_now runs)))
       (queued_put the_root q right.served queue_of given agrees (Completed f) h queued legal.fronts refl
       (gives_put the_root h (Completed f) given right.started runs on (gave_completed item out given lives awaits completes).due q) right.messages)
 
@@ -184,10 +181,10 @@ module _ (ts : List Template) (q : Note → ℕ) (h : List Event) (queued : Queu
     }
 
     -- what a turn gives came to be due by it
-    gave_turned : i.terminated ≡ false → Gives (root_named message) ts right.depth right.graph right.input (seen h) (seen (Turned note ∷ h)) given
+    gave_turned : i.terminated ≡ false → Gives (root_named message) ts right.depth right.graph input (seen h) (seen (Turned note ∷ h)) given
     gave_turned lives =
         let runs : is_stopped h ≡ false = right.stopped ∙ lives in
-        takes.gives lives right.graph right.process note is right.depth (seen h) (seen (Turned note ∷ h)) right.input right.served.well right.served.served right.served.aimed (counted_run h)
+        takes.gives lives right.graph right.process note is right.depth (seen h) (seen (Turned note ∷ h)) input right.served.well right.served.served right.served.aimed (counted_run h)
         (turn_comes the_root q right.served note h legal_turn runs) (shows_now runs)
 
     -- and names its root
@@ -196,14 +193,14 @@ module _ (ts : List Template) (q : Note → ℕ) (h : List Event) (queued : Queu
     named true dead = subst (AreOf (root_named message)) (sym (takes.idle dead).1) (λ k m there. absurd (none-some m there))
 
     turns : (queue_of : Message → ℕ) → AgreesOn ts right.graph queue_of q given → (b : Bool) → i.terminated ≡ b
-        → IsRight ts q (Turned note ∷ h) (after_put queue_of given (after_taken n queued)) i'
+        → IsRight ts q (Turned note ∷ h) (after_put queue_of given (after_taken n queued)) input i'
     turns queue_of agrees false lives =
         let runs : is_stopped h ≡ false = right.stopped ∙ lives in
         let on : running (Turned note ∷ h) ≡ Turned note ∷ h = running_is (Turned note ∷ h) runs in
         let comes = turn_comes the_root q right.served note h legal_turn runs in
         next_right (Turned note) (after_put queue_of given (after_taken n queued)) takes.kept refl refl legal_turn
-        (subst (λ (a : List Event). Shows ts right.depth (seen a) right.graph right.input i'.scope) (sym on)
-        (takes.shows lives right.graph right.process note is right.depth (seen h) (seen (Turned note ∷ h)) right.input right.served.well right.served.served (counted_run h) comes (shows_now runs)))
+        (subst (λ (a : List Event). Shows ts right.depth (seen a) right.graph input i'.scope) (sym on)
+        (takes.shows lives right.graph right.process note is right.depth (seen h) (seen (Turned note ∷ h)) input right.served.well right.served.served (counted_run h) comes (shows_now runs)))
         (queued_taken the_root q right.served queue_of given agrees note h queued n legal_turn.fronts front
         (gives_put the_root h (Turned note) given right.started runs on (gave_turned lives).due q) right.messages)
     turns queue_of agrees true dead =
@@ -211,7 +208,7 @@ module _ (ts : List Template) (q : Note → ℕ) (h : List Event) (queued : Queu
         let idle = takes.idle dead in
         let nothing : put (engine the_root q) (Turned note) h ≡ [] = puts_nothing the_root q (Turned note) h (ap (due_now the_root) same) in
         next_right (Turned note) (after_put queue_of given (after_taken n queued)) takes.kept refl refl legal_turn
-        (subst (λ (a : List Event). Shows ts right.depth (seen a) right.graph right.input i'.scope) (sym same) (shows_same (ap (λ (u : Instance). u.scope) idle.0)))
+        (subst (λ (a : List Event). Shows ts right.depth (seen a) right.graph input i'.scope) (sym same) (shows_same (ap (λ (u : Instance). u.scope) idle.0)))
         (queued_taken the_root q right.served queue_of given agrees note h queued n legal_turn.fronts front
         (ap (map (note_in ts right.graph)) idle.1 ∙ ap (map Some) (sym nothing)) right.messages)
 
@@ -223,32 +220,31 @@ module _ (ts : List Template) (q : Note → ℕ) (h : List Event) (queued : Queu
 
   pub turns_right : (queue_of : Message → ℕ) (n : ℕ) (message : Message) (given : List Message) → slice_get (queued n) 0 ≡ Some message
       → TakesIn ts message given i i' → AgreesOn ts right.graph queue_of q given
-      → (note : Note) × (note_in ts right.graph message ≡ Some note) × IsRight ts q (Turned note ∷ h) (after_put queue_of given (after_taken n queued)) i'
+      → (note : Note) × (note_in ts right.graph message ≡ Some note) × IsRight ts q (Turned note ∷ h) (after_put queue_of given (after_taken n queued)) input i'
   turns_right queue_of n message given there takes agrees =
       let found = front_stands (note_in ts right.graph) (queued n) (queue (engine the_root q) h n) message (right.messages n) there in
       (found.0, found.1, turns n message given takes found.0 found.1 found.2 queue_of agrees i.terminated refl)
 
 -- so it is where each queue is written in another way
-pub requeued : (ts : List Template) (q : Note → ℕ) (h : List Event) (queued queued' : Queued) (i : Instance) → ((n : ℕ) → queued' n ≡ queued n)
-    → IsRight ts q h queued i → IsRight ts q h queued' i
-requeued ts q h queued queued' i same right = subst (λ (each : Queued). IsRight ts q h each i) (sym (fun_ext same)) right
+pub requeued : (ts : List Template) (q : Note → ℕ) (h : List Event) (queued queued' : Queued) (input : Container) (i : Instance) → ((n : ℕ) → queued' n ≡ queued n)
+    → IsRight ts q h queued input i → IsRight ts q h queued' input i
+requeued ts q h queued queued' input i same right = subst (λ (each : Queued). IsRight ts q h each input i) (sym (fun_ext same)) right
 
 -- ---- a larger library
 
-pub imports_right : (ts ts' : List Template) (q : Note → ℕ) (h : List Event) (queued : Queued) (i : Instance) → Agrees ts ts' → IsRight ts q h queued i → IsRight ts' q h queued i
-imports_right ts ts' q h queued i agrees right =
-    let r = root_in ts right.depth right.graph right.input in
+pub imports_right : (ts ts' : List Template) (q : Note → ℕ) (h : List Event) (queued : Queued) (input : Container) (i : Instance) → Agrees ts ts' → IsRight ts q h queued input i → IsRight ts' q h queued input i
+imports_right ts ts' q h queued input i agrees right =
+    let r = root_in ts right.depth right.graph input in
     let kept = messages_kept ts' r q agrees right.served.served in
     record {
       depth = right.depth;
       graph = right.graph;
-      input = right.input;
       process = agrees i.template right.graph right.process;
       served = root_form ts' r agrees right.served;
       legal = run_kept ts' r q h agrees right.served.served right.legal;
       started = right.started;
       stopped = right.stopped;
-      shows = (view_kept ts ts' right.depth right.depth (seen (running h)) right.graph right.input i.scope agrees right.served.served).there right.shows;
+      shows = (view_kept ts ts' right.depth right.depth (seen (running h)) right.graph input i.scope agrees right.served.served).there right.shows;
       messages = λ n. ap (λ f. map f (queued n)) (fun_ext kept.places) ∙ right.messages n ∙ ap (λ x. map Some (queue x h n)) (sym kept.queues);
     }
 
@@ -257,13 +253,12 @@ imports_right ts ts' q h queued i agrees right =
 pub starts_right : (ts : List Template) (q : Note → ℕ) (queue_of : Message → ℕ) (t number depth : ℕ) (g : Graph) (name : Name) (input : Container) (i : Instance)
     → graph_of ts t ≡ Some g → IsServedRoot (root_in ts depth g input) → IsStarted ts t number name input i
     → queue_of (Begin (record { root = number; parts = [] })) ≡ q (BeginNote [])
-    → IsRight ts q (Started ∷ []) (after_put queue_of (Begin (record { root = number; parts = [] }) ∷ []) none_queued) i
+    → IsRight ts q (Started ∷ []) (after_put queue_of (Begin (record { root = number; parts = [] }) ∷ []) none_queued) input i
 starts_right ts q queue_of t number depth g name input i of served starts same =
     let legal : IsLegal (root_in ts depth g input) q (Started ∷ []) = record { fronts = (tt, λ m takes. absurd (none-some m takes)); awaited = tt } in
     record {
       depth = depth;
       graph = g;
-      input = input;
       process = ap (graph_of ts) starts.template ∙ of;
       served = served;
       legal = legal;

@@ -118,16 +118,16 @@ shown_nested (Block' b g) fate outs starts shows n is = is
 shown_nested (Process t) fate outs starts shows n is = is
 
 -- an attempt that has started, with the state of its scope
-record HasScope (ts : List Template) (depth : ℕ) (k : Known) (g : Graph) (input : Container) (q : Part) (h : Graph) (s : ScopeState) : Type 0 where
-  place : ℕ
-  activity : Activity
-  number : ℕ
-  start : Start
-  is : slice_get (out-Graph g).activities place ≡ Some activity
-  of : graph_in ts activity.work ≡ Some h
-  named : part activity.name start.attempt ≡ q
-  started : slice_get (started_in ts depth k g input place activity) number ≡ Some start
-  shows : ShowsWithin ts depth (at q k) h start.input s
+pub record HasScope (ts : List Template) (depth : ℕ) (k : Known) (g : Graph) (input : Container) (q : Part) (h : Graph) (s : ScopeState) : Type 0 where
+  pub place : ℕ
+  pub activity : Activity
+  pub number : ℕ
+  pub start : Start
+  pub is : slice_get (out-Graph g).activities place ≡ Some activity
+  pub of : graph_in ts activity.work ≡ Some h
+  pub named : part activity.name start.attempt ≡ q
+  pub started : slice_get (started_in ts depth k g input place activity) number ≡ Some start
+  pub shows : ShowsWithin ts depth (at q k) h start.input s
 
 -- a scope to which a part leads is that of an attempt that has started, and shows its view
 module _ (ts : List Template) (depth : ℕ) (k : Known) (input : Container) (here : Stand) (shows : Shows ts depth k here.graph input here.scope) (q : Part) (x : Stand) where
@@ -162,7 +162,7 @@ module _ (ts : List Template) (depth : ℕ) (k : Known) (input : Container) (her
   scope_of_state a activity (Nested n) zero place is of there attempt found = absurd (none-some x.scope found)
   scope_of_state a activity (Nested n) (suc j) place is of there attempt found = scope_in a activity n j place is of there attempt found
 
-  scope_started : into ts here q ≡ Some x → HasScope ts depth k here.graph input q x.graph x.scope
+  pub scope_started : into ts here q ≡ Some x → HasScope ts depth k here.graph input q x.graph x.scope
   scope_started found =
       option_and_then_some (into_place ts here q.attempt) (place_of here.graph q.name) x found (λ a place there.
       option_and_then_some (λ activity. both (graph_in ts activity.work) (inner_of here.scope a q.attempt)) (slice_get (out-Graph here.graph).activities a) x there (λ activity is both_is.

@@ -47,11 +47,10 @@ AreQueued r q h queued = (n : ℕ) → map (note_in r.templates r.graph) (queued
 abbrev pub root_in : List Template → ℕ → Graph → Container → Root
 root_in ts depth g input = record { templates = ts; depth = depth; graph = g; input = input }
 
--- a root is right after a run: the run may be, the state shows its view, and its messages stand in their queues
-pub record IsRight (ts : List Template) (q : Note → ℕ) (h : List Event) (queued : Queued) (i : Instance) : Type 0 where
+-- a root is right after a run on this input: the run may be, the state shows its view, and its messages stand in their queues
+pub record IsRight (ts : List Template) (q : Note → ℕ) (h : List Event) (queued : Queued) (input : Container) (i : Instance) : Type 0 where
   pub depth : ℕ
   pub graph : Graph
-  pub input : Container
   pub process : graph_of ts i.template ≡ Some graph
   pub served : IsServedRoot (root_in ts depth graph input)
   pub legal : IsLegal (root_in ts depth graph input) q h

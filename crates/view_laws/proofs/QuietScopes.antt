@@ -94,7 +94,7 @@ module _ (ts : List Template) (k : Known) (runs runs' : Runs) (g : Graph) (input
       go true is = rw is (ap (option_map with_return_code) (same q h i (ok h refl).inside))
       go false is = rw is (ap (option_map with_return_code) (same q h i (ok h refl).inside) ∙ none_gives q h i (runs (at q k) h i) refl (ok h refl).closed is)
 
-  gives_same : (name : Name) (w : Work) (j : ℕ) (i : Container) → IfInside runs below ts k name w j i → Agree (gives ts k runs name w) (gives ts (all_of k) runs' name w) j i
+  pub gives_same : (name : Name) (w : Work) (j : ℕ) (i : Container) → IfInside runs below ts k name w j i → Agree (gives ts k runs name w) (gives ts (all_of k) runs' name w) j i
   gives_same name (Program p) j i ok = refl
   gives_same name (Block' b h) j i ok = scope_same (Some h) (part name j) i ok
   gives_same name (Process t) j i ok = scope_same (graph_of ts t) (part name j) i ok
@@ -149,7 +149,7 @@ module _ (ts : List Template) (k : Known) (runs runs' : Runs) (g : Graph) (input
 
 -- ---- to any depth
 
-with_well : (ts : List Template) (k : Known) (runs : Runs) (g : Graph) (i : Container) (inner : Graph → Type 0) (below : Known → Graph → Container → Type 0)
+pub with_well : (ts : List Template) (k : Known) (runs : Runs) (g : Graph) (i : Container) (inner : Graph → Type 0) (below : Known → Graph → Container → Type 0)
     → IsWell ts g inner → IsFull ts k runs g i below → IsFull ts k runs g i (λ k' h j. inner h × below k' h j)
 with_well ts k runs g i inner below well full = record {
   begun = full.begun;

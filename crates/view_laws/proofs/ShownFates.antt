@@ -154,7 +154,7 @@ module _ (ts : List Template) (k : Known) (runs runs' : Runs) (g : Graph) (input
           (ap (λ vs. fate_by activity (joined activity.join vs) (attempts_at ts (all_of k) runs' g input ef a (Some activity))) (values a known)
           ∙ ap (λ l. fate_by activity (joined activity.join (values_at k (out-Graph g).controls ev a)) l) outs)
 
-  started_open : (a : ℕ) (activity : Activity) → slice_get (out-Graph g).activities a ≡ Some activity
+  pub started_open : (a : ℕ) (activity : Activity) → slice_get (out-Graph g).activities a ≡ Some activity
       → is_open (fate_given ts k runs g input ev a) ≡ true → is_open (fate_given ts (all_of k) runs' g input ef a) ≡ true
   started_open a activity is shown = go (k.begun []) refl
     where

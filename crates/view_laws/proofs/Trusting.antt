@@ -343,7 +343,7 @@ module _ (r : Root) (qf : Note → ℕ) where
   same_value None None told sent = refl
   same_value None (Some v) told sent = let n : true ≡ false = sent v refl in cc
 
-  tops_begin : (k : Known) (q : Part) (o : Option Container) → times x (tops r qf k q o) (BeginNote []) ≡ 1
+  pub tops_begin : (k : Known) (q : Part) (o : Option Container) → times x (tops r qf k q o) (BeginNote []) ≡ 1
   tops_begin k q o = go (k.begun (q ∷ []) && is_given o) refl
     where
       go : (e : Bool) → (k.begun (q ∷ []) && is_given o) ≡ e → times x (tops r qf k q o) (BeginNote []) ≡ 1

@@ -279,7 +279,7 @@ module _ (r : Root) (q : Note → ℕ) where
             let t = taken_spent h m in
             omega arith
 
-        root_begun : (seen h).begun [] ≡ true
+        pub root_begun : (seen h).begun [] ≡ true
         root_begun =
             times_has x itself one (taken h) (BeginNote [])
             (let d = due_taken (BeginNote []) in
@@ -287,16 +287,16 @@ module _ (r : Root) (q : Note → ℕ) where
             let b : times x (start_note (has_started h)) (BeginNote []) ≡ 1 = rw started refl in
             omega arith)
 
-        signal_was : (p : List Part) (a b : ℕ) (v : Bool) (o : Option Bool) → (seen h).sent p a b o ≡ Some v → 1 ≤ times x (due_in r.templates r.depth (seen h) r.graph r.input) (SignalNote p a b v)
+        pub signal_was : (p : List Part) (a b : ℕ) (v : Bool) (o : Option Bool) → (seen h).sent p a b o ≡ Some v → 1 ≤ times x (due_in r.templates r.depth (seen h) r.graph r.input) (SignalNote p a b v)
         signal_was p a b v o was = rw (running_is h open_) at (signal_due p a b v o (rw (running_is h open_) was))
 
-        signal_is : (p : List Part) (a b : ℕ) (v : Bool) (o : Option Bool) → 1 ≤ times x (due_in r.templates r.depth (seen h) r.graph r.input) (SignalNote p a b v) → is_none ((seen h).sent p a b o) ≡ false
+        pub signal_is : (p : List Part) (a b : ℕ) (v : Bool) (o : Option Bool) → 1 ≤ times x (due_in r.templates r.depth (seen h) r.graph r.input) (SignalNote p a b v) → is_none ((seen h).sent p a b o) ≡ false
         signal_is p a b v o some = taken_told (taken h) p a b v (let d = due_taken (SignalNote p a b v) in let s = due_times h (SignalNote p a b v) in omega arith)
 
-        begin_is : (p : List Part) → 1 ≤ times x (due_in r.templates r.depth (seen h) r.graph r.input) (BeginNote p) → (seen h).begun p ≡ true
+        pub begin_is : (p : List Part) → 1 ≤ times x (due_in r.templates r.depth (seen h) r.graph r.input) (BeginNote p) → (seen h).begun p ≡ true
         begin_is p some = times_has x itself one (taken h) (BeginNote p) (let d = due_taken (BeginNote p) in let s = due_times h (BeginNote p) in omega arith)
 
-        end_is : (p : List Part) → 1 ≤ times x (due_in r.templates r.depth (seen h) r.graph r.input) (EndNote p) → (seen h).closed p ≡ true
+        pub end_is : (p : List Part) → 1 ≤ times x (due_in r.templates r.depth (seen h) r.graph r.input) (EndNote p) → (seen h).closed p ≡ true
         end_is p some = times_has x itself one (taken h) (EndNote p) (let d = due_taken (EndNote p) in let s = due_times h (EndNote p) in omega arith)
 
         full : Full r.templates r.depth (seen h) r.graph r.input

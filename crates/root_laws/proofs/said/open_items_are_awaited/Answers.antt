@@ -7,7 +7,7 @@ use Rattle.view_laws.proofs.WholeRuns.{running_is}
 use Rattle.view_laws.specs.Runs.{Event, seen}
 
 pub returns : goal.returns
-returns c = λ ts q h queued i item e right lives found goes.
-    open_awaited ts item.parts right.depth (seen h) right.input (stand right.graph i.scope) e
-    (subst (λ (a : List Event). Shows ts right.depth (seen a) right.graph right.input i.scope) (running_is h (right.stopped ∙ lives)) right.shows)
+returns c = λ ts q h queued input i item e right lives found goes.
+    open_awaited ts item.parts right.depth (seen h) input (stand right.graph i.scope) e
+    (subst (λ (a : List Event). Shows ts right.depth (seen a) right.graph input i.scope) (running_is h (right.stopped ∙ lives)) right.shows)
     goes found
