@@ -1,5 +1,6 @@
 -- Read first: Putting (queues), then Moved (roots and transactions).
 pub mod Listed
+pub mod Shelved
 pub mod Putting
 pub mod Moved
 pub mod Counting

@@ -1,5 +1,5 @@
 -- What a state asks of a transaction before it may be, and how the numbers of roots are counted.
-use Rattle.std.specs.Prelude.{◌≡◌, ◌⊎◌, ℕ, ◌<◌, ◌≤◌, ◌==◌, ◌&&◌, false, Result, Ok, Err, Option, Some, None, [], option_map, IfSome, IsTrue}
+use Rattle.std.specs.Prelude.{◌≡◌, ◌⊎◌, ℕ, ◌<◌, ◌≤◌, ◌==◌, ◌&&◌, false, Result, Ok, Err, Option, Some, None, List, [], option_map, IfSome, IsTrue}
 use Rattle.activity_states.specs.States.{fate_of}
 use Rattle.flow_model.specs.declared.graphs.DoneBy.{DoneBy}
 use Rattle.flow_model.specs.declared.graphs.DoneBy.TheVariants as by
@@ -18,6 +18,7 @@ use Rattle.navigator.specs.declared.instance.Item.{Item}
 use Rattle.navigator.specs.declared.scopes.ScopeState.{out-ScopeState}
 use Rattle.recover_queue.specs.Queues.{is_quiet}
 use Rattle.process_rules.specs.Imports.{IsIndexed}
+use Rattle.staff_worklists.specs.Standing.{item_in}
 use Rattle.flow_core.specs.Answers.{instance_of}
 use Rattle.flow_core.specs.Driving.{templates, item_of, program_in, IsFront}
 use Rattle.flow_core.specs.Summaries.{started}
@@ -123,10 +124,11 @@ pub record IsAllowed (c : Core) (t : Transaction) : Type 0 where
 
 -- ---- a state before any transaction
 
--- no root and no transaction is live, no message is queued, nothing was imported, and so names lead to nothing
+-- no root and no transaction is live, no message is queued, nothing was imported, and so names lead to nothing; no item is listed
 pub record IsBlank (c : Core) : Type 0 where
   pub roots : (root : ℕ) → instance_of c root ≡ None
   pub queues : IsTrue (is_quiet c.queues)
   pub library : templates c ≡ []
   pub indexed : IsIndexed c.store.catalog
   pub live : c.live.items ≡ []
+  pub unlisted : (name rank : List ℕ) → item_in c.worklists.shelves name rank ≡ None

@@ -1,9 +1,10 @@
 -- What is replied to the queries that list what is kept: a view, a queue, a root's audited transactions, the templates, a worklist.
-use Rattle.std.specs.Prelude.{◌≡◌, ℕ, ℤ, pos, ◌==◌, ◌&&◌, nat_le, Bool, if◌then◌else◌, Option, Some, None, is_some, option_map, List, [], ◌∷◌, ◌++◌, length, slice_get, codes}
-use Rattle.std.specs.List.{filter, flat_map}
+use Rattle.std.specs.Prelude.{◌≡◌, ℕ, ℤ, pos, ◌==◌, ◌&&◌, nat_le, Bool, true, false, not, count_by, if◌then◌else◌, Option, Some, None, is_some, option_map, List, [], ◌∷◌, ◌++◌, length, slice_get, codes}
+use Rattle.std.specs.List.{filter, flat_map, list_any}
 use Rattle.std.specs.Fmt.{decimal}
 use Rattle.std.specs.Ordering.{nat_cmp}
 use Rattle.std.specs.BTreeMap as tree
+use Rattle.flow_model.specs.Fates.{is_waiting}
 use Rattle.flow_model.specs.ScopeContainers.{graph_of}
 use Rattle.flow_model.specs.Scopes.{Known}
 use Rattle.flow_model.specs.declared.graphs.Container.{Container}
@@ -16,6 +17,7 @@ use Rattle.flow_model.specs.declared.graphs.Value.TheVariants.{Whole, Text}
 use Rattle.flow_model.specs.declared.instances.FateRow.{FateRow}
 use Rattle.flow_model.specs.declared.instances.Message.{Message}
 use Rattle.flow_model.specs.declared.instances.Mode.{Mode}
+use Rattle.flow_model.specs.declared.instances.Mode.TheVariants as modes
 use Rattle.flow_model.specs.declared.instances.WorkLine.{WorkLine}
 use Rattle.flow_model.specs.declared.transactions.Numbered.{Numbered}
 use Rattle.flow_model.specs.declared.transactions.Setting.{Setting}
@@ -136,6 +138,30 @@ AreRowsOf library i rows =
     (g : Graph) → graph_of library.templates i.template ≡ Some g →
     (depth : ℕ) → (k : Known) → (input : Container) → Shows library.templates depth k g input i.scope →
     rows ≡ view_rows library.templates depth k g input i.scope (record { root = i.root; parts = [] })
+
+-- an activity of the root's own scope that waits no longer
+abbrev pub is_at_work : FateRow → Bool
+is_at_work row = (length row.scope.parts == 0) && not (is_waiting row.fate)
+
+-- the rows of a root that has begun: none while all of its own scope waits
+abbrev pub begun_of : List FateRow → List FateRow
+begun_of rows = if list_any is_at_work rows then rows else []
+
+-- they are those of a live root
+abbrev pub AreBegun : Library → Option Instance → Option (List FateRow) → Type 0
+AreBegun library None found = found ≡ None
+AreBegun library (Some i) found = (rows : List FateRow) × AreRowsOf library i rows × (found ≡ Some (begun_of rows))
+
+-- a root that is done
+abbrev pub is_done : Mode → Bool
+is_done modes.Active = false
+is_done modes.Suspended = false
+is_done modes.Done = true
+is_done modes.Terminated = false
+
+-- how many live roots are done
+abbrev pub done_roots : Core → ℕ
+done_roots c = count_by (λ r. is_done (mode_now r.1.instance)) c.live_roots.entries
 
 -- SHOW shows the rows of a live root, and else is refused
 abbrev pub IsShown : Library → ℕ → Option Instance → List ℕ → Type 0

@@ -11,3 +11,4 @@ pub mod Judgements
 pub mod Admitting
 pub mod OpenItems
 pub mod Facts
+pub mod Shelving

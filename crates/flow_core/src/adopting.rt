@@ -7,6 +7,7 @@ ghost use Rattle.flow_core.specs.declared.refusals.Refusal.{Refusal as RefusalOf
 ghost use Rattle.flow_model.specs.declared.transactions.Transaction.TheVariants as made;
 ghost use Rattle.flow_model.specs.declared.instances.Path.{Path as PathOf};
 ghost use Rattle.flow_core.specs.Driving.{Drives};
+ghost use Rattle.flow_core.specs.Shelving.{Shelves};
 ghost use Rattle.flow_core.specs.Summaries.{summary, taken_up, counted, last_kept, Follows, deleted, started, roots_after};
 ghost use Rattle.flow_core.specs.Verdicts.{IsFront};
 ghost use Rattle.flow_core.specs.declared.adopting.AdoptFault.TheVariants.{NoMemory, NotAllowed};
@@ -363,6 +364,7 @@ impl Core {
         ensures kept { OnOk result (self.new.kept ≡ self.old.kept) }
         ensures allowed { OnOk result (IsAllowed self.old t) }
         ensures drives { OnOk result (Drives self.old t self.new) }
+        ensures shelves { OnOk result (Shelves self.old t self.new) }
         ensures counts { OnOk result (CountsRoot self.old t self.new) }
         ensures admitted { IsInOrder self.old → OnOk result (IsAdmitted self.old number t) }
         ensures refused { IsInOrder self.old → IfErr result (λ fault. fault ≡ NotAllowed → IsRefused self.old number t) }

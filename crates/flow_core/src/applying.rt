@@ -13,6 +13,8 @@ ghost use Rattle.flow_core.specs.Driving.{templates, IsVersionAt, IsVersionPlace
 ghost use Rattle.navigator.specs.declared.instance.HoldChange.TheVariants as holds;
 ghost use Rattle.recover_queue.specs.Queues.{root_of as root_of_message};
 ghost use Rattle.root_laws.specs.Becoming.{TakesIn, CompletesIn, HoldsIn};
+ghost use Rattle.flow_core.specs.Answers.{instance_of};
+ghost use Rattle.flow_core.specs.Shelving.{line_now, stands, SameStanding, without_root, listed, all_listed, unlisted, MakesReady, CompletesReady, IfRootLive, TurnShelves, CompletesShelves, HoldShelves, performer_named, Shelves};
 ghost use Rattle.flow_core.specs.Summaries.{summary, noted, next, with_transaction, with_root_of, without, kept_by, root_about, is_root, deleted, started};
 
 use crate::paths::{queue_of, rank_of, root_of};
@@ -128,7 +130,9 @@ pub fn is_about(root: u64, numbered: &Numbered) -> bool
 }
 
 /// An equal program.
-fn copy_program(alloc: Global, program: &Program) -> Result<Program, AllocError> {
+fn copy_program(alloc: Global, program: &Program) -> Result<Program, AllocError>
+    ensures { IfOk result (λ copy. copy ≡ program.now) }
+{
     Ok(Program {
         manual: program.manual,
         by: match &program.by {
@@ -152,6 +156,7 @@ impl Root {
     ) -> Result<(List<Message>, Vec<Path>), AllocError>
         ensures rest { self.new ≡ record self.old { instance = self.new.instance } }
         ensures taken { IfOk result (λ given. TakesIn library.now.templates message.now given.0 self.old.instance self.new.instance) }
+        ensures ready { IfOk result (λ given. MakesReady library.now.templates clock message.now given.1.items self.old.instance self.new.instance) }
     {
         self.instance.take_message(alloc, library, clock, message)
     }
@@ -168,6 +173,7 @@ impl Root {
     ) -> Result<(List<Message>, Vec<Path>), AllocError>
         ensures rest { self.new ≡ record self.old { instance = self.new.instance } }
         ensures completed { IfOk result (λ given. CompletesIn library.now.templates item.now output given.0 self.old.instance self.new.instance) }
+        ensures ready { IfOk result (λ given. CompletesReady library.now.templates clock item.now (record { output = output; performer = performer }) given.1.items self.old.instance self.new.instance) }
     {
         self.instance
             .complete_item(alloc, library, clock, item, output, performer)
@@ -199,11 +205,16 @@ impl Core {
         Ok(())
     }
 
-    /// What the worklists know of an open item.
-    fn item_line(&self, item: &Path) -> Result<Option<ItemLine>, AllocError> {
+    /// What the worklists know of an item; None where it isn't there or isn't manual.
+    fn manual_line(&self, item: &Path) -> Result<Option<ItemLine>, AllocError>
+        ensures { IfOk result (λ line. line ≡ line_now self.now item.now) }
+    {
         let Some(known) = self.known(item) else {
             return Ok(None);
         };
+        if !known.program.manual {
+            return Ok(None);
+        }
         let performer = match known.performer {
             None => None,
             Some(name) => Some(name.copy(self.alloc)?),
@@ -216,18 +227,12 @@ impl Core {
         }))
     }
 
-    /// Lists an open manual item as it stands now.
+    /// Lists a manual item as it stands now.
     fn list_item(&mut self, item: &Path) -> Result<(), AllocError>
-        ensures { self.new ≡ record self.old { worklists = self.new.worklists } }
+        ensures rest { self.new ≡ record self.old { worklists = self.new.worklists } }
+        ensures shelves { OnOk result (SameStanding (stands self.new) (listed self.old (stands self.old) item.now)) }
     {
-        let is_manual = match self.known(item) {
-            None => false,
-            Some(known) => known.program.manual,
-        };
-        if !is_manual {
-            return Ok(());
-        }
-        let Some(line) = self.item_line(item)? else {
+        let Some(line) = self.manual_line(item)? else {
             return Ok(());
         };
         let Some(graph) = self.root_graph(item.root) else {
@@ -237,9 +242,21 @@ impl Core {
         self.worklists.set(item, &rank, &line)
     }
 
+    /// Lists manual items as they stand now, one after the other.
+    fn list_all(&mut self, items: Vec<Path>) -> Result<(), AllocError>
+        ensures rest { self.new ≡ record self.old { worklists = self.new.worklists } }
+        ensures shelves { OnOk result (SameStanding (stands self.new) (all_listed self.old items.items (stands self.old))) }
+    {
+        for item in items {
+            self.list_item(&item)?;
+        }
+        Ok(())
+    }
+
     /// Takes an item off the worklists.
     fn unlist_item(&mut self, item: &Path) -> Result<(), AllocError>
-        ensures { self.new ≡ record self.old { worklists = self.new.worklists } }
+        ensures rest { self.new ≡ record self.old { worklists = self.new.worklists } }
+        ensures shelves { OnOk result (SameStanding (stands self.new) (unlisted self.old item.now (stands self.old))) }
     {
         if let Some(graph) = self.root_graph(item.root) {
             let rank = rank_of(self.alloc, self.library(), graph, item)?;
@@ -253,6 +270,7 @@ impl Core {
         ensures rest { self.new ≡ record self.old { store = self.new.store } }
         ensures library { OnOk result (LibraryAfter (made.Import text.now) (templates self.old) (templates self.new)) }
         ensures indexed { OnOk result (IsIndexed self.old.store.catalog → IsIndexed self.new.store.catalog) }
+        ensures shelves { SameStanding (stands self.new) (stands self.old) }
         ensures note { IfOk result (IsNoteOf self.old (made.Import text.now) self.new) }
     {
         match self.store.import(self.alloc, text.as_slice()) {
@@ -340,6 +358,7 @@ impl Core {
     ) -> Result<Note, AllocError>
         ensures kept { noted self.new ≡ noted self.old }
         ensures drives { OnOk result (Drives self.old (made.Start root process.now version starter.now (option_copied key.entry) settings.now) self.new) }
+        ensures shelves { OnOk result (SameStanding (stands self.new) (stands self.old)) }
         ensures note { IfOk result (λ n. n ≡ notes.Rooted root) }
     {
         let made = self.new_instance(root, process, version, starter, settings)?;
@@ -371,12 +390,10 @@ impl Core {
         ensures kept { noted self.new ≡ noted self.old }
         ensures rest { self.new ≡ record self.old { queues = self.new.queues; worklists = self.new.worklists } }
         ensures queues { OnOk result (self.new.queues ≡ put_in (queue_now self.old) messages self.old.queues) }
+        ensures shelves { OnOk result (SameStanding (stands self.new) (all_listed self.old ready.items (stands self.old))) }
     {
         self.put_all(messages)?;
-        for item in ready {
-            self.list_item(&item)?;
-        }
-        Ok(())
+        self.list_all(ready)
     }
 
     /// What a message does to its root, where that is live: the messages that it gives, and the items that
@@ -384,6 +401,7 @@ impl Core {
     fn take_in_root(&mut self, message: &Message) -> Result<(List<Message>, Vec<Path>), AllocError>
         ensures rest { self.new ≡ record self.old { live_roots = self.new.live_roots } }
         ensures roots { IfOk result (λ given. ChangesRoot (root_of_message message.now) (IfLive (TakesIn (templates self.old) message.now given.0) given.0) self.old self.new) }
+        ensures ready { IfOk result (λ given. IfRootLive (MakesReady (templates self.old) self.old.clock message.now) given.1.items (instance_of self.old (root_of_message message.now)) (instance_of self.new (root_of_message message.now))) }
     {
         match self.live_roots.get_mut(&root_of(message)) {
             None => Ok((List::new(self.alloc), Vec::new(self.alloc))),
@@ -398,6 +416,7 @@ impl Core {
         ensures kept { noted self.new ≡ noted self.old }
         ensures note { IfOk result (λ n. (message : MessageOf) → IsFront self.old queue message → n ≡ notes.Turned queue message) }
         ensures drives { OnOk result ((message : MessageOf) → IsFront self.old queue message → Drives self.old (made.Turn queue message) self.new) }
+        ensures shelves { OnOk result ((message : MessageOf) → IsFront self.old queue message → TurnShelves self.old message self.new) }
     {
         if queue < 1 || queue > self.queues.count() {
             return Ok(Note::Deleted);
@@ -430,6 +449,7 @@ impl Core {
     ) -> Result<(List<Message>, Vec<Path>), AllocError>
         ensures rest { self.new ≡ record self.old { live_roots = self.new.live_roots } }
         ensures roots { IfOk result (λ given. ChangesRoot item.now.root (IfLive (CompletesIn (templates self.old) item.now output given.0) given.0) self.old self.new) }
+        ensures ready { IfOk result (λ given. IfRootLive (CompletesReady (templates self.old) self.old.clock item.now (record { output = output; performer = performer })) given.1.items (instance_of self.old item.now.root) (instance_of self.new item.now.root)) }
     {
         match self.live_roots.get_mut(&item.root) {
             None => Ok((List::new(self.alloc), Vec::new(self.alloc))),
@@ -452,6 +472,7 @@ impl Core {
     ) -> Result<Note, AllocError>
         ensures kept { noted self.new ≡ noted self.old }
         ensures completes { OnOk result (CompletesItem self.old item.now settings.now self.new) }
+        ensures shelves { OnOk result (CompletesShelves self.old item.now performer settings.now (item_of self.old item.now) self.new) }
         ensures note { IfOk result (λ n. n ≡ notes.Fated (fate_now self.new item.now)) }
     {
         let Some(output) = self.output(item, settings)? else {
@@ -487,6 +508,7 @@ impl Core {
     fn change_hold(&mut self, item: &Path, change: HoldChange) -> Result<(), AllocError>
         ensures rest { self.new ≡ record self.old { live_roots = self.new.live_roots; worklists = self.new.worklists } }
         ensures roots { OnOk result (ChangesRoot item.now.root (IfLive (HoldsIn (templates self.old) item.now change) []) self.old self.new) }
+        ensures shelves { OnOk result (HoldShelves self.old item.now self.new) }
     {
         self.hold_in_root(item, change);
         self.list_item(item)
@@ -495,6 +517,7 @@ impl Core {
     fn hold_by(&mut self, item: &Path, who: &Name) -> Result<Note, AllocError>
         ensures kept { noted self.new ≡ noted self.old }
         ensures held { OnOk result (HoldsItem self.old item.now (holds.Person who.now) self.new) }
+        ensures shelves { OnOk result (HoldShelves self.old item.now self.new) }
         ensures note { IfOk result (λ n. n ≡ notes.Fated (fate_now self.new item.now)) }
     {
         let who = who.copy(self.alloc)?;
@@ -505,6 +528,7 @@ impl Core {
     fn hold_by_agent(&mut self, item: &Path, take: u64) -> Result<Note, AllocError>
         ensures kept { noted self.new ≡ noted self.old }
         ensures held { OnOk result (HoldsItem self.old item.now holds.Agent self.new) }
+        ensures shelves { OnOk result (HoldShelves self.old item.now self.new) }
         ensures note { IfOk result (λ n. n ≡ notes.Taken take) }
     {
         self.change_hold(item, HoldChange::Agent)?;
@@ -514,6 +538,7 @@ impl Core {
     fn give_back(&mut self, item: &Path) -> Result<Note, AllocError>
         ensures kept { noted self.new ≡ noted self.old }
         ensures held { OnOk result (HoldsItem self.old item.now holds.Nobody self.new) }
+        ensures shelves { OnOk result (HoldShelves self.old item.now self.new) }
         ensures note { IfOk result (λ n. n ≡ notes.Fated (fate_now self.new item.now)) }
     {
         self.change_hold(item, HoldChange::Nobody)?;
@@ -547,6 +572,7 @@ impl Core {
     fn terminate(&mut self, root: u64) -> Result<Note, AllocError>
         ensures kept { noted self.new ≡ noted self.old }
         ensures drives { OnOk result (Drives self.old (made.Terminate root) self.new) }
+        ensures shelves { OnOk result (SameStanding (stands self.new) (without_root root (stands self.old))) }
         ensures note { IfOk result (λ n. n ≡ notes.Moded modes.Terminated) }
     {
         self.terminate_root(root);
@@ -557,6 +583,7 @@ impl Core {
     fn suspend(&mut self, root: u64) -> Note
         ensures kept { noted self.new ≡ noted self.old }
         ensures drives { Drives self.old (made.Suspend root) self.new }
+        ensures shelves { SameStanding (stands self.new) (stands self.old) }
         ensures note { result ≡ notes.Moded modes.Suspended }
     {
         self.set_suspended(root, true);
@@ -566,6 +593,7 @@ impl Core {
     fn resume_root(&mut self, root: u64) -> Note
         ensures kept { noted self.new ≡ noted self.old }
         ensures drives { Drives self.old (made.Resume root) self.new }
+        ensures shelves { SameStanding (stands self.new) (stands self.old) }
         ensures note { result ≡ notes.Moded modes.Active }
     {
         self.set_suspended(root, false);
@@ -587,6 +615,7 @@ impl Core {
     fn delete(&mut self, root: u64) -> Note
         ensures kept { noted self.new ≡ noted self.old }
         ensures drives { Drives self.old (made.Delete root) self.new }
+        ensures shelves { SameStanding (stands self.new) (stands self.old) }
         ensures note { result ≡ notes.Deleted }
     {
         self.remove_root(root);
@@ -597,6 +626,7 @@ impl Core {
     fn done(&mut self, item: &Path, who: &Who, settings: &[Setting]) -> Result<Note, AllocError>
         ensures kept { noted self.new ≡ noted self.old }
         ensures completes { OnOk result (CompletesItem self.old item.now settings.now self.new) }
+        ensures shelves { OnOk result (CompletesShelves self.old item.now (performer_named who.now) settings.now (item_of self.old item.now) self.new) }
         ensures note { IfOk result (λ n. n ≡ notes.Fated (fate_now self.new item.now)) }
     {
         let performer = match who {
@@ -609,6 +639,7 @@ impl Core {
     fn set_clock(&mut self, minutes: u64) -> Note
         ensures kept { noted self.new ≡ noted self.old }
         ensures drives { Drives self.old (made.Clock minutes) self.new }
+        ensures shelves { SameStanding (stands self.new) (stands self.old) }
         ensures note { result ≡ notes.Clocked minutes }
     {
         self.clock = minutes;
@@ -619,6 +650,7 @@ impl Core {
         ensures kept { noted self.new ≡ noted self.old }
         ensures note { IfOk result (IsNoteOf self.old t.now self.new) }
         ensures drives { IsFrontOf self.old t.now → OnOk result (Drives self.old t.now self.new) }
+        ensures shelves { IsFrontOf self.old t.now → OnOk result (Shelves self.old t.now self.new) }
     {
         match t {
             Transaction::Import(text) => self.import(text),
@@ -685,6 +717,7 @@ impl Core {
         ensures note { IfOk result (λ applied. IsNoteOf self.old t self.new applied.note) }
         ensures applied { OnOk result (noted self.new ≡ (self.old.kept, self.old.kept_root, with_transaction self.old.number number t (summary self.old))) }
         ensures drives { IsFrontOf self.old t → OnOk result (Drives self.old t self.new) }
+        ensures shelves { IsFrontOf self.old t → OnOk result (Shelves self.old t self.new) }
     {
         self.count_root(&t);
         let note = self.change_by(&t)?;
@@ -699,6 +732,7 @@ impl Core {
         ensures number { IfOk result (λ applied. applied.number ≡ self.old.number + 1) }
         ensures note { IfOk result (λ applied. IsNoteOf self.old t self.new applied.note) }
         ensures drives { IsFrontOf self.old t → OnOk result (Drives self.old t self.new) }
+        ensures shelves { IsFrontOf self.old t → OnOk result (Shelves self.old t self.new) }
         ensures counts { OnOk result (CountsRoot self.old t self.new) }
     {
         self.number += 1;

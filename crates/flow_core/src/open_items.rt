@@ -115,7 +115,11 @@ impl Core {
     }
 
     /// The view of a root in show order.
-    fn rows_in(&self, alloc: Global, instance: &Instance) -> Result<List<FateRow>, AllocError>
+    pub(crate) fn rows_in(
+        &self,
+        alloc: Global,
+        instance: &Instance,
+    ) -> Result<List<FateRow>, AllocError>
         ensures { IfOk result (AreRowsOf self.now.store.catalog.library instance.now) }
     {
         instance.rows(alloc, self.library())

@@ -1,5 +1,8 @@
 //! Paths: the queue of a message, the rank of an item, and equal messages.
-ghost use Rattle.std.specs.Prelude.{◌≡◌, ◌↔◌, ◌-◌, ◌^◌, min, Some, option_copied, IfOk, IsTrue};
+ghost use Rattle.std.specs.Prelude.{◌≡◌, ◌↔◌, ◌-◌, ◌^◌, ◌∷◌, ◌++◌, min, Some, option_copied, unwrap_or, IfOk, OnOk, IsTrue};
+ghost use Rattle.flow_core.specs.Facts.{activity_on};
+ghost use Rattle.flow_core.specs.Shelving.{rank_on};
+ghost use Rattle.navigator.specs.Showing.{graph_under};
 ghost use Rattle.flow_core.specs.Driving.{activity_named as named_activity, is_process as processes_of, processes_along, receiver as receiver_of, queue_in};
 ghost use Rattle.flow_core.specs.Refusals.{between};
 ghost use Rattle.recover_queue.specs.Queues.{root_of as root_in};
@@ -26,6 +29,24 @@ fn activity_named<'a>(graph: &'a Graph, name: &Name) -> Option<&'a Activity>
     ensures { option_copied result ≡ named_activity graph.now name.now }
 {
     graph.activities.as_slice().get(place_of(graph, name)?)
+}
+
+/// The activity of an item, by the graph of its root and the names on its path.
+pub fn activity_along<'a>(
+    library: &'a Library,
+    graph: &'a Graph,
+    parts: &[Part],
+) -> Option<&'a Activity>
+    ensures { option_copied result ≡ activity_on library.now.templates parts.now graph.now }
+{
+    match parts {
+        [] => None,
+        [part] => activity_named(graph, &part.name),
+        [part, rest @ ..] => {
+            let activity = activity_named(graph, &part.name)?;
+            activity_along(library, graph_of(library, &activity.work)?, rest)
+        }
+    }
 }
 
 /// The number of process activities on the way along these parts.
@@ -77,28 +98,48 @@ pub fn root_of(message: &Message) -> u64
     receiver(message).0
 }
 
+/// The graph inside the activity at a place; this one where it runs none.
+fn inner_graph<'a>(library: &'a Library, graph: &'a Graph, place: usize) -> &'a Graph
+    ensures { result.now ≡ unwrap_or (graph_under library.now.templates graph.now (Some place)) graph.now }
+{
+    let Some(activity) = graph.activities.as_slice().get(place) else {
+        return graph;
+    };
+    graph_of(library, &activity.work).unwrap_or(graph)
+}
+
+/// Adds the place and the attempt of each part, as far as their names lead.
+fn add_ranks(
+    library: &Library,
+    graph: &Graph,
+    parts: &[Part],
+    rank: &mut Rank,
+) -> Result<(), AllocError>
+    ensures { OnOk result (rank.new.items ≡ rank.old.items ++ rank_on library.now.templates parts.now graph.now) }
+{
+    let [part, rest @ ..] = parts else {
+        return Ok(());
+    };
+    let Some(place) = place_of(graph, &part.name) else {
+        return Ok(());
+    };
+    rank.push(place as u64)?;
+    rank.push(part.attempt)?;
+    add_ranks(library, inner_graph(library, graph, place), rest, rank)
+}
+
 /// Where an item stands in show order: its root, then the place and the attempt of each part.
 pub fn rank_of(
     alloc: Global,
     library: &Library,
     graph: &Graph,
     item: &Path,
-) -> Result<Rank, AllocError> {
-    let mut graph = graph;
+) -> Result<Rank, AllocError>
+    ensures { IfOk result (λ rank. rank.items ≡ item.now.root ∷ rank_on library.now.templates item.now.parts graph.now) }
+{
     let mut rank = Vec::new(alloc);
     rank.push(item.root)?;
-    for part in item.parts.as_slice() {
-        let Some(place) = place_of(graph, &part.name) else {
-            return Ok(rank);
-        };
-        rank.push(place as u64)?;
-        rank.push(part.attempt)?;
-        if let Some(activity) = graph.activities.as_slice().get(place) {
-            if let Some(inner) = graph_of(library, &activity.work) {
-                graph = inner;
-            }
-        }
-    }
+    add_ranks(library, graph, item.parts.as_slice(), &mut rank)?;
     Ok(rank)
 }
 

@@ -1,8 +1,8 @@
 //! The state: what the transactions so far come to.
-ghost use Rattle.std.specs.Prelude.{◌≡◌, ◌+◌, ◌<◌, ◌↔◌, ◌≤◌, length, [], IfOk, IsTrue, option_copied};
+ghost use Rattle.std.specs.Prelude.{◌≡◌, ◌+◌, ◌-◌, ◌^◌, ◌<◌, ◌↔◌, ◌≤◌, min, length, [], IfOk, IsTrue, option_copied};
 ghost use Rattle.flow_core.specs.Allowing.{IsBlank};
 ghost use Rattle.flow_core.specs.Summaries.{summary};
-ghost use Rattle.flow_core.specs.Answers.{instance_of, has_message as message_test};
+ghost use Rattle.flow_core.specs.Answers.{instance_of, done_roots, has_message as message_test};
 ghost use Rattle.recover_queue.specs.Queues.{is_quiet as quiet_test};
 ghost use Rattle.flow_core.specs.Driving.{graph_now};
 
@@ -175,7 +175,9 @@ impl Core {
     }
 
     /// The number of live roots that are done.
-    pub fn done_count(&self) -> u64 {
+    pub fn done_count(&self) -> u64
+        ensures { result ≡ min (done_roots self.now) (2 ^ 64 - 1) }
+    {
         let mut count = 0u64;
         for (_number, root) in self.live_roots.iter() {
             if root.instance.mode() == Mode::Done {

@@ -1,17 +1,20 @@
 //! What the state shows to those who read it: the fates of a root, and what they follow from.
-ghost use Rattle.std.specs.Prelude.{◌≡◌, None, IfOk, IfSome, IfNone};
+ghost use Rattle.std.specs.Prelude.{◌≡◌, None, option_copied, IfOk, IfSome, IfNone};
 ghost use Rattle.containers.specs.Settings.{filled};
 ghost use Rattle.flow_model.specs.Containers.{fresh as fresh_of};
 ghost use Rattle.flow_model.specs.declared.graphs.Graph.{out-Graph};
-ghost use Rattle.flow_core.specs.Driving.{item_of, graph_now};
-ghost use Rattle.flow_core.specs.Facts.{fact_by, fact_of as fact_in, fact_about as fact_told, accepted, settings_in, start_settings as settings_of_start, AreFactsOf};
+ghost use Rattle.std.specs.List.{list_any};
+ghost use Rattle.flow_core.specs.Answers.{instance_of, is_at_work as at_work, AreBegun};
+ghost use Rattle.flow_core.specs.Driving.{graph_now};
+ghost use Rattle.flow_core.specs.Facts.{activity_now, fact_at, fact_of as fact_in, fact_about as fact_told, accepted, settings_in, start_settings as settings_of_start, AreFactsOf};
 
 use crate::applying::{is_about, started_root};
-use crate::paths::same_path;
+use crate::paths::{activity_along, same_path};
 use crate::state::Core;
 use containers::{fresh, with_settings};
 use flow_model::{
-    Container, Fact, Fate, FateRow, Graph, List, Name, Numbered, Path, Setting, Transaction,
+    Activity, Container, Fact, Fate, FateRow, Graph, List, Name, Numbered, Path, Setting,
+    Transaction,
 };
 use std::alloc::{AllocError, Global};
 
@@ -24,9 +27,18 @@ pub struct RootFacts {
     pub facts: List<Fact>,
 }
 
+/// Whether a row is of the root's own scope, and of an activity that waits no longer.
+fn is_at_work(row: &FateRow) -> bool
+    ensures { result ≡ at_work row.now }
+{
+    row.scope.parts.is_empty() && !matches!(row.fate, Fate::Waiting)
+}
+
 /// Whether a root has begun, by the rows of its view: an activity without connectors waits no longer then.
-fn has_begun(rows: &[FateRow]) -> bool {
-    rows.iter().any(|row| row.scope.parts.is_empty() && row.fate != Fate::Waiting)
+fn has_begun(rows: &[FateRow]) -> bool
+    ensures { result ≡ list_any at_work rows.now }
+{
+    rows.iter().any(|row| is_at_work(row))
 }
 
 /// The settings of a START; none of another transaction.
@@ -42,15 +54,13 @@ fn started_with(t: &Transaction) -> &[Setting]
 impl Core {
     /// The rows of the begun scopes of a root, in show order; None exactly where there is no live root of
     /// that number.
-    pub fn begun_rows(
-        &self,
-        alloc: Global,
-        root: u64,
-    ) -> Result<Option<List<FateRow>>, AllocError> {
+    pub fn begun_rows(&self, alloc: Global, root: u64) -> Result<Option<List<FateRow>>, AllocError>
+        ensures { IfOk result (AreBegun self.now.store.catalog.library (instance_of self.now root)) }
+    {
         let Some(instance) = self.instance(root) else {
             return Ok(None);
         };
-        let rows = instance.rows(alloc, self.library())?;
+        let rows = self.rows_in(alloc, instance)?;
         Ok(Some(if has_begun(rows.as_slice()) {
             rows
         } else {
@@ -77,19 +87,30 @@ impl Core {
         Some(self.instance(root)?.template)
     }
 
-    /// The accepted completion of an item with these settings, if it is there.
+    /// The activity of an item of a live root, by the names on its path.
+    fn activity_of(&self, item: &Path) -> Option<&Activity>
+        ensures { option_copied result ≡ activity_now self.now item.now }
+    {
+        activity_along(
+            self.library(),
+            self.root_graph(item.root)?,
+            item.parts.as_slice(),
+        )
+    }
+
+    /// The accepted completion of an item with these settings, where its path leads to an activity.
     fn fact(
         &self,
         alloc: Global,
         item: &Path,
         settings: &[Setting],
     ) -> Result<Option<Fact>, AllocError>
-        ensures { IfOk result (λ f. f ≡ fact_by item.now settings.now (item_of self.now item.now)) }
+        ensures { IfOk result (λ f. f ≡ fact_at self.now item.now settings.now) }
     {
-        let Some(known) = self.known(item) else {
+        let Some(activity) = self.activity_of(item) else {
             return Ok(None);
         };
-        let output = fresh(alloc, &known.item.activity.output)?;
+        let output = fresh(alloc, &activity.output)?;
         Ok(Some(Fact {
             item: item.copy(alloc)?,
             output: with_settings(alloc, output, settings)?,

@@ -205,7 +205,9 @@ fn begins(rank: &Rank, root: u64) -> bool
 
 impl Worklists {
     /// No items.
-    pub fn new(alloc: Global) -> Worklists {
+    pub fn new(alloc: Global) -> Worklists
+        ensures { (q : Seq ℕ) → (r : Seq ℕ) → item_in result.shelves q r ≡ None }
+    {
         Worklists {
             alloc,
             shelves: IndexMap::new(alloc),

@@ -4,7 +4,9 @@ use Rattle.flow_core.specs.Summaries.{Summary, roots_after}
 use Rattle.flow_core.specs.declared.state.Core.{Core}
 use Rattle.flow_core.proofs.Counting.{counts_taken}
 use Rattle.flow_core.proofs.Moved.{drives_earlier, front_of, front_within}
+use Rattle.flow_core.proofs.Shelved.{shelves_earlier}
 use Rattle.flow_core.proofs.state.Core.adopt.Goals as goal
+use Rattle.flow_core.specs.Shelving.{Shelves}
 
 pub returns-clause-drives : goal.returns-clause-drives
 returns-clause-drives c =
@@ -14,6 +16,15 @@ returns-clause-drives c =
     let front = front_of before c.args.t (c.in_ok-admits.ensures.asked c.if-not-branch.false) in
     drives_earlier before counted after c.args.t
     (subst (λ (k : Core). Drives k c.args.t after) c.count.ensures.rest (c.in_ok-apply_as.ensures.drives (front_within before counted c.args.t c.count.ensures.rest front)))
+
+pub returns-clause-shelves : goal.returns-clause-shelves
+returns-clause-shelves c =
+    let before = c.args.self.now in
+    let counted = c.count.new.self in
+    let after = c.apply_as.new.self in
+    let front = front_of before c.args.t (c.in_ok-admits.ensures.asked c.if-not-branch.false) in
+    shelves_earlier before counted after c.args.t
+    (subst (λ (k : Core). Shelves k c.args.t after) c.count.ensures.rest (c.in_ok-apply_as.ensures.shelves (front_within before counted c.args.t c.count.ensures.rest front)))
 
 pub returns-clause-counts : goal.returns-clause-counts
 returns-clause-counts c =

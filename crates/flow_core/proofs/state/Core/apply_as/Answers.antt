@@ -1,4 +1,5 @@
 use Rattle.flow_core.proofs.Moved.{drives_around, front_counted}
+use Rattle.flow_core.proofs.Shelved.{shelves_around}
 use Rattle.flow_core.proofs.state.Core.apply_as.Goals as goal
 
 pub returns-clause-drives : goal.returns-clause-drives
@@ -7,3 +8,10 @@ returns-clause-drives c = λ front.
     let counted = c.count_root.new.self in
     drives_around before counted c.change_by.new.self c.keep.new.self c.args.t c.count_root.ensures.rest c.in_ok-keep.ensures.rest
     (c.in_ok-note.ensures.drives (front_counted before counted c.args.t c.count_root.ensures.rest front))
+
+pub returns-clause-shelves : goal.returns-clause-shelves
+returns-clause-shelves c = λ front.
+    let before = c.args.self.now in
+    let counted = c.count_root.new.self in
+    shelves_around before counted c.change_by.new.self c.keep.new.self c.args.t c.count_root.ensures.rest c.in_ok-keep.ensures.rest
+    (c.in_ok-note.ensures.shelves (front_counted before counted c.args.t c.count_root.ensures.rest front))

@@ -7,3 +7,15 @@ returns-in-Release-clause-drives c = rw c.in-Release.is (λ front. released c.gi
 pub returns-in-Transfer-clause-drives : goal.returns-in-Transfer-clause-drives
 returns-in-Transfer-clause-drives c =
     rw c.in-Transfer.is (λ front. transferred c.hold_by-in-Transfer.result c.args.self.now c.hold_by-in-Transfer.new.self c.in-Transfer.item c.in-Transfer.field-1 c.in-Transfer.to c.hold_by-in-Transfer.ensures.held)
+
+pub returns-in-Release-clause-note : goal.returns-in-Release-clause-note
+returns-in-Release-clause-note c = rw c.in-Release.is c.give_back.ensures.note
+
+pub returns-in-Release-clause-shelves : goal.returns-in-Release-clause-shelves
+returns-in-Release-clause-shelves c = rw c.in-Release.is (λ front. c.give_back.ensures.shelves)
+
+pub returns-in-Transfer-clause-note : goal.returns-in-Transfer-clause-note
+returns-in-Transfer-clause-note c = rw c.in-Transfer.is c.hold_by-in-Transfer.ensures.note
+
+pub returns-in-Transfer-clause-shelves : goal.returns-in-Transfer-clause-shelves
+returns-in-Transfer-clause-shelves c = rw c.in-Transfer.is (λ front. c.hold_by-in-Transfer.ensures.shelves)

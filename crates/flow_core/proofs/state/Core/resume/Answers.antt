@@ -11,4 +11,5 @@ returns-clause-blank c = record {
   library = ap (λ (l : Library). l.templates) c.new-2.ensures.empty;
   indexed = c.new-2.ensures.indexed;
   live = c.new-6.ensures.items;
+  unlisted = c.new-5.ensures;
 }
