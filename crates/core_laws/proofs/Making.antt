@@ -12,6 +12,8 @@ use Rattle.flow_core.specs.Allowing.{IsFree, IsAllowed, IsBlank}
 use Rattle.flow_core.specs.Allowing.{IsOpen as IsOpenItem}
 use Rattle.flow_core.specs.Answers.{instance_of}
 use Rattle.flow_core.specs.Driving.{templates, queue_now, put_in, taken_by, LibraryAfter, IfLive, BecomesCompleted, item_of, Drives}
+use Rattle.flow_core.specs.Facts.{start_settings}
+use Rattle.flow_core.specs.Summaries.{live_after}
 use Rattle.flow_core.specs.Verdicts.{IsFront}
 use Rattle.flow_core.specs.declared.state.Core.{Core}
 use Rattle.flow_model.specs.Containers.{fresh}
@@ -46,8 +48,9 @@ use Rattle.core_laws.proofs.Counted.{stays_counted}
 use Rattle.core_laws.proofs.ServedTogether.{all_there, template_there, served_together}
 use Rattle.core_laws.proofs.Standing.{front_of_root, none_stand}
 use Rattle.core_laws.proofs.Staying.{awaited, none_of, begins, stays_right}
+use Rattle.core_laws.proofs.Said.{start_told, starts_after}
 use Rattle.core_laws.proofs.Told.{are_told}
-use Rattle.core_laws.specs.RightStates.{messages_in, note_queue, completed_by, AreRight, runs_after, runs_at, IsRightState, IsRightCore, Makes}
+use Rattle.core_laws.specs.RightStates.{messages_in, note_queue, input_now, completed_by, has_start, AreRight, runs_after, runs_at, IsRightState, IsRightCore, Makes}
 
 -- ---- what is given names its root
 
@@ -71,7 +74,7 @@ module _ (c c' : Core) (runs : ℕ → List Event) (are : AreRight c runs) where
       let right = (are root i live).right in
       subst (λ (r : ℕ). AreOf r given) (sym (root_is message))
       (named_of (root_named message) given
-      (turns_named (templates c) (note_queue c root) (runs root) (messages_in c.queues root) i i' right number message given
+      (turns_named (templates c) (note_queue c root) (runs root) (messages_in c.queues root) (input_now c root) i i' right number message given
       (front_of_root root c.queues number message front.0 front.1 refl) becomes))
 
   -- an open item is open however it is looked at
@@ -90,7 +93,7 @@ module _ (c c' : Core) (runs : ℕ → List Event) (are : AreRight c runs) where
       let root = item.root in
       let right = (are root i live).right in
       named_of root given
-      (completes_named (templates c) (note_queue c root) (runs root) (messages_in c.queues root) i i' right item out given (open_ i e live there).0
+      (completes_named (templates c) (note_queue c root) (runs root) (messages_in c.queues root) (input_now c root) i i' right item out given (open_ i e live there).0
       (awaited c item open_ (runs root) i live right e there) becomes)
 
   completed_of : (item : Path) (settings : List Setting) (given : List Message) → IsOpen c item → (o : Option Entry) → item_of c item ≡ o
@@ -179,44 +182,48 @@ taken_length (Delete root) qs = refl
 taken_length (Clock minutes) qs = refl
 
 module _ (c c' : Core) (runs : ℕ → List Event) (right : IsRightState c runs) where
-  asked : (t : Transaction) → IsAllowed c t → (drives : Drives c t c') → IsAsked c t drives.given c'
-  asked (Import text) allowed drives = tt
-  asked (Start root process version starter key settings) allowed drives = record {
+  asked : (t : Transaction) (number : ℕ) → c'.live.items ≡ live_after number t c.live.items → IsAllowed c t → (drives : Drives c t c') → IsAsked c t drives.given c'
+  asked (Import text) number lives allowed drives = tt
+  asked (Start root process version starter key settings) number lives allowed drives = record {
     unused = right.counted root allowed.free;
     served = λ i live g there input. served_root (templates c) right.sound i.template g input there;
+    told = ap (start_settings root) lives ∙ start_told c c' runs right.are right.told (library_agrees (Start root process version starter key settings) (templates c) (templates c') drives.library) root process version starter key settings number allowed.free;
   }
-  asked (Turn number message) allowed drives =
-      (allowed.asked, turn_of c c' runs right.are number message drives.given allowed.asked (instance_of c (root_of message)) (instance_of c' (root_of message)) refl drives.roots.here)
-  asked (Claim item who) allowed drives = tt
-  asked (Release item who) allowed drives = tt
-  asked (Transfer item who to) allowed drives = tt
-  asked (Take item take) allowed drives = tt
-  asked (Done item who settings) allowed drives =
+  asked (Turn queue' message) number lives allowed drives =
+      (allowed.asked, turn_of c c' runs right.are queue' message drives.given allowed.asked (instance_of c (root_of message)) (instance_of c' (root_of message)) refl drives.roots.here)
+  asked (Claim item who) number lives allowed drives = tt
+  asked (Release item who) number lives allowed drives = tt
+  asked (Transfer item who to) number lives allowed drives = tt
+  asked (Take item take) number lives allowed drives = tt
+  asked (Done item who settings) number lives allowed drives =
       let open_ = open_of c c' runs right.are item allowed.asked in
       (open_, completed_of c c' runs right.are item settings drives.given open_ (item_of c item) refl drives.roots.here)
-  asked (Force item settings) allowed drives =
+  asked (Force item settings) number lives allowed drives =
       let open_ = open_of c c' runs right.are item allowed.asked in
       (open_, completed_of c c' runs right.are item settings drives.given open_ (item_of c item) refl drives.roots.here)
-  asked (Restart item) allowed drives = tt
-  asked (Suspend root) allowed drives = tt
-  asked (Resume root) allowed drives = tt
-  asked (Terminate root) allowed drives = tt
-  asked (Delete root) allowed drives = tt
-  asked (Clock minutes) allowed drives = tt
+  asked (Restart item) number lives allowed drives = tt
+  asked (Suspend root) number lives allowed drives = tt
+  asked (Resume root) number lives allowed drives = tt
+  asked (Terminate root) number lives allowed drives = tt
+  asked (Delete root) number lives allowed drives = tt
+  asked (Clock minutes) number lives allowed drives = tt
 
-  may_be : (t : Transaction) → IsAllowed c t → (drives : Drives c t c') → MayBe c t drives.given c'
-  may_be t allowed drives = record {
-    asked = asked t allowed drives;
-    queued = right.queued;
-    library = library_agrees t (templates c) (templates c') drives.library;
-  }
+  may_be : (t : Transaction) (number : ℕ) → c'.live.items ≡ live_after number t c.live.items → IsAllowed c t → (drives : Drives c t c') → MayBe c t drives.given c'
+  may_be t number lives allowed drives =
+      let library = library_agrees t (templates c) (templates c') drives.library in
+      record {
+        asked = asked t number lives allowed drives;
+        queued = right.queued;
+        library = library;
+        starts = λ root i i' live live'. ap (start_settings root) lives ∙ starts_after c c' runs right.are right.told library t number drives root i i' live live';
+      }
 
   pub state_right : (t : Transaction) → Makes c t c' → IsRightState c' (runs_after c t runs)
   state_right t makes =
-      let may = may_be t makes.allowed makes.drives in
+      let may = may_be t makes.lives.0 makes.lives.1 makes.allowed makes.drives in
       record {
         are = stays_right c c' runs right.are t makes.drives may;
-        told = are_told c c' runs right.told t makes.lives.0 makes.allowed makes.drives right.counted makes.counts makes.lives.1;
+        told = are_told c c' runs right.told right.are may.library right.kept t makes.lives.0 makes.allowed makes.drives right.counted makes.counts makes.lives.1;
         counted = stays_counted c c' right.counted t makes.drives may right.kept makes.counts;
         kept = makes.counts.kept right.kept;
         queued = subst (λ n. 1 ≤ n) (sym (ap length makes.drives.queues ∙ put_length (queue_now c') makes.drives.given (taken_by t c.queues) ∙ taken_length t c.queues)) right.queued;
@@ -229,7 +236,10 @@ module _ (c c' : Core) (runs : ℕ → List Event) (right : IsRightState c runs)
 pub blank_right : (c : Core) → IsBlank c → c.kept ≤ c.number → 1 ≤ length c.queues → IsRightState c (λ root. [])
 blank_right c blank kept queued = record {
   are = begins c blank.roots;
-  told = record { told = λ root i live. absurd (none-some i (sym (blank.roots root) ∙ live)); untold = λ root free. ap (completed_by root) blank.live };
+  told = record {
+    told = λ root i live. absurd (none-some i (sym (blank.roots root) ∙ live));
+    untold = λ root free. record { unbegun = ap (has_start root) blank.live; items = ap (completed_by root) blank.live };
+  };
   counted = λ root free. record { absent = blank.roots root; unqueued = none_stand root c.queues blank.queues };
   kept = kept;
   queued = queued;

@@ -33,20 +33,20 @@ sinks : (ts : List Template) (depth : ℕ) (g : Graph) → Served ts depth g →
 sinks ts zero g served = served.sinking
 sinks ts (suc depth) g served = served.sinking
 
-module _ (ts : List Template) (q : Note → ℕ) (h : List Event) (queued : Queued) (i : Instance) (right : IsRight ts q h queued i) where
+module _ (ts : List Template) (q : Note → ℕ) (h : List Event) (queued : Queued) (input : Container) (i : Instance) (right : IsRight ts q h queued input i) where
   pub done_output : (out : Container) → mode_now i ≡ Done → IsOutputOf ts right.graph i out
-      → output ts (suc right.depth) (fated (running h)) right.graph right.input ≡ Some out
+      → output ts (suc right.depth) (fated (running h)) right.graph input ≡ Some out
   done_output out done shown =
-      let r = root_in ts right.depth right.graph right.input in
+      let r = root_in ts right.depth right.graph input in
       let k = seen (running h) in
       let begun = (out-ScopeState i.scope).begun in
       let whole : (begun && ((out-ScopeState i.scope).unsettled == 0)) ≡ true = complete_of i.terminated (begun && ((out-ScopeState i.scope).unsettled == 0)) i.suspended done in
-      let all = and_parts (k.begun []) (is_complete right.graph (tree_ends ts right.depth k right.graph right.input))
-      (sym (shown_complete ts right.depth k right.graph right.input i.scope right.shows) ∙ whole) in
+      let all = and_parts (k.begun []) (is_complete right.graph (tree_ends ts right.depth k right.graph input))
+      (sym (shown_complete ts right.depth k right.graph input i.scope right.shows) ∙ whole) in
       let next : right.depth + 1 ≡ suc right.depth = omega arith in
-      let viewed = subst (λ (n : ℕ). output ts n k right.graph right.input ≡ Some out) next (shown (sinks ts right.depth right.graph right.served.served) right.depth k right.input right.shows all.1) in
-      output_kept right.graph right.input (tree_ends ts right.depth k right.graph right.input) (tree_ends ts right.depth (fated (running h)) right.graph right.input)
+      let viewed = subst (λ (n : ℕ). output ts n k right.graph input ≡ Some out) next (shown (sinks ts right.depth right.graph right.served.served) right.depth k input right.shows all.1) in
+      output_kept right.graph input (tree_ends ts right.depth k right.graph input) (tree_ends ts right.depth (fated (running h)) right.graph input)
       (sound r q right.served.well h right.legal.fronts (nothing r q))
-      (λ b past. unsettled_past ts (fated (running h)) (output ts right.depth) right.graph right.input (length (out-Graph right.graph).activities) b past
-      ∙ sym (unsettled_past ts k (output ts right.depth) right.graph right.input (length (out-Graph right.graph).activities) b past))
+      (λ b past. unsettled_past ts (fated (running h)) (output ts right.depth) right.graph input (length (out-Graph right.graph).activities) b past
+      ∙ sym (unsettled_past ts k (output ts right.depth) right.graph input (length (out-Graph right.graph).activities) b past))
       out viewed

@@ -2,7 +2,8 @@
 use Rattle.std.proofs.Common.{◌≡◌, ℕ, zero, suc, ◌+◌, ◌-◌, ◌^◌, ◌%◌, ◌<◌, ◌≤◌, min, max, Bool, List, [], ◌∷◌, Option, Some, None, refl, ap, ◌∙◌, arith}
 use Rattle.std.proofs.Math.Nat.{mod-lt}
 use Rattle.std.proofs.lemmas.Option.{none-some, option_and_then_some}
-use Rattle.std.specs.Prelude.{slice_get}
+use Rattle.std.specs.Prelude.{slice_get, option_and_then}
+use Rattle.flow_core.specs.Facts.{activity_on}
 use Rattle.flow_core.specs.Driving.{is_process, processes_below, processes_from, activity_named, processes_along, receiver, queue_in}
 use Rattle.flow_model.specs.ScopeContainers.{graph_in}
 use Rattle.flow_model.specs.declared.graphs.Activity.{Activity}
@@ -12,7 +13,7 @@ use Rattle.flow_model.specs.declared.instances.Message.{Message}
 use Rattle.flow_model.specs.declared.instances.Message.TheVariants.{Begin, Signal, End}
 use Rattle.flow_model.specs.declared.instances.Part.{Part}
 use Rattle.flow_model.specs.declared.names.Name.{Name}
-use Rattle.library_laws.proofs.SameGraphs.{HasSameGraphs, ServedInside, same_graphs}
+use Rattle.library_laws.proofs.SameGraphs.{HasSameGraphs, ServedInside, same_graphs, and_then_same}
 use Rattle.library_laws.specs.Larger.{Agrees}
 use Rattle.navigator.specs.Reading.{place_of}
 use Rattle.navigator.specs.Serving.{Served}
@@ -47,6 +48,26 @@ module _ (ts ts' : List Template) (agrees : Agrees ts ts') where
   pub place_same : (levels : ℕ) (g : Graph) → Served ts levels g → (count root : ℕ) (note : Note) → place_queue ts' count root (Some g) note ≡ place_queue ts count root (Some g) note
   place_same levels g served count root note =
       ap (λ n. (root + min n (2 ^ 64 - 1)) % max count 1 + 1) (processes_same (receiver_of note) (suc levels) g served)
+
+-- ---- items
+
+module _ (ts ts' : List Template) (agrees : Agrees ts ts') where
+  -- a path leads to the same activity
+  pub activity_same : (p : List Part) (levels : ℕ) (g : Graph) → ServedInside ts levels g → activity_on ts' p g ≡ activity_on ts p g
+  activity_same [] levels g served = refl
+  activity_same (q ∷ []) levels g served = refl
+  activity_same (q ∷ (r ∷ qs)) zero g served = absurd served
+  activity_same (q ∷ (r ∷ qs)) (suc levels) g served =
+      go (same_graphs ts ts' levels g agrees served) (λ h inner. activity_same (r ∷ qs) levels h inner) (activity_named g q.name) refl
+    where
+      go : HasSameGraphs ts ts' g (ServedInside ts levels) → ((h : Graph) → ServedInside ts levels h → activity_on ts' (r ∷ qs) h ≡ activity_on ts (r ∷ qs) h)
+          → (o : Option Activity) → activity_named g q.name ≡ o
+          → option_and_then (λ x. option_and_then (activity_on ts' (r ∷ qs)) (graph_in ts' x.work)) o ≡ option_and_then (λ x. option_and_then (activity_on ts (r ∷ qs)) (graph_in ts x.work)) o
+      go inside deeper None is = refl
+      go inside deeper (Some activity) is =
+          option_and_then_some (slice_get (out-Graph g).activities) (place_of g q.name) activity is (λ a place found.
+          ap (option_and_then (activity_on ts' (r ∷ qs))) (inside.graphs a activity found)
+          ∙ and_then_same (graph_in ts activity.work) (activity_on ts (r ∷ qs)) (activity_on ts' (r ∷ qs)) (λ h of. deeper h (inside.inside a activity found h of)))
 
 -- ---- messages and notes
 

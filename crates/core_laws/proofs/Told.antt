@@ -1,13 +1,14 @@
 -- The runs of a state complete what its live transactions complete.
-use Rattle.std.proofs.Common.{◌≡◌, ℕ, ◌==◌, Bool, true, false, if◌then◌else◌, not, List, [], ◌∷◌, ◌++◌, Option, Some, None, refl, ap, sym, subst, ◌∙◌, inl, inr, append-nil}
+use Rattle.std.proofs.Common.{◌≡◌, ℕ, ◌==◌, ◌≤◌, Bool, true, false, if◌then◌else◌, not, List, [], ◌∷◌, ◌++◌, Option, Some, None, refl, ap, sym, subst, ◌∙◌, inl, inr, append-nil}
 use Rattle.std.proofs.lemmas.Bool.Decides.{eqb_tells}
 use Rattle.std.proofs.lemmas.List.{append_assoc}
 use Rattle.std.proofs.lemmas.Option.{none-some}
-use Rattle.std.specs.List.{filter}
+use Rattle.std.specs.List.{filter, filter_map}
 use Rattle.flow_core.specs.Allowing.{IsFree, CountsRoot, IsAllowed}
 use Rattle.flow_core.specs.Allowing.{IsOpen as IsOpenItem}
 use Rattle.flow_core.specs.Answers.{instance_of}
 use Rattle.flow_core.specs.Driving.{templates, IfLive, BecomesCompleted, item_of, ChangesRoot, Drives}
+use Rattle.flow_core.specs.Facts.{fact_about}
 use Rattle.flow_core.specs.Summaries.{root_about, is_root, without_root, live_after}
 use Rattle.flow_core.specs.declared.state.Core.{Core}
 use Rattle.flow_model.specs.declared.graphs.Template.{Template}
@@ -17,13 +18,15 @@ use Rattle.flow_model.specs.declared.transactions.Numbered.{Numbered}
 use Rattle.flow_model.specs.declared.transactions.Setting.{Setting}
 use Rattle.flow_model.specs.declared.transactions.Transaction.{Transaction}
 use Rattle.flow_model.specs.declared.transactions.Transaction.TheVariants.{Import, Start, Turn, Claim, Release, Transfer, Take, Done, Force, Restart, Suspend, Resume, Terminate, Delete, Clock}
+use Rattle.library_laws.specs.Larger.{Agrees}
 use Rattle.navigator.specs.Items.{Entry}
 use Rattle.navigator.specs.declared.instance.Instance.{Instance}
 use Rattle.recover_queue.specs.Queues.{root_of}
 use Rattle.view_laws.specs.Messages.{Note}
 use Rattle.view_laws.specs.Runs.{Event, Started, Held, Stopped}
+use Rattle.core_laws.proofs.Said.{began_after, facts_after, unbegun_after}
 use Rattle.core_laws.proofs.Staying.{if_live}
-use Rattle.core_laws.specs.RightStates.{with_turn, with_output, note_now, runs_after, completed_items, completes_in, completed_by, AreTold, AreCounted}
+use Rattle.core_laws.specs.RightStates.{with_turn, with_output, note_now, runs_after, completed_items, completes_in, completed_by, has_start, AreRight, AreTold, AreCounted}
 
 -- ---- lists of transactions
 
@@ -101,7 +104,7 @@ module _ (c c' : Core) (runs : ℕ → List Event) (told : AreTold c runs) where
   quiet_root : (root : ℕ) (h : List Event) (n : Numbered) → completes_in root n.transaction ≡ [] → completed_items h ≡ completed_items (runs root)
       → (i : Instance) → instance_of c root ≡ Some i → completed_items h ≡ completed_by root (c.live.items ++ n ∷ [])
   quiet_root root h n none same i live =
-      same ∙ told.told root i live
+      same ∙ (told.told root i live).items
       ∙ sym (one_more root c.live.items n ∙ ap (λ l. completed_by root c.live.items ++ l) none ∙ append-nil (completed_by root c.live.items))
 
   -- all roots, where a transaction is about this one
@@ -147,7 +150,7 @@ module _ (c c' : Core) (runs : ℕ → List Event) (told : AreTold c runs) where
       by_root item.root n after others (λ other apart. none_apart item.root other n.transaction is apart) (λ i' live'.
       let h = runs item.root in
       ap completed_items (same h ∙ ap (λ o. with_output item settings o h) open_.there)
-      ∙ ap (λ l. l ++ item ∷ []) (told.told item.root open_.root open_.live)
+      ∙ ap (λ l. l ++ item ∷ []) (told.told item.root open_.root open_.live).items
       ∙ ap (λ l. completed_by item.root c.live.items ++ l) (sym (one ∙ kept item.root))
       ∙ sym (one_more item.root c.live.items n))
     where
@@ -162,7 +165,7 @@ module _ (c c' : Core) (runs : ℕ → List Event) (told : AreTold c runs) where
       let t : Transaction = Start about process version starter key settings in
       let n : Numbered = record { number = number; transaction = t } in
       by_root about n (λ h. Started ∷ []) drives.roots.others (λ other apart. refl) (λ i' live'.
-      sym (one_more about c.live.items n ∙ append-nil (completed_by about c.live.items) ∙ told.untold about allowed.free))
+      sym (one_more about c.live.items n ∙ append-nil (completed_by about c.live.items) ∙ (told.untold about allowed.free).items))
   told_after (Turn number' message) number allowed drives =
       on_live (root_of message) (record { number = number; transaction = Turn number' message }) (λ h. with_turn (note_now c message) h) _ drives.given refl refl
       (turn_completes (note_now c message)) drives.roots.others drives.roots.here
@@ -191,7 +194,7 @@ module _ (c c' : Core) (runs : ℕ → List Event) (told : AreTold c runs) where
     | inr other ↦
         let apart : root ≡ about → ⊥ = λ e. other.1 (sym e) in
         ap (λ b. completed_items (if b then runs root else runs root)) other.0
-        ∙ told.told root i' (sym (drives.roots.others root apart) ∙ live')
+        ∙ (told.told root i' (sym (drives.roots.others root apart) ∙ live')).items
         ∙ sym (without_other about root apart c.live.items)
   ]
   told_after (Clock minutes) number allowed drives = λ root i' live'.
@@ -201,7 +204,7 @@ module _ (c c' : Core) (runs : ℕ → List Event) (told : AreTold c runs) where
 
   still_untold : (root : ℕ) (n : Numbered) → completes_in root n.transaction ≡ [] → IsFree c root → completed_by root (c.live.items ++ n ∷ []) ≡ []
   still_untold root n none free =
-      one_more root c.live.items n ∙ ap (λ l. completed_by root c.live.items ++ l) none ∙ append-nil (completed_by root c.live.items) ∙ told.untold root free
+      one_more root c.live.items n ∙ ap (λ l. completed_by root c.live.items ++ l) none ∙ append-nil (completed_by root c.live.items) ∙ (told.untold root free).items
 
   -- a root that is live isn't free
   apart_of : (item : Path) → IsOpenItem c item → AreCounted c → (root : ℕ) → IsFree c root → root ≡ item.root → ⊥
@@ -227,11 +230,18 @@ module _ (c c' : Core) (runs : ℕ → List Event) (told : AreTold c runs) where
   untold_after (Force item settings) number allowed counted counts root free =
       still_untold root (record { number = number; transaction = Force item settings })
       (none_apart item.root root (Force item settings) refl (apart_of item allowed.asked counted root (counts.free root free))) (counts.free root free)
-  untold_after (Delete about) number allowed counted counts root free = without_none about root c.live.items (told.untold root (counts.free root free))
+  untold_after (Delete about) number allowed counted counts root free = without_none about root c.live.items (told.untold root (counts.free root free)).items
 
-  pub are_told : (t : Transaction) (number : ℕ) → IsAllowed c t → (drives : Drives c t c') → AreCounted c → CountsRoot c t c' → c'.live.items ≡ live_after number t c.live.items
-      → AreTold c' (runs_after c t runs)
-  are_told t number allowed drives counted counts lives = record {
-    told = λ root i' live'. told_after t number allowed drives root i' live' ∙ ap (completed_by root) (sym lives);
-    untold = λ root free. ap (completed_by root) lives ∙ untold_after t number allowed counted counts root free;
+  pub are_told : (are : AreRight c runs) → Agrees (templates c) (templates c') → c.kept ≤ c.number → (t : Transaction) (number : ℕ) → IsAllowed c t → (drives : Drives c t c') → AreCounted c → CountsRoot c t c'
+      → c'.live.items ≡ live_after number t c.live.items → AreTold c' (runs_after c t runs)
+  are_told are library kept t number allowed drives counted counts lives = record {
+    told = λ root i' live'. record {
+      began = ap (has_start root) lives ∙ began_after c c' runs are told library t number drives root i' live';
+      items = told_after t number allowed drives root i' live' ∙ ap (completed_by root) (sym lives);
+      facts = facts_after c c' runs are told library t number counted allowed drives root i' live' ∙ ap (filter_map (fact_about c' root)) (sym lives);
+    };
+    untold = λ root free. record {
+      unbegun = ap (has_start root) lives ∙ unbegun_after c c' runs are told library t number kept counts root free;
+      items = ap (completed_by root) lives ∙ untold_after t number allowed counted counts root free;
+    };
   }

@@ -1,10 +1,11 @@
 -- Laws of states: all their roots are right, and go on being right.
-use Rattle.std.specs.Prelude.{◌≡◌, ℕ, suc, ◌<◌, ◌≤◌, false, Some, List, [], length, IsTrue}
+use Rattle.std.specs.Prelude.{◌≡◌, ℕ, suc, ◌+◌, ◌*◌, ◌<◌, ◌≤◌, false, Some, List, [], length, IsTrue}
 use Rattle.blocks_subprocs.specs.Ends.{ends_of}
 use Rattle.flow_core.specs.Allowing.{IsBlank}
 use Rattle.flow_core.specs.Answers.{instance_of, mode_now}
 use Rattle.flow_core.specs.Containing.{IsOutputOf}
 use Rattle.flow_core.specs.Driving.{templates}
+use Rattle.flow_core.specs.Facts.{accepted}
 use Rattle.flow_core.specs.declared.state.Core.{Core}
 use Rattle.flow_model.specs.Fates.{is_settled}
 use Rattle.flow_model.specs.ScopeContainers.{graph_of}
@@ -19,8 +20,13 @@ use Rattle.navigator.specs.declared.instance.Instance.{Instance}
 use Rattle.navigator.specs.declared.scopes.ScopeState.{out-ScopeState}
 use Rattle.recover_queue.specs.Queues.{is_quiet}
 use Rattle.template_check.specs.Built.{AreSound}
-use Rattle.core_laws.specs.RightStates.{AreRight, runs_after, runs_at, IsRightState, Makes}
-use Rattle.view_laws.specs.Runs.{Event, running, fated}
+use Rattle.root_laws.specs.RightRoots.{AreQueued, root_in}
+use Rattle.view_laws.specs.Laws.{IsNoteOnce}
+use Rattle.view_laws.specs.Messages.{Note}
+use Rattle.view_laws.specs.Queues.{spent}
+use Rattle.view_laws.specs.TurnBound.{expanded_size}
+use Rattle.core_laws.specs.RightStates.{messages_in, note_queue, input_now, known_now, runs_after, runs_at, IsRightRoot, IsRightState, Makes}
+use Rattle.view_laws.specs.Runs.{Root, Event, engine}
 
 -- a blank state with a queue is right, before any event
 abbrev pub BeginsRight : Type 0
@@ -41,25 +47,43 @@ HistoriesAreRight =
 abbrev pub ServedTogether : Type 0
 ServedTogether = (ts : List Template) → AreSound ts → (t : ℕ) (g : Graph) → graph_of ts t ≡ Some g → (depth : ℕ) × Served ts depth g
 
--- whatever the state of a live root says of how an activity of its scope has ended is so by the completions alone
+-- whatever the state of a live root says of how an activity of its scope has ended is so by the accepted completions that its live transactions tell, on the input that its Start tells, and by nothing else
 abbrev pub RightStatesAreSound : Type 0
 RightStatesAreSound =
-    (c : Core) (runs : ℕ → List Event) (are : AreRight c runs) (root : ℕ) (i : Instance) (live : instance_of c root ≡ Some i) (a : ℕ)
+    (c : Core) (runs : ℕ → List Event) (right : IsRightState c runs) (root : ℕ) (i : Instance) (live : instance_of c root ≡ Some i) (a : ℕ)
     → IsTrue (is_settled (ends_of (out-ScopeState i.scope).ends.items a))
     → ends_of (out-ScopeState i.scope).ends.items a
-    ≡ tree_ends (templates c) (are root i live).right.depth (fated (running (runs root))) (are root i live).right.graph (are root i live).right.input a
+    ≡ tree_ends (templates c) (right.are root i live).right.depth (known_now c root) (right.are root i live).right.graph (input_now c root) a
 
 -- where all queues are empty, and the root isn't terminated, it says all that the completions tell
 abbrev pub QuietStatesAreWhole : Type 0
 QuietStatesAreWhole =
-    (c : Core) (runs : ℕ → List Event) (are : AreRight c runs) (root : ℕ) (i : Instance) (live : instance_of c root ≡ Some i) (a : ℕ)
+    (c : Core) (runs : ℕ → List Event) (right : IsRightState c runs) (root : ℕ) (i : Instance) (live : instance_of c root ≡ Some i) (a : ℕ)
     → i.terminated ≡ false → IsTrue (is_quiet c.queues)
     → ends_of (out-ScopeState i.scope).ends.items a
-    ≡ tree_ends (templates c) (are root i live).right.depth (fated (runs root)) (are root i live).right.graph (are root i live).right.input a
+    ≡ tree_ends (templates c) (right.are root i live).right.depth (known_now c root) (right.are root i live).right.graph (input_now c root) a
 
 -- the container that OUTPUT shows of a root that is done is the output of the recursion by the completions alone
 abbrev pub DoneOutputsAreRight : Type 0
 DoneOutputsAreRight =
-    (c : Core) (runs : ℕ → List Event) (are : AreRight c runs) (root : ℕ) (i : Instance) (live : instance_of c root ≡ Some i) (out : Container)
-    → mode_now i ≡ Done → IsOutputOf (templates c) (are root i live).right.graph i out
-    → output (templates c) (suc (are root i live).right.depth) (fated (running (runs root))) (are root i live).right.graph (are root i live).right.input ≡ Some out
+    (c : Core) (runs : ℕ → List Event) (right : IsRightState c runs) (root : ℕ) (i : Instance) (live : instance_of c root ≡ Some i) (out : Container)
+    → mode_now i ≡ Done → IsOutputOf (templates c) (right.are root i live).right.graph i out
+    → output (templates c) (suc (right.are root i live).right.depth) (known_now c root) (right.are root i live).right.graph (input_now c root) ≡ Some out
+
+-- the run of a live root, as its queues are numbered
+abbrev pub root_of : (c : Core) (root : ℕ) (h : List Event) (i : Instance) → IsRightRoot c root h i → Root
+root_of c root h i is = root_in (templates c) is.right.depth is.right.graph (input_now c root)
+
+-- each message of a live root was put at most once since its start, and was then taken once or stands once in its queue; and what stands in the queues of the state is what its run put there and didn't take
+abbrev pub MessagesAreOnce : Type 0
+MessagesAreOnce =
+    (c : Core) (runs : ℕ → List Event) (right : IsRightState c runs) (root : ℕ) (i : Instance) (live : instance_of c root ≡ Some i)
+    → ((m : Note) → IsNoteOnce (root_of c root (runs root) i (right.are root i live)) (note_queue c root) (runs root) m)
+    × AreQueued (root_of c root (runs root) i (right.are root i live)) (note_queue c root) (runs root) (messages_in c.queues root)
+
+-- the messages that it has taken are at most the expanded size of its process, times one more than its accepted completions
+abbrev pub TurnsAreBounded : Type 0
+TurnsAreBounded =
+    (c : Core) (runs : ℕ → List Event) (right : IsRightState c runs) (root : ℕ) (i : Instance) (live : instance_of c root ≡ Some i)
+    → length (spent (engine (root_of c root (runs root) i (right.are root i live)) (note_queue c root)) (runs root))
+    ≤ expanded_size (templates c) (right.are root i live).right.depth (right.are root i live).right.graph * (1 + length (accepted c root))

@@ -1,14 +1,18 @@
 -- A state whose roots are right, and how the runs of its roots go on with a transaction.
-use Rattle.std.specs.Prelude.{◌≡◌, ℕ, zero, suc, ◌==◌, ◌≤◌, true, false, if◌then◌else◌, Option, Some, None, option_and_then, List, [], ◌∷◌, ◌++◌, length}
-use Rattle.std.specs.List.{filter}
+use Rattle.std.specs.Prelude.{◌≡◌, ℕ, zero, suc, ◌==◌, ◌≤◌, Bool, true, false, if◌then◌else◌, Option, Some, None, option_and_then, List, [], ◌∷◌, ◌++◌, length}
+use Rattle.std.specs.List.{filter, list_any}
 use Rattle.containers.specs.Settings.{filled}
 use Rattle.flow_core.specs.Allowing.{IsFree, CountsRoot, IsAllowed}
 use Rattle.flow_core.specs.Answers.{instance_of}
 use Rattle.flow_core.specs.Driving.{templates, graph_now, queue_by, around, item_of, Drives}
-use Rattle.flow_core.specs.Summaries.{root_about, is_root, live_after}
+use Rattle.flow_core.specs.Facts.{accepted, start_settings}
+use Rattle.flow_core.specs.Summaries.{root_about, is_root, started, live_after}
 use Rattle.flow_core.specs.declared.state.Core.{Core}
 use Rattle.flow_model.specs.Containers.{fresh}
-use Rattle.flow_model.specs.declared.graphs.Graph.{Graph}
+use Rattle.flow_model.specs.Rows.{by_facts}
+use Rattle.flow_model.specs.Scopes.{Known}
+use Rattle.flow_model.specs.declared.graphs.Container.{Container}
+use Rattle.flow_model.specs.declared.graphs.Graph.{Graph, out-Graph}
 use Rattle.flow_model.specs.declared.graphs.Template.{Template}
 use Rattle.flow_model.specs.declared.instances.Message.{Message}
 use Rattle.flow_model.specs.declared.instances.Part.{Part}
@@ -25,7 +29,7 @@ use Rattle.root_laws.specs.RightRoots.{Queued, IsRight}
 use Rattle.template_check.specs.Built.{AreSound}
 use Rattle.process_rules.specs.Imports.{IsIndexed}
 use Rattle.view_laws.specs.Messages.{Note, BeginNote, SignalNote, EndNote}
-use Rattle.view_laws.specs.Runs.{Event, Started, Turned, Completed, Held, Stopped}
+use Rattle.view_laws.specs.Runs.{Event, Started, Turned, Completed, Held, Stopped, facts}
 
 -- ---- right states
 
@@ -48,10 +52,19 @@ place_queue ts count root o note = queue_by ts count o root (receiver_of note)
 abbrev pub note_queue : Core → ℕ → Note → ℕ
 note_queue c root = place_queue (templates c) (length c.queues) root (graph_now c root)
 
--- a live root is right after a run, and its messages stand in the queues of the state
+-- the input that these settings make for a graph
+abbrev pub input_by : List Setting → Option Graph → Container
+input_by settings None = record { values = [] }
+input_by settings (Some g) = filled settings (fresh (out-Graph g).input)
+
+-- the input of a live root, as its Start tells it
+abbrev pub input_now : Core → ℕ → Container
+input_now c root = input_by (start_settings root c.live.items) (graph_now c root)
+
+-- a live root is right after a run on the input of its Start, and its messages stand in the queues of the state
 pub record IsRightRoot (c : Core) (root : ℕ) (h : List Event) (i : Instance) : Type 0 where
   pub number : i.root ≡ root
-  pub right : IsRight (templates c) (note_queue c root) h (messages_in c.queues root) i
+  pub right : IsRight (templates c) (note_queue c root) h (messages_in c.queues root) (input_now c root) i
 
 -- a state is right after these runs of its roots
 abbrev pub AreRight : Core → (ℕ → List Event) → Type 0
@@ -133,10 +146,30 @@ abbrev pub completed_by : ℕ → List Numbered → List Path
 completed_by root [] = []
 completed_by root (n ∷ ns) = completes_in root n.transaction ++ completed_by root ns
 
--- each run completes the items that the live transactions about its root complete, and none of them is about a root that is free
+-- ---- what the live transactions tell
+
+-- one of these transactions starts this root
+abbrev pub has_start : ℕ → List Numbered → Bool
+has_start root live = list_any (λ n. is_root root (started n.transaction)) live
+
+-- the live transactions tell of a live root: they start it, and the completions of its run are exactly those that they tell, item by item and with these outputs
+pub record IsTold (c : Core) (root : ℕ) (h : List Event) : Type 0 where
+  pub began : has_start root c.live.items ≡ true
+  pub items : completed_items h ≡ completed_by root c.live.items
+  pub facts : facts h ≡ accepted c root
+
+-- they start and complete nothing of a root that is free
+pub record IsUntold (c : Core) (root : ℕ) : Type 0 where
+  pub unbegun : has_start root c.live.items ≡ false
+  pub items : completed_by root c.live.items ≡ []
+
 pub record AreTold (c : Core) (runs : ℕ → List Event) : Type 0 where
-  pub told : (root : ℕ) (i : Instance) → instance_of c root ≡ Some i → completed_items (runs root) ≡ completed_by root c.live.items
-  pub untold : (root : ℕ) → IsFree c root → completed_by root c.live.items ≡ []
+  pub told : (root : ℕ) (i : Instance) → instance_of c root ≡ Some i → IsTold c root (runs root)
+  pub untold : (root : ℕ) → IsFree c root → IsUntold c root
+
+-- what the accepted completions of a live root tell alone: all of them count, and nothing else does
+abbrev pub known_now : Core → ℕ → Known
+known_now c root = by_facts (length (accepted c root)) (accepted c root)
 
 -- ---- states that transactions come to
 

@@ -10,6 +10,7 @@
 mod states;
 
 pub use states::{
-    begins_right, done_outputs_are_right, histories_are_right, quiet_states_are_whole,
-    right_states_are_sound, served_together, stays_right,
+    begins_right, done_outputs_are_right, histories_are_right, messages_are_once,
+    quiet_states_are_whole, right_states_are_sound, served_together, stays_right,
+    turns_are_bounded,
 };

@@ -6,6 +6,8 @@ ghost use Rattle.core_laws.specs.Laws.{
   RightStatesAreSound,
   QuietStatesAreWhole,
   DoneOutputsAreRight,
+  MessagesAreOnce,
+  TurnsAreBounded,
 };
 
 /// A blank state is right.
@@ -41,4 +43,14 @@ pub fn quiet_states_are_whole()
 /// The output that is shown of a root that is done is that of the recursion by its completions alone.
 pub fn done_outputs_are_right()
     ensures { DoneOutputsAreRight }
+{}
+
+/// Each message of a live root was put at most once, and was taken once or stands once in its queue.
+pub fn messages_are_once()
+    ensures { MessagesAreOnce }
+{}
+
+/// The messages that a live root has taken are bounded by its process and its accepted completions.
+pub fn turns_are_bounded()
+    ensures { TurnsAreBounded }
 {}
