@@ -1,0 +1,3 @@
+pub mod OpenItems
+pub mod Laws
+pub mod Performers

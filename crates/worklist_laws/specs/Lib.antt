@@ -1,0 +1,4 @@
+pub mod Shelved
+pub mod Asking
+pub mod Exact
+pub mod Laws
