@@ -9,3 +9,4 @@ pub mod Rights
 pub mod Scripts
 pub mod Inputs
 pub mod Stopping
+pub mod Refusing

@@ -2,6 +2,7 @@ pub mod Histories
 pub mod Keeping
 pub mod Runs
 pub mod Stopping
+pub mod Refusing
 pub mod Serving
 pub mod Replying
 pub mod Draining

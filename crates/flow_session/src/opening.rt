@@ -4,10 +4,13 @@ ghost use Rattle.flow_disk.specs.Moments.{LeavesOnly};
 ghost use Rattle.flow_model.specs.declared.transactions.Numbered.{Numbered as NumberedOf};
 ghost use Rattle.flow_txn.specs.Records.{record_bytes};
 ghost use Rattle.txn_log.specs.Opening.{IsOpened};
+ghost use Rattle.txn_log.specs.Records.{gates, payloads_of, places_of};
 ghost use Rattle.core_laws.specs.RightStates.{IsRightCore};
+ghost use Rattle.flow_core.specs.Refusals.{IsInOrder};
 ghost use Rattle.flow_core.specs.Summaries.{summary, taken_up, Follows};
 ghost use Rattle.flow_session.specs.Inputs.{unended};
 ghost use Rattle.flow_session.specs.Keeping.{IsOpen, ComesTo};
+ghost use Rattle.flow_session.specs.Refusing.{AdmitsOne, LeadsTo, IsUnopened, StopsAt, StopsIn};
 ghost use Rattle.flow_session.specs.Stopping.{IsOpenCause};
 
 use crate::serving::Session;
@@ -30,6 +33,8 @@ fn adopt(
         × Follows core.old.kept (summary core.old) n × (summary core.new ≡ taken_up core.old.kept n (summary core.old))) }
     ensures kept { OnOk result (core.new.kept ≡ core.old.kept) }
     ensures right { IsRightCore core.old → OnOk result (IsRightCore core.new) }
+    ensures admitted { IsInOrder core.old → OnOk result (AdmitsOne core.old payload.now core.new) }
+    ensures refused { IsInOrder core.old → IfErr result (StopsAt slot place core.old payload.now) }
     ensures silent { IfErr result (λ stop. (count : ℕ) → IsOpenCause count count stop) }
 {
     let Numbered {
@@ -49,8 +54,11 @@ fn adopt(
 
 /// The state that the records of an opened store give.
 fn state_of(alloc: Global, opened: &Opened) -> Result<Core, LogStop>
+    requires places { places_of opened.now.records ≡ gates 42 (payloads_of opened.now.records) }
     ensures comes { IfOk result (λ core. ComesTo opened.now (summary core)) }
     ensures right { IfOk result (λ core. 1 ≤ (summary core).queues → IsRightCore core) }
+    ensures admitted { IfOk result (LeadsTo opened.now.header (payloads_of opened.now.records)) }
+    ensures refused { IfErr result (StopsIn opened.now.log.slot opened.now.header (payloads_of opened.now.records)) }
     ensures silent { IfErr result (λ stop. (count : ℕ) → IsOpenCause count count stop) }
 {
     let header = &opened.header;
@@ -70,14 +78,16 @@ fn state_of(alloc: Global, opened: &Opened) -> Result<Core, LogStop>
 
 /// Opens a store: the state that its records give, and what its slot that counts holds.
 ///
-/// `Unmade`, `Foreign` and `Damaged` come by the slots, and `Damaged` at the first record that isn't in
-/// the grammar of records or isn't allowed there. The disk isn't written. `StoreFault` comes only where its count of
+/// `Unmade`, `Foreign` and `Damaged` come by the slots, and `Damaged` at the gate of the first record that isn't in
+/// the grammar of records or isn't admitted there, as `specs/Refusing.antt` says. The disk isn't written. `StoreFault` comes only where its count of
 /// faults rose.
 pub fn open<D: Disk>(alloc: Global, disk: &mut D) -> Result<(Core, Opened), LogStop>
     ensures open { IfOk result (λ r. D.tells → IsOpen D.seen D.images r.1.log disk.new (summary r.0)) }
     ensures right { IfOk result (λ r. 1 ≤ (summary r.0).queues → IsRightCore r.0) }
     ensures opened { IfOk result (λ r. D.tells → IsOpened (D.seen disk.new) r.1) }
     ensures comes { IfOk result (λ r. ComesTo r.1 (summary r.0)) }
+    ensures admitted { IfOk result (λ r. LeadsTo r.1.header (payloads_of r.1.records) r.0) }
+    ensures refused { IfErr result (λ stop. D.tells → IsUnopened (D.seen disk.old) stop) }
     ensures seen { OnOk result (D.seen disk.new ≡ D.seen disk.old) }
     ensures any_moment { LeavesOnly D.moment D.left_since disk.old disk.new (D.images disk.old) }
     ensures cause { MatchResult result (λ _. D.faults disk.new ≡ D.faults disk.old) (IsOpenCause (D.faults disk.old) (D.faults disk.new)) }
@@ -92,6 +102,7 @@ pub fn reopen<D: Disk>(alloc: Global, disk: &mut D) -> Result<(Session, Log), Lo
     ensures open { IfOk result (λ r. D.tells → IsOpen D.seen D.images r.1 disk.new (summary r.0.core)) }
     ensures right { IfOk result (λ r. 1 ≤ (summary r.0.core).queues → IsRightCore r.0.core) }
     ensures outside { IfOk result (λ r. unended r.0 ≡ None) }
+    ensures refused { IfErr result (λ stop. D.tells → IsUnopened (D.seen disk.old) stop) }
     ensures seen { OnOk result (D.seen disk.new ≡ D.seen disk.old) }
     ensures any_moment { LeavesOnly D.moment D.left_since disk.old disk.new (D.images disk.old) }
     ensures cause { MatchResult result (λ _. D.faults disk.new ≡ D.faults disk.old) (IsOpenCause (D.faults disk.old) (D.faults disk.new)) }
