@@ -3,3 +3,8 @@ pub mod Streams
 pub mod Shipped
 pub mod Texts
 pub mod Fronts
+pub mod Readers
+pub mod Reading
+pub mod Frames
+pub mod Stages
+pub mod Followed

@@ -7,6 +7,7 @@ use Rattle.txn_log.specs.Opening.{IsOpened}
 use Rattle.txn_log.specs.Records.{payloads_of}
 use Rattle.flow_core.specs.Summaries.{Summary}
 use Rattle.flow_session.specs.Keeping.{ComesTo}
+use Rattle.txn_log.specs.declared.stops.LogStop.{LogStop}
 use Rattle.standby.specs.declared.stops.ShipStop.{ShipStop}
 use Rattle.standby.specs.declared.stops.ShipStop.TheVariants.{Store, Gone, Ahead, WriteFault, NoMemory}
 use Rattle.standby.specs.Streams.{stream_bytes, PutsPart}
@@ -33,13 +34,21 @@ Ships opened number from old new (Err (Ahead last_one)) = (opened.header.transac
 Ships opened number from old new (Err WriteFault) = HasFrom opened number from × PutsPart old new (shipped opened number from)
 Ships opened number from old new (Err NoMemory) = HasFrom opened number from × PutsPart old new (shipped opened number from)
 
--- a store isn't opened
-abbrev pub IsUnopened : ShipStop → Type 0
-IsUnopened (Store stop) = Unit {0}
-IsUnopened (Gone kept) = ⊥
-IsUnopened (Ahead number) = ⊥
-IsUnopened WriteFault = ⊥
-IsUnopened NoMemory = Unit {0}
+-- a store isn't opened, for a cause of which this is so
+abbrev pub IsUnopened : (LogStop → Type 0) → ShipStop → Type 0
+IsUnopened so (Store stop) = so stop
+IsUnopened so (Gone kept) = ⊥
+IsUnopened so (Ahead number) = ⊥
+IsUnopened so WriteFault = ⊥
+IsUnopened so NoMemory = Unit {0}
+
+-- why a store isn't opened, as the end of shipping
+abbrev pub IsEndBy : LogStop → ShipStop → Type 0
+IsEndBy stop (Store other) = other ≡ stop
+IsEndBy stop (Gone kept) = ⊥
+IsEndBy stop (Ahead number) = ⊥
+IsEndBy stop WriteFault = ⊥
+IsEndBy stop NoMemory = Unit {0}
 
 -- an opened store is what an image holds, and its records come to a history of so many transactions
 pub record IsStoreOf (image : Image) (opened : Opened) (number : ℕ) : Type 0 where

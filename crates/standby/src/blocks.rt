@@ -1,10 +1,14 @@
 //! A source read in blocks.
-ghost use Rattle.std.specs.Prelude.{◌≡◌, ◌≤◌, ◌<◌, ℕ, vec_len, length, IfOk, MatchResult};
+ghost use Rattle.std.specs.Prelude.{◌≡◌, ◌≤◌, ◌<◌, ◌+◌, ◌-◌, ◌++◌, ℕ, [], min, take, drop, length, vec_len, IsTrue, IfOk, OnOk, OnErr, IfErr, MatchResult};
 ghost use Rattle.standby.specs.Endings.{FollowEnd};
+ghost use Rattle.standby.specs.Readers.{ahead};
+ghost use Rattle.standby.specs.Reading.{Looks, ReadsSome, Reads};
+ghost use Rattle.standby.specs.declared.stops.FollowStop.TheVariants as stop;
 
 use crate::stops::FollowStop;
 use flow_io::Source;
 use std::alloc::{AllocError, Global};
+use std::marker::Model;
 
 /// How many bytes are asked for at once.
 const BLOCK: usize = 65536;
@@ -20,13 +24,24 @@ pub struct Blocks {
     to: usize,
     /// How many bytes were handed out.
     place: u64,
-    ghost within: { (from ≤ to) × (to ≤ vec_len block) },
-    ghost some: { 0 < vec_len block },
+}
+
+impl Model for Blocks {
+    ghost use Rattle.std.specs.Prelude.{slice_range, vec_len};
+    ghost use Rattle.standby.specs.Readers.{Reader, IsLaidOut};
+
+    ghost Value = { Reader };
+
+    ghost view = { λ a. record { held = slice_range a.block.items a.from a.to; place = a.place } };
+
+    ghost invariant = { λ a. IsLaidOut (vec_len a.block) a.from a.to a.place };
 }
 
 impl Blocks {
     /// A reader that holds nothing yet.
-    pub fn new(alloc: Global) -> Result<Blocks, AllocError> {
+    pub fn new(alloc: Global) -> Result<Blocks, AllocError>
+        ensures { IfOk result (λ blocks. blocks ≡ record { held = []; place = 0 }) }
+    {
         let block = vec![in alloc; 0; BLOCK]?;
         Ok(Blocks {
             block,
@@ -37,17 +52,29 @@ impl Blocks {
     }
 
     /// How many bytes were handed out.
-    pub fn place(&self) -> u64 {
+    pub fn place(&self) -> u64
+        ensures at { result ≡ self.now.place }
+        ensures within { self.now.place ≤ 268435456 }
+    {
         self.place
     }
 
-    /// Whether there is a byte more; takes the next block where none is held.
-    pub fn has_more<S: Source>(&mut self, src: &mut S) -> Result<bool, FollowStop>
-        ensures { MatchResult result (λ _. S.faults src.new ≡ S.faults src.old) (λ stop. (disk : ℕ) → FollowEnd (S.faults src.old) (S.faults src.new) disk disk stop) }
+    /// How many bytes are held.
+    fn held_len(&self) -> usize
+        ensures { result ≡ length self.now.held }
     {
-        if self.from < self.to {
-            return Ok(true);
-        }
+        self.to - self.from
+    }
+
+    /// Takes the next block where none is held.
+    fn take_block<S: Source>(&mut self, src: &mut S) -> Result<bool, FollowStop>
+        requires { self.old.held ≡ [] }
+        ensures cause { MatchResult result (λ _. S.faults src.new ≡ S.faults src.old) (λ stop. (disk : ℕ) → FollowEnd (S.faults src.old) (S.faults src.new) disk disk stop) }
+        ensures looks { Looks (ahead self.old (S.left src.old)) (ahead self.new (S.left src.new)) result }
+        ensures held { IfOk result (λ more. IsTrue more → 0 < length self.new.held) }
+        ensures dry { OnErr result (self.new.held ≡ []) }
+        ensures place { self.new.place ≡ self.old.place }
+    {
         self.from = 0;
         self.to = 0;
         match src.take(&mut self.block) {
@@ -59,15 +86,31 @@ impl Blocks {
         }
     }
 
+    /// Whether there is a byte more; takes the next block where none is held.
+    pub fn has_more<S: Source>(&mut self, src: &mut S) -> Result<bool, FollowStop>
+        ensures cause { MatchResult result (λ _. S.faults src.new ≡ S.faults src.old) (λ stop. (disk : ℕ) → FollowEnd (S.faults src.old) (S.faults src.new) disk disk stop) }
+        ensures looks { Looks (ahead self.old (S.left src.old)) (ahead self.new (S.left src.new)) result }
+        ensures held { IfOk result (λ more. IsTrue more → 0 < length self.new.held) }
+        ensures dry { OnErr result (self.new.held ≡ []) }
+        ensures place { self.new.place ≡ self.old.place }
+    {
+        if self.held_len() > 0 {
+            return Ok(true);
+        }
+        self.take_block(src)
+    }
+
     /// Appends held bytes, at most so many and within the limit; answers how many.
     fn hand_out(&mut self, most: usize, out: &mut Vec<u8>) -> Result<usize, AllocError>
-        ensures { IfOk result (λ n. n ≤ most) }
+        ensures count { IfOk result (λ n. n ≡ min most (min (length self.old.held) (268435456 - self.old.place))) }
+        ensures given { IfOk result (λ n. out.new.items ≡ out.old.items ++ take n self.old.held) }
+        ensures after { IfOk result (λ n. self.new ≡ record { held = drop n self.old.held; place = self.old.place + n }) }
     {
         let room = usize::try_from(MOST_BYTES.saturating_sub(self.place)).unwrap_or(usize::MAX);
         let count = most.min(self.to - self.from).min(room);
         out.extend_from_slice(&self.block[self.from..self.from + count])?;
         self.from += count;
-        self.place = self.place.saturating_add(count as u64);
+        self.place += count as u64;
         Ok(count)
     }
 
@@ -79,8 +122,11 @@ impl Blocks {
         most: usize,
         out: &mut Vec<u8>,
     ) -> Result<usize, FollowStop>
+        requires { 0 < most }
         ensures cause { MatchResult result (λ _. S.faults src.new ≡ S.faults src.old) (λ stop. (disk : ℕ) → FollowEnd (S.faults src.old) (S.faults src.new) disk disk stop) }
-        ensures bound { IfOk result (λ n. n ≤ most) }
+        ensures reads { ReadsSome most self.old.place (ahead self.old (S.left src.old)) (ahead self.new (S.left src.new)) out.old.items out.new.items result }
+        ensures dry { IfErr result (λ e. e ≡ stop.ReadFault → self.new.held ≡ []) }
+        ensures place { IfOk result (λ n. self.new.place ≡ self.old.place + n) }
     {
         if !self.has_more(src)? {
             return Ok(0);
@@ -98,7 +144,10 @@ impl Blocks {
         count: usize,
         out: &mut Vec<u8>,
     ) -> Result<bool, FollowStop>
-        ensures { MatchResult result (λ _. S.faults src.new ≡ S.faults src.old) (λ stop. (disk : ℕ) → FollowEnd (S.faults src.old) (S.faults src.new) disk disk stop) }
+        ensures cause { MatchResult result (λ _. S.faults src.new ≡ S.faults src.old) (λ stop. (disk : ℕ) → FollowEnd (S.faults src.old) (S.faults src.new) disk disk stop) }
+        ensures reads { Reads count self.old.place (ahead self.old (S.left src.old)) (ahead self.new (S.left src.new)) out.new.items result }
+        ensures dry { IfErr result (λ e. e ≡ stop.ReadFault → self.new.held ≡ []) }
+        ensures place { OnOk result (self.new.place ≡ self.old.place + length out.new.items) }
     {
         out.clear();
         let mut missing = count;

@@ -1,19 +1,30 @@
 //! A stream taken into a store.
-ghost use Rattle.std.specs.Prelude.{◌≡◌, ℕ, IfErr, IsOk, MatchResult, OnOk};
+ghost use Rattle.std.specs.Prelude.{◌≡◌, ◌⊎◌, ℕ, ◌+◌, ◌-◌, ◌^◌, ◌<◌, ◌≤◌, [], IfErr, IfOk, IsOk, MatchResult, OnOk};
+ghost use Rattle.std.specs.Io.KnownBytes.{Keeps};
 ghost use Rattle.flow_disk.specs.Images.{Image};
 ghost use Rattle.flow_disk.specs.Moments.{Only};
 ghost use Rattle.flow_txn.specs.Records.{record_bytes};
+ghost use Rattle.flow_model.specs.declared.transactions.Transaction.{Transaction as TransactionOf};
+ghost use Rattle.flow_core.specs.Admitting.{IsAdmitted};
 ghost use Rattle.flow_core.specs.Summaries.{summary};
+ghost use Rattle.flow_core.specs.declared.state.Core.{Core as CoreOf};
+ghost use Rattle.core_laws.specs.RightStates.{IsRightCore};
 ghost use Rattle.flow_session.specs.Histories.{StandsFor};
 ghost use Rattle.flow_session.specs.Keeping.{IsOpen};
 ghost use Rattle.flow_session.specs.Runs.{KeepsOrServes};
 ghost use Rattle.flow_session.specs.Serving.{Makes};
 ghost use Rattle.flow_session.specs.Stopping.{IsStopCause};
 ghost use Rattle.standby.specs.Endings.{FollowEnd};
+ghost use Rattle.flow_session.specs.Refusing.{IsUnopened};
+ghost use Rattle.standby.specs.Followed.{FollowsOpened, IsNotOpened};
 ghost use Rattle.standby.specs.Fronts.{FrontJudged};
+ghost use Rattle.standby.specs.Readers.{ahead};
+ghost use Rattle.standby.specs.Stages.{FollowsFrames, FollowsSource, StopsPayload, StopsTaking, Takes, TakesPayload, stage};
+ghost use Rattle.standby.specs.declared.stops.FollowStop.TheVariants as stop;
 
 use crate::blocks::Blocks;
-use crate::frames::{END, FRAME, FRONT, Front, agrees, front_of, length_of};
+use crate::frames::{FRONT, Front, agrees, front_of};
+use crate::reading::{at_end, read_frame};
 use crate::stops::FollowStop;
 use flow_core::{AdoptFault, Core};
 use flow_disk::Disk;
@@ -22,7 +33,7 @@ use flow_model::Numbered;
 use flow_session::{Journal, Stop, Stored, open};
 use flow_txn::{RecordFault, decode};
 use std::alloc::Global;
-use txn_log::{Log, LogStop, MAX_PAYLOAD};
+use txn_log::{Log, LogStop};
 
 /// What following came to: the number of the store's transactions, and how many of them were taken.
 #[derive(Clone, Copy, Debug, PartialEq, Eq)]
@@ -51,6 +62,7 @@ fn follow_from<S: Source, D: Disk + Drop>(
     requires open { D.tells → IsOpen D.seen D.images log disk (summary core) }
     ensures makes { Makes D.tells D.moment D.left_since disk result.1 (summary core) (λ s. IsOk result.0 → D.tells → (c : Image) → D.images result.1 c → StandsFor s c) }
     ensures cause { MatchResult result.0 (λ _. (S.faults src.new ≡ S.faults src.old) × (D.faults result.1 ≡ D.faults disk)) (FollowEnd (S.faults src.old) (S.faults src.new) (D.faults disk) (D.faults result.1)) }
+    ensures follows { IsRightCore core → FollowsSource (λ core'. D.tells → (c : Image) → D.images result.1 c → StandsFor (summary core') c) core (S.left src.old) (S.left src.new) result.0 }
 {
     let mut standby = Standby {
         alloc,
@@ -70,7 +82,8 @@ fn follow_from<S: Source, D: Disk + Drop>(
 
 /// Why following ends where the journal keeps no record.
 fn unkept(stop: Stop) -> FollowStop
-    ensures { (source disk disk' : ℕ) → IsStopCause disk disk' stop → FollowEnd source source disk disk' result }
+    ensures cause { (source disk disk' : ℕ) → IsStopCause disk disk' stop → FollowEnd source source disk disk' result }
+    ensures stops { (core : CoreOf) (number : ℕ) (t : TransactionOf) → core.number < number → IsAdmitted core number t → StopsTaking core number t result }
 {
     match stop {
         Stop::StoreFault => FollowStop::Store(LogStop::StoreFault),
@@ -83,9 +96,13 @@ impl<D: Disk + Drop> Standby<D> {
     fn take(&mut self, numbered: Numbered, payload: &[u8]) -> Result<(), FollowStop>
         requires open { D.tells → IsOpen D.seen D.images self.old.journal.log self.old.journal.disk (summary self.old.core) }
         requires spelled { record_bytes numbered.number numbered.transaction ≡ payload.now }
+        requires room { self.old.taken < 2 ^ 64 - 1 }
         ensures kept { OnOk result (D.tells → IsOpen D.seen D.images self.new.journal.log self.new.journal.disk (summary self.new.core)) }
         ensures makes { Makes D.tells D.moment D.left_since self.old.journal.disk self.new.journal.disk (summary self.old.core) (λ s. OnOk result (summary self.new.core ≡ s)) }
         ensures cause { MatchResult result (λ _. D.faults self.new.journal.disk ≡ D.faults self.old.journal.disk) (λ stop. (source : ℕ) → FollowEnd source source (D.faults self.old.journal.disk) (D.faults self.new.journal.disk) stop) }
+        ensures count { OnOk result (self.new.taken ≤ self.old.taken + 1) }
+        ensures takes { IsRightCore self.old.core → OnOk result (Takes numbered.number numbered.transaction self.old.core self.old.taken self.new.core self.new.taken) }
+        ensures stops { IsRightCore self.old.core → IfErr result (StopsTaking self.old.core numbered.number numbered.transaction) }
     {
         let Numbered {
             number,
@@ -110,15 +127,41 @@ impl<D: Disk + Drop> Standby<D> {
     /// Takes the payload of the frame at a place, which has to be the record of this number.
     fn take_payload(&mut self, place: u64, number: u64, payload: &[u8]) -> Result<(), FollowStop>
         requires open { D.tells → IsOpen D.seen D.images self.old.journal.log self.old.journal.disk (summary self.old.core) }
+        requires room { self.old.taken < 2 ^ 64 - 1 }
         ensures kept { OnOk result (D.tells → IsOpen D.seen D.images self.new.journal.log self.new.journal.disk (summary self.new.core)) }
         ensures makes { Makes D.tells D.moment D.left_since self.old.journal.disk self.new.journal.disk (summary self.old.core) (λ s. OnOk result (summary self.new.core ≡ s)) }
         ensures cause { MatchResult result (λ _. D.faults self.new.journal.disk ≡ D.faults self.old.journal.disk) (λ stop. (source : ℕ) → FollowEnd source source (D.faults self.old.journal.disk) (D.faults self.new.journal.disk) stop) }
+        ensures count { OnOk result (self.new.taken ≤ self.old.taken + 1) }
+        ensures takes { IsRightCore self.old.core → OnOk result (TakesPayload number payload.now self.old.core self.old.taken self.new.core self.new.taken) }
+        ensures stops { IsRightCore self.old.core → IfErr result (StopsPayload place number payload.now self.old.core) }
     {
         match decode(self.alloc, payload) {
             Ok(numbered) if numbered.number == number => self.take(numbered, payload),
             Ok(_) => Err(FollowStop::Frame(place)),
             Err(RecordFault::BadRecord) => Err(FollowStop::Frame(place)),
             Err(RecordFault::NoMemory) => Err(FollowStop::NoMemory),
+        }
+    }
+
+    /// Takes the payload of the frame at a place, which has to be the record of the number behind the last one;
+    /// answers that number.
+    fn take_next(&mut self, place: u64, last: u64, payload: &[u8]) -> Result<u64, FollowStop>
+        requires open { D.tells → IsOpen D.seen D.images self.old.journal.log self.old.journal.disk (summary self.old.core) }
+        requires room { self.old.taken < 2 ^ 64 - 1 }
+        ensures kept { OnOk result (D.tells → IsOpen D.seen D.images self.new.journal.log self.new.journal.disk (summary self.new.core)) }
+        ensures makes { Makes D.tells D.moment D.left_since self.old.journal.disk self.new.journal.disk (summary self.old.core) (λ s. OnOk result (summary self.new.core ≡ s)) }
+        ensures cause { MatchResult result (λ _. D.faults self.new.journal.disk ≡ D.faults self.old.journal.disk) (λ stop. (source : ℕ) → FollowEnd source source (D.faults self.old.journal.disk) (D.faults self.new.journal.disk) stop) }
+        ensures count { OnOk result (self.new.taken ≤ self.old.taken + 1) }
+        ensures takes { IsRightCore self.old.core → OnOk result (TakesPayload (last + 1) payload.now self.old.core self.old.taken self.new.core self.new.taken) }
+        ensures stops { IsRightCore self.old.core → IfErr result (StopsPayload place (last + 1) payload.now self.old.core) }
+        ensures number { IfOk result (λ number. number ≡ last + 1) }
+    {
+        let Some(number) = last.checked_add(1) else {
+            return Err(FollowStop::Frame(place));
+        };
+        match self.take_payload(place, number, payload) {
+            Ok(()) => Ok(number),
+            Err(stop) => Err(stop),
         }
     }
 
@@ -150,28 +193,32 @@ impl<D: Disk + Drop> Standby<D> {
         from: u64,
     ) -> Result<(), FollowStop>
         requires open { D.tells → IsOpen D.seen D.images self.old.journal.log self.old.journal.disk (summary self.old.core) }
+        requires counted { self.old.taken ≤ blocks.old.place }
         ensures kept { OnOk result (D.tells → IsOpen D.seen D.images self.new.journal.log self.new.journal.disk (summary self.new.core)) }
         ensures makes { Makes D.tells D.moment D.left_since self.old.journal.disk self.new.journal.disk (summary self.old.core) (λ s. OnOk result (summary self.new.core ≡ s)) }
         ensures cause { MatchResult result (λ _. (S.faults src.new ≡ S.faults src.old) × (D.faults self.new.journal.disk ≡ D.faults self.old.journal.disk)) (FollowEnd (S.faults src.old) (S.faults src.new) (D.faults self.old.journal.disk) (D.faults self.new.journal.disk)) }
+        ensures follows { IsRightCore self.old.core → FollowsFrames (stage self.old.core self.old.taken from blocks.old (S.left src.old)) (ahead blocks.new (S.left src.new)) self.new.core self.new.taken result }
+        ensures dry { IfErr result (λ e. e ≡ stop.ReadFault → blocks.new.held ≡ []) }
     {
         let mut payload = Vec::new(self.alloc);
-        'frames: for number in from.saturating_add(1)..u64::MAX {
+        let mut number = from;
+        'frames: loop {
             let place = blocks.place();
             if !read_frame(src, blocks, self.core.number(), &mut payload)? {
                 return at_end(src, blocks);
             }
-            self.take_payload(place, number, &payload)?;
+            number = self.take_next(place, number, &payload)?;
         }
-        // So many frames have more bytes than a stream may have.
-        Err(FollowStop::TooLong)
     }
 
     /// Takes a stream.
     fn take_stream<S: Source>(&mut self, src: &mut S) -> Result<Followed, FollowStop>
         requires open { D.tells → IsOpen D.seen D.images self.old.journal.log self.old.journal.disk (summary self.old.core) }
+        requires none { self.old.taken ≡ 0 }
         ensures kept { OnOk result (D.tells → IsOpen D.seen D.images self.new.journal.log self.new.journal.disk (summary self.new.core)) }
         ensures makes { Makes D.tells D.moment D.left_since self.old.journal.disk self.new.journal.disk (summary self.old.core) (λ s. OnOk result (summary self.new.core ≡ s)) }
         ensures cause { MatchResult result (λ _. (S.faults src.new ≡ S.faults src.old) × (D.faults self.new.journal.disk ≡ D.faults self.old.journal.disk)) (FollowEnd (S.faults src.old) (S.faults src.new) (D.faults self.old.journal.disk) (D.faults self.new.journal.disk)) }
+        ensures follows { IsRightCore self.old.core → FollowsSource (λ core. core ≡ self.new.core) self.old.core (S.left src.old) (S.left src.new) result }
     {
         let mut blocks = Blocks::new(self.alloc)?;
         let mut bytes = Vec::new(self.alloc);
@@ -183,47 +230,6 @@ impl<D: Disk + Drop> Standby<D> {
             taken: self.taken,
         })
     }
-}
-
-/// Reads the payload of the frame that begins here; answers false at the end byte instead. `Cut` has this number.
-fn read_frame<S: Source>(
-    src: &mut S,
-    blocks: &mut Blocks,
-    number: u64,
-    payload: &mut Vec<u8>,
-) -> Result<bool, FollowStop>
-    ensures { MatchResult result (λ _. S.faults src.new ≡ S.faults src.old) (λ stop. (disk : ℕ) → FollowEnd (S.faults src.old) (S.faults src.new) disk disk stop) }
-{
-    let place = blocks.place();
-    let _ = blocks.read(src, 1, payload)?;
-    match payload.first() {
-        None => return Err(FollowStop::Cut(number)),
-        Some(&END) => return Ok(false),
-        Some(&FRAME) => {}
-        Some(_) => return Err(FollowStop::Frame(place)),
-    }
-    let _ = blocks.read(src, 4, payload)?;
-    let Some(len) = length_of(payload) else {
-        return Err(FollowStop::Cut(number));
-    };
-    let len = len as usize;
-    if len < 1 || len > MAX_PAYLOAD {
-        return Err(FollowStop::Frame(place));
-    }
-    if !blocks.read(src, len, payload)? {
-        return Err(FollowStop::Cut(number));
-    }
-    Ok(true)
-}
-
-/// Behind the end byte there is nothing.
-fn at_end<S: Source>(src: &mut S, blocks: &mut Blocks) -> Result<(), FollowStop>
-    ensures { MatchResult result (λ _. S.faults src.new ≡ S.faults src.old) (λ stop. (disk : ℕ) → FollowEnd (S.faults src.old) (S.faults src.new) disk disk stop) }
-{
-    if blocks.has_more(src)? {
-        return Err(FollowStop::Frame(blocks.place()));
-    }
-    Ok(())
 }
 
 /// Takes a stream into a store, and gives the disk back.
@@ -239,6 +245,8 @@ pub fn follow<S: Source, D: Disk + Drop>(
 ) -> (Result<Followed, FollowStop>, D)
     ensures kept { D.tells → Only (D.seen disk) (D.images disk) → KeepsOrServes D.tells D.moment D.left_since D.seen D.images disk result.1 (IsOk result.0) }
     ensures cause { MatchResult result.0 (λ _. (S.faults src.new ≡ S.faults src.old) × (D.faults result.1 ≡ D.faults disk)) (FollowEnd (S.faults src.old) (S.faults src.new) (D.faults disk) (D.faults result.1)) }
+    ensures follows { (MatchResult result.0 (λ _. ⊥) (IsNotOpened (λ stop. D.tells → IsUnopened (D.seen disk) stop)) × Keeps (S.left src.old) (S.left src.new))
+        ⊎ FollowsOpened D.tells (D.seen disk) (D.images result.1) (S.left src.old) (S.left src.new) result.0 }
 {
     let mut disk = disk;
     match open(alloc, &mut disk) {

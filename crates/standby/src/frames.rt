@@ -1,6 +1,6 @@
 //! The front and the frames of a stream as bytes.
-ghost use Rattle.std.specs.Prelude.{◌≡◌, ◌∷◌, ◌++◌, length, drop, OnOk, MatchOption, IsTrue, ◌↔◌};
-ghost use Rattle.std.specs.Int.{w64, to_be_bytes};
+ghost use Rattle.std.specs.Prelude.{◌≡◌, ◌<◌, ◌^◌, ◌∷◌, ◌++◌, length, drop, OnOk, MatchOption, IsTrue, ◌↔◌};
+ghost use Rattle.std.specs.Int.{w32, w64, to_be_bytes};
 ghost use Rattle.standby.specs.Fronts.{Agrees};
 ghost use Rattle.standby.specs.Streams.{front_bytes, frame_bytes, end_bytes};
 
@@ -38,7 +38,9 @@ fn number_of(bytes: &[u8]) -> u64
 }
 
 /// The number that four bytes write; None where there are fewer or more.
-pub fn length_of(bytes: &[u8]) -> Option<u32> {
+pub fn length_of(bytes: &[u8]) -> Option<u32>
+    ensures { MatchOption result (length bytes.now ≡ 4 → ⊥) (λ len. (len < 2 ^ 32) × (to_be_bytes w32 len ≡ bytes.now)) }
+{
     match bytes {
         [a, b, c, d] => Some(u32::from_be_bytes([*a, *b, *c, *d])),
         _ => None,

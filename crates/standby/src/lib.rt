@@ -8,6 +8,7 @@
 mod blocks;
 mod following;
 mod frames;
+mod reading;
 mod shipping;
 mod stops;
 mod text;

@@ -6,6 +6,7 @@ ghost use Rattle.txn_log.specs.Records.{payloads_of};
 ghost use Rattle.flow_session.specs.Runs.{KeepsStore};
 ghost use Rattle.standby.specs.Endings.{PutEnd, ShipEnd};
 ghost use Rattle.standby.specs.Streams.{frame_bytes, end_bytes, stream_bytes, PutsPart, IsUnderWay};
+ghost use Rattle.flow_session.specs.Refusing.{IsUnopened as IsRefusedStore};
 ghost use Rattle.standby.specs.Shipped.{last, Ships, ShipsOpened, IsUnopened};
 
 use crate::frames::{Front, write_end, write_frame, write_front};
@@ -128,7 +129,7 @@ pub fn ship<K: Sink, D: Disk>(
 ) -> Result<u64, ShipStop>
     ensures kept { D.tells → Only (D.seen disk.old) (D.images disk.old) → KeepsStore D.moment D.left_since D.seen disk.old disk.new }
     ensures cause { MatchResult result (λ _. K.faults out.new ≡ K.faults out.old) (ShipEnd from (K.faults out.old) (K.faults out.new)) }
-    ensures ships { MatchResult result (λ _. ⊥) IsUnopened × Keeps (K.held out.old) (K.held out.new)
+    ensures ships { MatchResult result (λ _. ⊥) (IsUnopened (λ stop. D.tells → IsRefusedStore (D.seen disk.old) stop)) × Keeps (K.held out.old) (K.held out.new)
         ⊎ ShipsOpened D.tells (D.seen disk.old) from (K.held out.old) (K.held out.new) result }
 {
     match open(alloc, disk) {

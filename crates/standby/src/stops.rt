@@ -2,7 +2,8 @@
 ghost use Rattle.std.specs.Prelude.{◌≡◌, ℕ};
 ghost use Rattle.flow_session.specs.Stopping.{IsOpenCause};
 ghost use Rattle.standby.specs.Endings.{ShipEnd, FollowEnd};
-ghost use Rattle.standby.specs.Shipped.{IsUnopened};
+ghost use Rattle.standby.specs.Followed.{IsEndBy};
+ghost use Rattle.standby.specs.Shipped.{IsEndBy as IsShipEndBy};
 
 use std::alloc::AllocError;
 use thiserror::Error;
@@ -81,7 +82,7 @@ impl From<AllocError> for FollowStop {
 }
 
 impl From<LogStop> for ShipStop {
-    ghost from_gives = { λ _ e. IsUnopened e × ((from count : ℕ) → ShipEnd from count count e) };
+    ghost from_gives = { λ stop e. IsShipEndBy stop e × ((from count : ℕ) → ShipEnd from count count e) };
 
     fn from(stop: LogStop) -> ShipStop {
         match stop {
@@ -92,7 +93,7 @@ impl From<LogStop> for ShipStop {
 }
 
 impl From<LogStop> for FollowStop {
-    ghost from_gives = { λ stop e. (source disk disk' : ℕ) → IsOpenCause disk disk' stop → FollowEnd source source disk disk' e };
+    ghost from_gives = { λ stop e. IsEndBy stop e × ((source disk disk' : ℕ) → IsOpenCause disk disk' stop → FollowEnd source source disk disk' e) };
 
     fn from(stop: LogStop) -> FollowStop {
         match stop {

@@ -1,6 +1,11 @@
-use Rattle.std.proofs.Common.{inl, inr}
+use Rattle.std.proofs.Common.{inl, inr, subst}
+use Rattle.std.proofs.KnownBytes.{Keeps-refl}
 use Rattle.flow_core.specs.Summaries.{summary}
+use Rattle.flow_session.specs.Histories.{StandsFor}
 use Rattle.flow_session.proofs.Runs.{opened, served}
+use Rattle.flow_session.specs.Refusing.{IsUnopened}
+use Rattle.standby.proofs.Unopened.{not_opened}
+use Rattle.standby.proofs.Queued.{opened_has_queue}
 use Rattle.standby.proofs.following.follow.Goals as goal
 
 pub returns-in-Err-clause-kept : goal.returns-in-Err-clause-kept
@@ -15,7 +20,18 @@ returns-in-Ok-clause-kept g c told only =
     (record { transactions = f.transactions; any_moment = f.any_moment; ended = λ ok image left. f.ended ok told image left }))
 
 pub returns-in-Err-clause-cause : goal.returns-in-Err-clause-cause
-returns-in-Err-clause-cause g c = c.from.ensures (g.S.Source.faults c.args.src.now) (g.D.Disk.faults c.args.disk) (g.D.Disk.faults c.open.new.disk) c.in-Err.ensures.cause
+returns-in-Err-clause-cause g c = c.from.ensures.1 (g.S.Source.faults c.args.src.now) (g.D.Disk.faults c.args.disk) (g.D.Disk.faults c.open.new.disk) c.in-Err.ensures.cause
 
 pub returns-in-Ok-clause-cause : goal.returns-in-Ok-clause-cause
 returns-in-Ok-clause-cause g c = rw c.in-Ok.ensures.cause at c.follow_from.ensures.cause
+
+pub returns-in-Err-clause-follows : goal.returns-in-Err-clause-follows
+returns-in-Err-clause-follows g c = inl (not_opened (λ stop. g.D.Disk.tells → IsUnopened (g.D.Disk.seen c.args.disk) stop) c.in-Err.stop c.from.result c.from.ensures.0 c.in-Err.ensures.refused, Keeps-refl (g.S.Source.left c.args.src.now))
+
+pub returns-in-Ok-clause-follows : goal.returns-in-Ok-clause-follows
+returns-in-Ok-clause-follows g c = inr (record {
+  core = c.in-Ok.core;
+  stood = λ told. subst (StandsFor (summary c.in-Ok.core)) c.in-Ok.ensures.seen (c.in-Ok.ensures.open told).holds;
+  queued = λ told. opened_has_queue (g.D.Disk.seen c.open.new.disk) c.in-Ok.opened (summary c.in-Ok.core) (c.in-Ok.ensures.opened told) c.in-Ok.ensures.comes;
+  follows = λ some_. c.follow_from.ensures.follows (c.in-Ok.ensures.right some_);
+})

@@ -3,10 +3,12 @@ use Rattle.std.proofs.KnownBytes.{Keeps-refl}
 use Rattle.flow_core.specs.Summaries.{summary}
 use Rattle.flow_disk.specs.Images.{Image}
 use Rattle.txn_log.specs.Opening.{IsOpened}
+use Rattle.flow_session.specs.Refusing.{IsUnopened}
+use Rattle.standby.proofs.Unopened.{not_shipped}
 use Rattle.standby.proofs.shipping.ship.Goals as goal
 
 pub returns-in-Err-clause-ships : goal.returns-in-Err-clause-ships
-returns-in-Err-clause-ships g c = inl (c.from.ensures.0, Keeps-refl (g.K.Sink.held c.args.out.now))
+returns-in-Err-clause-ships g c = inl (not_shipped (λ stop. g.D.Disk.tells → IsUnopened (g.D.Disk.seen c.args.disk.now) stop) c.in-Err.stop c.from.result c.from.ensures.0 c.in-Err.ensures.refused, Keeps-refl (g.K.Sink.held c.args.out.now))
 
 pub returns-in-Ok-clause-ships : goal.returns-in-Ok-clause-ships
 returns-in-Ok-clause-ships g c = inr (record {

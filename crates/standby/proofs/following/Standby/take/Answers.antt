@@ -1,9 +1,11 @@
-use Rattle.std.proofs.Common.{◌∙◌, ◌<◌, sym, ap, rules}
-use Rattle.flow_core.specs.Summaries.{summary}
+use Rattle.std.proofs.Common.{◌∙◌, ◌<◌, inr, sym, ap, refl, rules, arith}
+use Rattle.flow_model.specs.declared.transactions.Numbered.{Numbered}
+use Rattle.flow_core.specs.Summaries.{Summary, summary}
 use Rattle.flow_txn.specs.Records.{record_bytes}
 use Rattle.flow_session.specs.Serving.{WithOrWithout}
 use Rattle.flow_session.proofs.Calls.{makes_one}
 use Rattle.flow_session.proofs.Runs.{on_disk}
+use Rattle.standby.proofs.Going.{in_order}
 use Rattle.standby.proofs.Taken.{untouched, next_one}
 use Rattle.standby.proofs.following.Standby.take.Goals as goal
 
@@ -41,4 +43,34 @@ returns-clause-makes g c =
     makes_one g.D.Disk.tells g.D.Disk.moment g.D.Disk.left_since c.args.self.now.journal.disk c.keep.new.self.disk (summary c.args.self.now.core) c.args.numbered.transaction _ (λ told. on_disk (λ j. j.disk) g.D.Disk.moment g.D.Disk.left_since c.args.self.now.journal c.keep.new.self (WithOrWithout c.args.numbered.transaction (summary c.args.self.now.core)) (c.keep.ensures.any_moment (summary c.args.self.now.core) c.args.numbered.transaction told (c.requires.open told) spelled)) (c.in-Ok.ensures.taken ∙ one.1)
 
 pub returns-in-Err-clause-cause : goal.returns-in-Err-clause-cause
-returns-in-Err-clause-cause g c source = c.unkept.ensures source (g.D.Disk.faults c.args.self.now.journal.disk) (g.D.Disk.faults c.keep.new.self.disk) c.in-Err.ensures.cause
+returns-in-Err-clause-cause g c source = c.unkept.ensures.cause source (g.D.Disk.faults c.args.self.now.journal.disk) (g.D.Disk.faults c.keep.new.self.disk) c.in-Err.ensures.cause
+
+pub returns-in-Err-NotAllowed-clause-stops : goal.returns-in-Err-NotAllowed-clause-stops
+returns-in-Err-NotAllowed-clause-stops g c right =
+    let lt : c.args.self.now.core.number < c.args.numbered.number = rw c.number.ensures at c.if-number.false in
+    (refl, lt, c.in-Err-NotAllowed.ensures.refused (in_order c.args.self.now.core right) c.in-Err-NotAllowed.field-0-is)
+
+pub returns-in-Err-clause-stops : goal.returns-in-Err-clause-stops
+returns-in-Err-clause-stops g c right =
+    let lt : c.args.self.now.core.number < c.args.numbered.number = rw c.number.ensures at c.if-number.false in
+    c.unkept.ensures.stops c.args.self.now.core c.args.numbered.number c.args.numbered.transaction lt (c.in-Ok.ensures.admitted (in_order c.args.self.now.core right))
+
+pub returns-clause-takes : goal.returns-clause-takes
+returns-clause-takes g c right =
+    let n : Numbered = record { number = c.args.numbered.number; transaction = c.args.numbered.transaction } in
+    let lt : c.args.self.now.core.number < c.args.numbered.number = rw c.number.ensures at c.if-number.false in
+    let one = next_one c.args.self.now.core.kept (summary c.args.self.now.core) n lt c.in-Ok.ensures.follows in
+    inr (
+      record {
+        beyond = lt;
+        admitted = c.in-Ok.ensures.admitted (in_order c.args.self.now.core right);
+        makes = record {
+          allowed = c.in-Ok.ensures.allowed;
+          drives = c.in-Ok.ensures.drives;
+          counts = c.in-Ok.ensures.counts;
+          lives = (c.args.numbered.number, ap (λ (s : Summary). s.live) c.in-Ok.ensures.taken);
+        };
+        comes_to = c.in-Ok.ensures.taken ∙ one.1;
+      },
+      omega (arith, c.saturating_add-self.ensures, c.requires.room),
+    )

@@ -1,9 +1,13 @@
-use Rattle.std.proofs.Common.{◌≡◌, ◌∙◌, refl, rules}
+use Rattle.std.proofs.Common.{◌≡◌, ◌∙◌, ◌+◌, [], length, refl, rules, arith}
 use Rattle.flow_core.specs.Summaries.{summary}
 use Rattle.flow_session.proofs.Calls.{makes_more, makes_last}
 use Rattle.standby.specs.Endings.{FollowEnd}
+use Rattle.standby.specs.Readers.{ahead}
+use Rattle.standby.specs.Stages.{Stage, Here, stage}
+use Rattle.standby.specs.Streams.{frame_bytes}
 use Rattle.standby.proofs.Taken.{untouched}
 use Rattle.standby.proofs.Ended.{end_since, stops}
+use Rattle.standby.proofs.Going.{right_after, unread_frame, untaken_at, one_further, stops_frames, never_dry, read_end}
 use Rattle.standby.proofs.following.Standby.take_frames.Goals as goal
 
 pub frames-init : goal.frames-init
@@ -12,18 +16,33 @@ frames-init g c = record {
   makes = untouched g.D.Disk.tells g.D.Disk.moment g.D.Disk.left_since g.D.Disk.seen g.D.Disk.images g.met.D.Disk.only_now c.args.self.now.journal.log c.args.self.now.journal.disk (summary c.args.self.now.core) _ c.requires.open refl;
   source = refl;
   disk = refl;
+  counted = c.requires.counted;
+  right = λ right. right;
+  reached = λ _. Here;
 }
 
-pub returns-in_err-take_payload-clause-makes : goal.returns-in_err-take_payload-clause-makes
-returns-in_err-take_payload-clause-makes g c = makes_last g.D.Disk.tells g.D.Disk.moment g.D.Disk.left_since c.args.self.now.journal.disk c.frames.self.journal.disk c.take_payload.new.self.journal.disk (summary c.args.self.now.core) (summary c.frames.self.core) _ _ c.frames.invariant.makes c.take_payload.ensures.makes (λ x is. search rules)
+pub returns-in_err-number-clause-makes : goal.returns-in_err-number-clause-makes
+returns-in_err-number-clause-makes g c = makes_last g.D.Disk.tells g.D.Disk.moment g.D.Disk.left_since c.args.self.now.journal.disk c.frames.self.journal.disk c.take_next.new.self.journal.disk (summary c.args.self.now.core) (summary c.frames.self.core) _ _ c.frames.invariant.makes c.take_next.ensures.makes (λ x is. search rules)
 
 pub frames-preserved : goal.frames-preserved
-frames-preserved g c = record {
-  open' = c.in_ok-take_payload.ensures.kept;
-  makes = makes_more g.D.Disk.tells g.D.Disk.moment g.D.Disk.left_since c.args.self.now.journal.disk c.frames.self.journal.disk c.take_payload.new.self.journal.disk (summary c.args.self.now.core) (summary c.frames.self.core) _ c.frames.invariant.makes c.in_ok-take_payload.ensures.makes;
-  source = c.in_ok-read_frame.ensures ∙ c.frames.invariant.source;
-  disk = c.in_ok-take_payload.ensures.cause ∙ c.frames.invariant.disk;
-}
+frames-preserved g c =
+    let i = c.frames.invariant in
+    let e = c.in_ok-number.ensures in
+    let first : Stage = stage c.args.self.now.core c.args.self.now.taken c.args.from c.args.blocks.now (g.S.Source.left c.args.src.now) in
+    let old : Stage = stage c.frames.self.core c.frames.self.taken c.frames.number c.frames.blocks (g.S.Source.left c.frames.src) in
+    let new : Stage = stage c.take_next.new.self.core c.take_next.new.self.taken c.in_ok-number.number c.read_frame.new.blocks (g.S.Source.left c.read_frame.new.src) in
+    let payload = c.read_frame.new.payload.items in
+    let reads = rw c.if-not-branch.false at c.in_ok-read_frame.ensures.reads in
+    let place : new.place ≡ old.place + length (frame_bytes payload) = c.in_ok-read_frame.ensures.place c.if-not-branch.false in
+    record {
+      open' = e.kept;
+      makes = makes_more g.D.Disk.tells g.D.Disk.moment g.D.Disk.left_since c.args.self.now.journal.disk c.frames.self.journal.disk c.take_next.new.self.journal.disk (summary c.args.self.now.core) (summary c.frames.self.core) _ i.makes e.makes;
+      source = c.in_ok-read_frame.ensures.cause ∙ i.source;
+      disk = e.cause ∙ i.disk;
+      counted = omega (arith, i.counted, e.count, place);
+      right = λ right. let takes = e.takes (i.right right) in right_after (c.frames.number + 1) takes.transaction old.core old.taken new.core new.taken takes.takes (i.right right);
+      reached = λ right. one_further first old new c.deref.result.now payload (i.reached right) c.deref.ensures.value reads.0 reads.1 place e.number (e.takes (i.right right));
+    }
 
 pub returns-in_err-read_frame-clause-cause : goal.returns-in_err-read_frame-clause-cause
 returns-in_err-read_frame-clause-cause g c =
@@ -33,14 +52,47 @@ returns-in_err-read_frame-clause-cause g c =
     let disk = g.D.Disk.faults c.args.self.now.journal.disk in
     let disk' = g.D.Disk.faults c.frames.self.journal.disk in
     let stop = c.in_err-read_frame.field-0.0 in
-    stops (λ _. (new ≡ old) × (disk' ≡ disk)) (FollowEnd old new disk disk') c.from_residual.result stop c.from_residual.ensures.1 (end_since old mid new disk disk' disk' stop c.frames.invariant.source c.frames.invariant.disk (c.in_err-read_frame.ensures disk'))
+    stops (λ _. (new ≡ old) × (disk' ≡ disk)) (FollowEnd old new disk disk') c.from_residual.result stop c.from_residual.ensures.1 (end_since old mid new disk disk' disk' stop c.frames.invariant.source c.frames.invariant.disk (c.in_err-read_frame.ensures.cause disk'))
 
-pub returns-in_err-take_payload-clause-cause : goal.returns-in_err-take_payload-clause-cause
-returns-in_err-take_payload-clause-cause g c =
+pub returns-in_err-read_frame-clause-follows : goal.returns-in_err-read_frame-clause-follows
+returns-in_err-read_frame-clause-follows g c right =
+    let first : Stage = stage c.args.self.now.core c.args.self.now.taken c.args.from c.args.blocks.now (g.S.Source.left c.args.src.now) in
+    let s : Stage = stage c.frames.self.core c.frames.self.taken c.frames.number c.frames.blocks (g.S.Source.left c.frames.src) in
+    let after = ahead c.read_frame.new.blocks (g.S.Source.left c.read_frame.new.src) in
+    let stop = c.in_err-read_frame.field-0.0 in
+    stops_frames first after c.frames.self.core c.frames.self.taken c.from_residual.result stop c.from_residual.ensures.1
+    (record { last = s; reached = c.frames.invariant.reached right; ended = unread_frame s after stop (rw c.number.ensures at c.in_err-read_frame.ensures.reads) })
+
+pub returns-in_err-number-clause-cause : goal.returns-in_err-number-clause-cause
+returns-in_err-number-clause-cause g c =
     let old = g.S.Source.faults c.args.src.now in
     let new = g.S.Source.faults c.read_frame.new.src in
     let disk = g.D.Disk.faults c.args.self.now.journal.disk in
     let mid = g.D.Disk.faults c.frames.self.journal.disk in
-    let disk' = g.D.Disk.faults c.take_payload.new.self.journal.disk in
-    let stop = c.in_err-take_payload.field-0.0 in
-    stops (λ _. (new ≡ old) × (disk' ≡ disk)) (FollowEnd old new disk disk') c.from_residual-in_err-take_payload.result stop c.from_residual-in_err-take_payload.ensures.1 (end_since old new new disk mid disk' stop (c.in_ok-read_frame.ensures ∙ c.frames.invariant.source) c.frames.invariant.disk (c.in_err-take_payload.ensures.cause new))
+    let disk' = g.D.Disk.faults c.take_next.new.self.journal.disk in
+    let stop = c.in_err-number.field-0.0 in
+    stops (λ _. (new ≡ old) × (disk' ≡ disk)) (FollowEnd old new disk disk') c.from_residual-in_err-number.result stop c.from_residual-in_err-number.ensures.1 (end_since old new new disk mid disk' stop (c.in_ok-read_frame.ensures.cause ∙ c.frames.invariant.source) c.frames.invariant.disk (c.in_err-number.ensures.cause new))
+
+pub returns-in_err-number-clause-follows : goal.returns-in_err-number-clause-follows
+returns-in_err-number-clause-follows g c right =
+    let i = c.frames.invariant in
+    let first : Stage = stage c.args.self.now.core c.args.self.now.taken c.args.from c.args.blocks.now (g.S.Source.left c.args.src.now) in
+    let s : Stage = stage c.frames.self.core c.frames.self.taken c.frames.number c.frames.blocks (g.S.Source.left c.frames.src) in
+    let after = ahead c.read_frame.new.blocks (g.S.Source.left c.read_frame.new.src) in
+    let stop = c.in_err-number.field-0.0 in
+    let reads = rw c.if-not-branch.false at c.in_ok-read_frame.ensures.reads in
+    stops_frames first after c.take_next.new.self.core c.take_next.new.self.taken c.from_residual-in_err-number.result stop c.from_residual-in_err-number.ensures.1
+    (record { last = s; reached = i.reached right; ended = untaken_at s c.place-place.result after c.deref.result.now c.read_frame.new.payload.items stop c.place-place.ensures.at c.deref.ensures.value reads.0 reads.1 (c.in_err-number.ensures.stops (i.right right)) })
+
+pub returns-in_err-number-clause-dry : goal.returns-in_err-number-clause-dry
+returns-in_err-number-clause-dry g c =
+    never_dry (g.D.Disk.faults c.frames.self.journal.disk) (g.D.Disk.faults c.take_next.new.self.journal.disk) (c.read_frame.new.blocks.held ≡ []) c.from_residual-in_err-number.result c.in_err-number.field-0.0 c.from_residual-in_err-number.ensures.1 (c.in_err-number.ensures.cause 0)
+
+pub returns-then-not-branch-clause-follows : goal.returns-then-not-branch-clause-follows
+returns-then-not-branch-clause-follows g c right =
+    let first : Stage = stage c.args.self.now.core c.args.self.now.taken c.args.from c.args.blocks.now (g.S.Source.left c.args.src.now) in
+    let s : Stage = stage c.frames.self.core c.frames.self.taken c.frames.number c.frames.blocks (g.S.Source.left c.frames.src) in
+    let mid = ahead c.read_frame.new.blocks (g.S.Source.left c.read_frame.new.src) in
+    let after = ahead c.at_end.new.blocks (g.S.Source.left c.at_end.new.src) in
+    let given = rw c.if-not-branch.true at c.in_ok-read_frame.ensures.reads in
+    read_end first s c.read_frame.new.blocks.place mid after c.at_end.result (c.in_ok-read_frame.ensures.end c.if-not-branch.true) (c.frames.invariant.reached right) given c.at_end.ensures.ends

@@ -1,7 +1,9 @@
-use Rattle.std.proofs.Common.{◌≡◌}
+use Rattle.std.proofs.Common.{◌≡◌, ◌-◌, ◌≤◌}
+use Rattle.core_laws.specs.RightStates.{IsRightCore}
 use Rattle.flow_core.specs.Summaries.{summary}
 use Rattle.flow_session.specs.Keeping.{IsOpen}
 use Rattle.flow_session.specs.Serving.{Makes}
+use Rattle.standby.specs.Stages.{Reaches, stage}
 use Rattle.standby.proofs.following.Standby.take_frames.Given as goal
 
 abbrev pub invariant-frames : goal.invariant-frames
@@ -10,4 +12,10 @@ invariant-frames g l = record {
   makes : Makes g.D.Disk.tells g.D.Disk.moment g.D.Disk.left_since l.initial.self.journal.disk l.self.journal.disk (summary l.initial.self.core) (λ s. summary l.self.core ≡ s);
   source : g.S.Source.faults l.src ≡ g.S.Source.faults l.initial.src;
   disk : g.D.Disk.faults l.self.journal.disk ≡ g.D.Disk.faults l.initial.self.journal.disk;
+  counted : l.self.taken ≤ l.blocks.place;
+  right : IsRightCore l.initial.self.core → IsRightCore l.self.core;
+  reached : IsRightCore l.initial.self.core → Reaches (stage l.initial.self.core l.initial.self.taken l.initial.number l.initial.blocks (g.S.Source.left l.initial.src)) (stage l.self.core l.self.taken l.number l.blocks (g.S.Source.left l.src));
 }
+
+abbrev pub decreases-frames : goal.decreases-frames
+decreases-frames g l = 268435457 - l.blocks.place

@@ -1,0 +1,208 @@
+-- How following goes from stage to stage, and how it ends.
+use Rattle.std.proofs.Common.{◌≡◌, ◌∙◌, inl, inr, ℕ, ◌+◌, Bool, true, false, List, [], length, Option, Result, Ok, Err, IsOk, IfErr, OnOk, ap, sym, subst, refl, arith}
+use Rattle.std.specs.Io.KnownBytes.{prepend_known}
+use Rattle.std.specs.Result.{IsErrAnd}
+use Rattle.std.proofs.KnownBytes.{prepend_known-nil}
+use Rattle.core_laws.proofs.Making.{core_right}
+use Rattle.core_laws.specs.RightStates.{IsRightCore}
+use Rattle.flow_core.specs.Refusals.{IsInOrder}
+use Rattle.flow_core.specs.Summaries.{Summary, summary}
+use Rattle.flow_core.specs.declared.state.Core.{Core}
+use Rattle.flow_model.specs.declared.transactions.Transaction.{Transaction}
+use Rattle.txn_log.specs.Records.{IsPayload}
+use Rattle.standby.specs.declared.following.Followed.{Followed}
+use Rattle.standby.specs.declared.stops.FollowStop.{FollowStop}
+use Rattle.standby.specs.declared.stops.FollowStop.TheVariants.{Store, Frame, Cut, Other, Gap, NotAllowed, ReadFault, TooLong, NoMemory}
+use Rattle.standby.specs.declared.frames.Front.{Front}
+use Rattle.standby.specs.Endings.{FollowEnd}
+use Rattle.standby.specs.Frames.{StopsFrame, EndsThere}
+use Rattle.standby.specs.Fronts.{FrontJudged}
+use Rattle.standby.specs.Readers.{Reader, Gives, ahead}
+use Rattle.standby.specs.Reading.{Reads}
+use Rattle.standby.specs.Stages.{Takes, TakesPayload, StopsPayload, Stage, stage, Reaches, Further, Goes, IsEnded, StopsAt, FollowsFrames, ReadsFront, StopsBefore, PassesFront, IsDone, Follows, FollowsSource}
+use Rattle.standby.specs.Streams.{front_bytes, frame_bytes, end_bytes}
+use Rattle.standby.proofs.Ahead.{gives_kept}
+
+-- ---- states
+
+-- a state that is right is in order
+pub in_order : (c : Core) → IsRightCore c → IsInOrder c
+in_order c right = right.1.indexed
+
+-- a state is right after a transaction is taken
+pub right_after : (number : ℕ) (t : Transaction) (c : Core) (taken : ℕ) (c' : Core) (taken' : ℕ) → Takes number t c taken c' taken' → IsRightCore c → IsRightCore c'
+right_after number t c taken c' taken' (inl had) right = subst IsRightCore (sym had.1) right
+right_after number t c taken c' taken' (inr new) right = core_right c c' t new.0.makes right
+
+-- ---- the end of the frames
+
+-- the frame at a stage isn't read
+pub unread_frame : (s : Stage) (after : Option (List ℕ)) (stop : FollowStop) → StopsFrame s.place s.core.number s.left after stop → StopsAt s after stop
+unread_frame s after (Store stop) stops = absurd stops
+unread_frame s after (Frame at) stops = inl stops
+unread_frame s after (Cut number) stops = stops
+unread_frame s after Other stops = absurd stops
+unread_frame s after (Gap number) stops = absurd stops
+unread_frame s after (NotAllowed number) stops = absurd stops
+unread_frame s after ReadFault stops = inl stops
+unread_frame s after TooLong stops = stops
+unread_frame s after NoMemory stops = tt
+
+-- the payload at a stage isn't taken
+pub untaken_frame : (s : Stage) (after : Option (List ℕ)) (payload : List ℕ) (stop : FollowStop) → IsPayload payload → Gives s.place s.left after (frame_bytes payload) → StopsPayload s.place (s.number + 1) payload s.core stop → StopsAt s after stop
+untaken_frame s after payload (Store stop) allowed frame stops = record { payload = payload; allowed = allowed; frame = frame; stops = stops }
+untaken_frame s after payload (Frame at) allowed frame stops = inr (inl (record { payload = payload; allowed = allowed; frame = frame; stops = stops }))
+untaken_frame s after payload (Cut number) allowed frame stops = absurd stops.2
+untaken_frame s after payload Other allowed frame stops = absurd stops.2
+untaken_frame s after payload (Gap number) allowed frame stops = absurd stops.2
+untaken_frame s after payload (NotAllowed number) allowed frame stops = record { payload = payload; allowed = allowed; frame = frame; stops = stops }
+untaken_frame s after payload ReadFault allowed frame stops = absurd stops.2
+untaken_frame s after payload TooLong allowed frame stops = absurd stops.2
+untaken_frame s after payload NoMemory allowed frame stops = tt
+
+-- the payload that was read at a stage isn't taken
+pub untaken_at : (s : Stage) (at : ℕ) (after : Option (List ℕ)) (given payload : List ℕ) (stop : FollowStop) → at ≡ s.place → given ≡ payload → IsPayload payload → Gives s.place s.left after (frame_bytes payload) → StopsPayload at (s.number + 1) given s.core stop → StopsAt s after stop
+untaken_at s at after given payload stop here same allowed frame stops =
+    untaken_frame s after payload stop allowed frame
+    (subst (λ (n : ℕ). StopsPayload n (s.number + 1) payload s.core stop) here (subst (λ (xs : List ℕ). StopsPayload at (s.number + 1) xs s.core stop) same stops))
+
+-- a stage is reached by one frame more
+pub one_further : (first s s' : Stage) (given payload : List ℕ) → Reaches first s → given ≡ payload → IsPayload payload → Gives s.place s.left s'.left (frame_bytes payload) → s'.place ≡ s.place + length (frame_bytes payload) → s'.number ≡ s.number + 1 → TakesPayload (s.number + 1) given s.core s.taken s'.core s'.taken → Reaches first s'
+one_further first s s' given payload reached same allowed frame place number takes =
+    Further reached (record {
+      payload = payload;
+      allowed = allowed;
+      frame = frame;
+      place = place;
+      number = number;
+      takes = subst (λ (n : ℕ). TakesPayload n payload s.core s.taken s'.core s'.taken) (sym number) (subst (λ (xs : List ℕ). TakesPayload (s.number + 1) xs s.core s.taken s'.core s'.taken) same takes);
+    })
+
+-- what stops at the last stage stops the call
+pub stops_frames : {T : Type 0} (first : Stage) (after : Option (List ℕ)) (c : Core) (taken : ℕ) (r : Result T FollowStop) (stop : FollowStop) → IsErrAnd r (λ y. y ≡ stop) → Goes first (λ last. StopsAt last after stop) → FollowsFrames first after c taken r
+stops_frames first after c taken (Ok x) stop is goes = absurd is
+stops_frames first after c taken (Err y) stop is goes = subst (λ (e : FollowStop). Goes first (λ last. StopsAt last after e)) (sym is) goes
+
+-- what takes a payload never stops by a fault of the source
+no_fault : (disk disk' : ℕ) (P : Type 0) (stop : FollowStop) → FollowEnd 0 0 disk disk' stop → stop ≡ ReadFault → P
+no_fault disk disk' P stop end is = let fault : FollowEnd 0 0 disk disk' ReadFault = subst (FollowEnd 0 0 disk disk') is end in absurd (omega (arith, fault.0))
+
+pub never_dry : {T : Type 0} (disk disk' : ℕ) (P : Type 0) (r : Result T FollowStop) (stop : FollowStop) → IsErrAnd r (λ y. y ≡ stop) → FollowEnd 0 0 disk disk' stop → IfErr r (λ e. e ≡ ReadFault → P)
+never_dry disk disk' P (Ok x) stop is end = tt
+never_dry disk disk' P (Err y) stop is end = λ e. no_fault disk disk' P stop end (sym is ∙ e)
+
+-- the end of the stream is read at a stage
+pub read_end : {T : Type 0} (first s : Stage) (at : ℕ) (mid after : Option (List ℕ)) (r : Result T FollowStop) → at ≡ s.place + 1 → Reaches first s → Gives s.place s.left mid end_bytes → EndsThere at mid after r → FollowsFrames first after s.core s.taken r
+read_end first s at mid after (Ok x) behind reached given ends = record { last = s; reached = reached; ended = ((gives_kept s.place s.left mid after end_bytes given ends.0, ends.1), refl, refl) }
+read_end first s at mid after (Err (Store stop)) behind reached given ends = absurd ends
+read_end first s at mid after (Err (Frame told)) behind reached given ends = record { last = s; reached = reached; ended = inr (inr (ends.0 ∙ behind, gives_kept s.place s.left mid after end_bytes given ends.1, ends.2)) }
+read_end first s at mid after (Err (Cut number)) behind reached given ends = absurd ends
+read_end first s at mid after (Err Other) behind reached given ends = absurd ends
+read_end first s at mid after (Err (Gap number)) behind reached given ends = absurd ends
+read_end first s at mid after (Err (NotAllowed number)) behind reached given ends = absurd ends
+read_end first s at mid after (Err ReadFault) behind reached given ends = record { last = s; reached = reached; ended = inr (gives_kept s.place s.left mid after end_bytes given ends) }
+read_end first s at mid after (Err TooLong) behind reached given ends = absurd ends
+read_end first s at mid after (Err NoMemory) behind reached given ends = absurd ends
+
+-- ---- the front
+
+front_given : (left mid : Option (List ℕ)) (bytes : List ℕ) (whole : Bool) → Reads 25 0 left mid bytes (Ok whole) → ReadsFront left mid bytes
+front_given left mid bytes true reads = record { given = reads.0; size = inl reads.1 }
+front_given left mid bytes false reads = record { given = reads.0; size = inr (reads.1, reads.2) }
+
+front_stops : (left after : Option (List ℕ)) (bytes : List ℕ) (stop : FollowStop) → Reads 25 0 left after bytes (Err stop) → StopsBefore left after stop
+front_stops left after bytes (Store stop) reads = absurd reads
+front_stops left after bytes (Frame at) reads = absurd reads
+front_stops left after bytes (Cut number) reads = absurd reads
+front_stops left after bytes Other reads = absurd reads
+front_stops left after bytes (Gap number) reads = absurd reads
+front_stops left after bytes (NotAllowed number) reads = absurd reads
+front_stops left after bytes ReadFault reads = record { part = bytes; given = reads.0; is = reads.1 }
+front_stops left after bytes TooLong reads = absurd (omega (arith, reads.1, reads.2))
+front_stops left after bytes NoMemory reads = tt
+
+-- the front is read
+pub front_read : (left mid : Option (List ℕ)) (reader : Reader) (bytes : List ℕ) (whole : Bool) → reader ≡ record { held = []; place = 0 } → Reads 25 reader.place (ahead reader left) mid bytes (Ok whole) → ReadsFront left mid bytes
+front_read left mid reader bytes whole new reads =
+    front_given left mid bytes whole (subst (λ (known : Option (List ℕ)). Reads 25 0 known mid bytes (Ok whole)) (prepend_known-nil left) (subst (λ (r : Reader). Reads 25 r.place (ahead r left) mid bytes (Ok whole)) new reads))
+
+-- the front isn't read
+pub front_unread : (left after : Option (List ℕ)) (reader : Reader) (bytes : List ℕ) (stop : FollowStop) → reader ≡ record { held = []; place = 0 } → Reads 25 reader.place (ahead reader left) after bytes (Err stop) → StopsBefore left after stop
+front_unread left after reader bytes stop new reads =
+    front_stops left after bytes stop (subst (λ (known : Option (List ℕ)). Reads 25 0 known after bytes (Err stop)) (prepend_known-nil left) (subst (λ (r : Reader). Reads 25 r.place (ahead r left) after bytes (Err stop)) new reads))
+
+-- ---- what is kept
+
+-- what is so where a call went well
+pub on_ok : {T E : Type 0} (r : Result T E) (P : Type 0) → IsOk r → OnOk r P → P
+on_ok (Ok x) P ok p = p
+on_ok (Err e) P ok p = absurd (cc)
+
+-- what is kept at the last stage means this
+pub follows_as : (IsKept IsHeld : Core → Type 0) (c : Core) (left left' : Option (List ℕ)) (r : Result Followed FollowStop) → ((x : Core) → IsOk r → IsKept x → IsHeld x) → FollowsSource IsKept c left left' r → FollowsSource IsHeld c left left' r
+follows_as IsKept IsHeld c left left' (Ok followed) leads f =
+    let p : PassesFront c left (IsDone IsKept (prepend_known f.held left') followed) = f.follows in
+    let done : IsDone IsKept (prepend_known f.held left') followed p.goes.last = p.goes.ended in
+    record {
+      held = f.held;
+      follows = record {
+        front = p.front;
+        mid = p.mid;
+        read = p.read;
+        judged = p.judged;
+        goes = record {
+          last = p.goes.last;
+          reached = p.goes.reached;
+          ended = record { ended = done.ended; number = done.number; taken = done.taken; kept = leads p.goes.last.core refl done.kept };
+        };
+      };
+      dry = f.dry;
+    }
+follows_as IsKept IsHeld c left left' (Err stop) leads f = record { held = f.held; follows = f.follows; dry = f.dry }
+
+-- what stops at the front, or behind it, stops the call
+pub stops_source : (IsKept : Core → Type 0) (c : Core) (left left' : Option (List ℕ)) (r : Result Followed FollowStop) (stop : FollowStop) (held : List ℕ) → IsErrAnd r (λ y. y ≡ stop) → Follows IsKept c left (prepend_known held left') (Err stop) → (stop ≡ ReadFault → held ≡ []) → FollowsSource IsKept c left left' r
+stops_source IsKept c left left' (Ok x) stop held is follows dry = absurd is
+stops_source IsKept c left left' (Err y) stop held is follows dry = record {
+  held = held;
+  follows = subst (λ (e : FollowStop). Follows IsKept c left (prepend_known held left') (Err e)) (sym is) follows;
+  dry = λ e. let same : y ≡ ReadFault = cc in ap length (dry (sym is ∙ same));
+}
+
+-- the stage behind a front that was read
+pub from_front : (c : Core) (taken : ℕ) (reader : Reader) (left before : Option (List ℕ)) (bytes : List ℕ) (start : Reader) (front : Front) (IsLast : Stage → Type 0) → start ≡ record { held = []; place = 0 } → taken ≡ 0 → reader.place ≡ start.place + length bytes → ReadsFront before (ahead reader left) bytes → FrontJudged (summary c) bytes (Ok front) → Goes (stage c taken front.from reader left) IsLast → PassesFront c before IsLast
+from_front c taken reader left before bytes start front IsLast new none place read judged goes =
+    let long : length (front_bytes front) ≡ 25 = refl in
+    let at : reader.place ≡ 25 = omega (arith, place, ap length judged.0, long, ap (λ (r : Reader). r.place) new) in
+    record {
+      front = front;
+      mid = ahead reader left;
+      read = subst (ReadsFront before (ahead reader left)) judged.0 read;
+      judged = (refl, judged.1, judged.2);
+      goes = subst (λ (n : ℕ). Goes (record { core = c; taken = n; number = front.from; place = 25; left = ahead reader left }) IsLast) none
+          (subst (λ (n : ℕ). Goes (record { core = c; taken = taken; number = front.from; place = n; left = ahead reader left }) IsLast) at goes);
+    }
+
+-- no front is refused for a fault of the source
+pub judged_dry : (s : Summary) (bytes : List ℕ) (P : Type 0) (stop : FollowStop) → FrontJudged s bytes (Err stop) → stop ≡ ReadFault → P
+judged_dry s bytes P stop judged is = let no_way : FrontJudged s bytes (Err ReadFault) = subst (λ (e : FollowStop). FrontJudged s bytes (Err e)) is judged in absurd no_way
+
+-- the stream ends, and this is told
+pub done_source : (c now : Core) (taken : ℕ) (left left' : Option (List ℕ)) (held : List ℕ) (followed : Followed) → followed.number ≡ now.number → followed.taken ≡ taken → PassesFront c left (λ last. IsEnded last (prepend_known held left') × (last.core ≡ now) × (last.taken ≡ taken)) → FollowsSource (λ core. core ≡ now) c left left' (Ok followed)
+done_source c now taken left left' held followed number count p =
+    let e = p.goes.ended in
+    record {
+      held = held;
+      follows = record {
+        front = p.front;
+        mid = p.mid;
+        read = p.read;
+        judged = p.judged;
+        goes = record {
+          last = p.goes.last;
+          reached = p.goes.reached;
+          ended = record { ended = e.0; number = number ∙ sym (ap (λ (x : Core). x.number) e.1); taken = count ∙ sym e.2; kept = e.1 };
+        };
+      };
+      dry = λ is. absurd (cc);
+    }

@@ -1,0 +1,29 @@
+-- A reader in blocks, as its callers see it.
+use Rattle.std.specs.Prelude.{ℕ, ◌-◌, ◌<◌, ◌≤◌, List, length, Option, Some, None}
+use Rattle.std.specs.Io.KnownBytes.{Consumes, prepend_known}
+
+-- the bytes that were taken and not handed out, and how many were handed out
+pub record Reader : Type 0 where
+  pub held : List ℕ
+  pub place : ℕ
+
+-- what is still to be read, where the source tells what it has left: the bytes that are held, and those behind them
+abbrev pub ahead : Reader → Option (List ℕ) → Option (List ℕ)
+ahead reader left = prepend_known reader.held left
+
+-- there is a byte more, where the bytes are known
+abbrev pub GoesOn : Option (List ℕ) → Type 0
+GoesOn None = Unit {0}
+GoesOn (Some bytes) = 0 < length bytes
+
+-- these bytes are read behind a place: they are the next ones, and a stream may have so many
+pub record Gives (place : ℕ) (before after : Option (List ℕ)) (bytes : List ℕ) : Type 0 where
+  pub taken : Consumes before after bytes
+  pub within : length bytes ≤ 268435456 - place
+
+-- the places in a block of so many bytes, and how many bytes were handed out, which a stream may have
+pub record IsLaidOut (block from to place : ℕ) : Type 0 where
+  pub from_in : from ≤ to
+  pub to_in : to ≤ block
+  pub block_in : 0 < block
+  pub place_in : place ≤ 268435456
