@@ -5,3 +5,7 @@ pub mod Unknown
 pub mod Serving
 pub mod Tries
 pub mod Verdicts
+pub mod Decimals
+pub mod Loads
+pub mod Listed
+pub mod Standby

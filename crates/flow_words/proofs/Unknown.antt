@@ -14,8 +14,3 @@ module _ {Z : Type 0} where
   fate_known [] w is least below e u = omega arith
   fate_known (x ∷ []) w is least below e u = u.1 (ap string_bytes (sym is) ∙ e) refl
   fate_known (x ∷ y ∷ ys) w is least below e u = omega arith
-
-  -- `load`, whatever stands behind it
-  pub load_known : (words : List (String Z)) (w : String Z) → w ≡ get_or words 0 w → 1 ≤ length words → string_bytes w ≡ codes "load" → IsUnknown (map string_bytes words) → ⊥
-  load_known [] w is least e u = omega arith
-  load_known (x ∷ xs) w is least e u = u.2 (ap string_bytes (sym is) ∙ e)

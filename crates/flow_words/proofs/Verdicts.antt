@@ -2,6 +2,7 @@
 use Rattle.std.proofs.Common.{◌≡◌, ℕ, Option, List, Bool, inl, inr, subst, sym, if◌then◌else◌}
 use Rattle.std.specs.Global.{Vec}
 use Rattle.flow_core.specs.declared.state.Core.{Core}
+use Rattle.flow_disk.specs.Images.{Image}
 use Rattle.flow_io.specs.declared.lines.IoStop.{IoStop}
 use Rattle.flow_io.specs.declared.lines.IoStop.TheVariants as stop
 use Rattle.deadlines.specs.Texts.{IsOverdueText}
@@ -44,5 +45,5 @@ pub no_verdict : (left held : Option (List ℕ)) (core : Core) (ended other : St
 no_verdict left held core ended other is unanswered = inl (subst IsUnanswered (sym is) unanswered, keeps_same held)
 
 -- without memory nothing is printed
-pub no_memory : (held : Option (List ℕ)) (ended : Status) → ended ≡ NoMemory → IsUnserved held held ended
-no_memory held ended is = (log.NoMemory, inl (is, keeps_same held))
+pub no_memory : {D : Type 0} (tells : Type 0) (seen : D → Image) (disk : D) (held : Option (List ℕ)) (ended : Status) → ended ≡ NoMemory → IsUnserved tells seen disk held held ended
+no_memory tells seen disk held ended is = (log.NoMemory, (λ told. tt), inl (is, keeps_same held))

@@ -83,10 +83,10 @@ WordCause read read' put put' store store' NoMemory = Unit {0}
 WordCause read read' put put' store store' ScriptTooLong = Unit {0}
 WordCause read read' put put' store store' Refused = Unit {0}
 
--- these words begin with none of the two that send or take a stream
+-- these words begin with another than the one that sends a stream
 abbrev pub SendNoStream : List (List ℕ) → Type 0
 SendNoStream [] = Unit {0}
-SendNoStream (first ∷ rest) = (first ≢ codes "ship") × (first ≢ codes "follow")
+SendNoStream (first ∷ rest) = first ≢ codes "ship"
 
 -- a word that only looks into a store, and sends no stream
 abbrev pub OnlyLooks : Look → Type 0
@@ -95,9 +95,9 @@ OnlyLooks Verify = Unit {0}
 OnlyLooks Overdue = Unit {0}
 OnlyLooks (Ship from) = ⊥
 
--- a word over a store that sends or takes no stream
+-- a word over a store that sends no stream
 abbrev pub SendsNoStream : Word → Type 0
 SendsNoStream (New settings) = Unit {0}
 SendsNoStream Run = Unit {0}
-SendsNoStream Follow = ⊥
+SendsNoStream Follow = Unit {0}
 SendsNoStream (LookInto look) = OnlyLooks look

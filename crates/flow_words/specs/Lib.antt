@@ -6,3 +6,6 @@ pub mod Openings
 pub mod Making
 pub mod Scripts
 pub mod Looking
+pub mod Loading
+pub mod Following
+pub mod Shipping

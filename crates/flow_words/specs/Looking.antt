@@ -33,7 +33,7 @@ PrintsLate held held' ended core = (text : List ℕ) × IsOverdueText core text 
 -- `overdue`: the store isn't opened or there is no memory; or it is, and what is late in its state is printed
 abbrev pub PrintsOverdue : {D : Type 0} → Type 0 → (D → ℕ) → (D → ℕ → Image → Type 0) → (D → Image) → (D → Image → Type 0) → Option (List ℕ) → Option (List ℕ) → D → D → Status → Type 0
 PrintsOverdue tells moment left_since seen images held held' disk disk' ended =
-    IsUnserved held held' ended ⊎ LooksInto tells moment left_since seen images disk disk' (PrintsLate held held' ended)
+    IsUnserved tells seen disk held held' ended ⊎ LooksInto tells moment left_since seen images disk disk' (PrintsLate held held' ended)
 
 -- the lines of the source are read to their end, and the verdict on them by a state is printed; or nothing is
 abbrev pub PrintsVerdict : Option (List ℕ) → Option (List ℕ) → Option (List ℕ) → Status → Core → Type 0
@@ -44,7 +44,7 @@ PrintsVerdict left held held' ended core =
 -- `verify`: the store isn't opened; or it is, and the verdict on the lines of the source is printed
 abbrev pub PrintsVerified : {D : Type 0} → Type 0 → (D → ℕ) → (D → ℕ → Image → Type 0) → (D → Image) → (D → Image → Type 0) → Option (List ℕ) → Option (List ℕ) → Option (List ℕ) → D → D → Status → Type 0
 PrintsVerified tells moment left_since seen images left held held' disk disk' ended =
-    IsUnserved held held' ended ⊎ LooksInto tells moment left_since seen images disk disk' (PrintsVerdict left held held' ended)
+    IsUnserved tells seen disk held held' ended ⊎ LooksInto tells moment left_since seen images disk disk' (PrintsVerdict left held held' ended)
 
 -- why the activity that a word names is dead or finished by a state is printed, or that it has no certificate
 abbrev pub PrintsReason : List ℕ → Option (List ℕ) → Option (List ℕ) → Status → Core → Type 0
@@ -54,5 +54,5 @@ PrintsReason word held held' ended core =
 -- `explain`: the word names no activity, and that is printed; the store isn't opened or there is no memory; or it is, and what its state says of the activity is printed
 abbrev pub PrintsExplained : {D : Type 0} → Type 0 → (D → ℕ) → (D → ℕ → Image → Type 0) → (D → Image) → (D → Image → Type 0) → List ℕ → Option (List ℕ) → Option (List ℕ) → D → D → Status → Type 0
 PrintsExplained tells moment left_since seen images word held held' disk disk' ended =
-    Prints (codes "no USAGE\n") Usage held held' ended ⊎ IsUnserved held held' ended
+    Prints (codes "no USAGE\n") Usage held held' ended ⊎ IsUnserved tells seen disk held held' ended
     ⊎ LooksInto tells moment left_since seen images disk disk' (PrintsReason word held held' ended)

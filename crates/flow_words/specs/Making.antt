@@ -6,7 +6,7 @@ use Rattle.txn_log.specs.Stores.{store_of}
 use Rattle.txn_log.specs.declared.stops.LogStop.{LogStop}
 use Rattle.flow_session.specs.Histories.{StandsFor}
 use Rattle.flow_words.specs.Crashes.{empty_history}
-use Rattle.flow_words.specs.Numbers.{AreSettings, NamesSome}
+use Rattle.flow_words.specs.Numbers.{AreSettings, NameNoSettings}
 use Rattle.flow_words.specs.Openings.{RefusesStore}
 use Rattle.flow_words.specs.Printed.{Prints}
 use Rattle.flow_words.specs.declared.status.Status.{Status}
@@ -32,7 +32,7 @@ PrintsMade tells seen images queues limit held held' disk disk' ended =
 
 -- the word `new` with these words behind its two files, which name its settings
 abbrev pub IsNewWord : List (List ℕ) → Option Word → Type 0
-IsNewWord words None = NamesSome words
+IsNewWord words None = NameNoSettings words
 IsNewWord words (Some (New settings)) = AreSettings words settings.queues settings.limit
 IsNewWord words (Some Run) = ⊥
 IsNewWord words (Some Follow) = ⊥
@@ -46,4 +46,4 @@ MakesNamed tells seen images words held held' disk disk' ended =
 -- `new` with these words behind its two files: they don't name settings, and that is printed; or a store is made with those that they name, or none is
 abbrev pub PrintsNew : {D : Type 0} → Type 0 → (D → Image) → (D → Image → Type 0) → List (List ℕ) → Option (List ℕ) → Option (List ℕ) → D → D → Status → Type 0
 PrintsNew tells seen images words held held' disk disk' ended =
-    (NamesSome words × Prints (codes "no USAGE\n") Usage held held' ended) ⊎ MakesNamed tells seen images words held held' disk disk' ended
+    (NameNoSettings words × Prints (codes "no USAGE\n") Usage held held' ended) ⊎ MakesNamed tells seen images words held held' disk disk' ended

@@ -18,7 +18,7 @@ use Rattle.flow_session.specs.declared.store.Stored.{Stored}
 use Rattle.flow_session.specs.declared.journal.NoJournal.{NoJournal}
 use Rattle.core_laws.specs.RightStates.{IsRightCore}
 use Rattle.flow_words.specs.Crashes.{empty_history}
-use Rattle.flow_words.specs.Numbers.{AreSettings, NamesSome}
+use Rattle.flow_words.specs.Numbers.{AreSettings, NameNoSettings}
 use Rattle.flow_words.specs.Openings.{IsUnserved}
 use Rattle.flow_words.specs.Printed.{PrintsPart, Prints}
 use Rattle.flow_words.specs.declared.pure.Word.{Word}
@@ -110,12 +110,12 @@ status_of_word (Err status) = status
 -- `run`: the store isn't opened, or it is, and serves the script
 abbrev pub RunsStore : {D : Type 0} → Type 0 → (D → ℕ) → (D → ℕ → Image → Type 0) → (D → Image) → (D → Image → Type 0) → Option (List ℕ) → Option (List ℕ) → Option (List ℕ) → D → D → Status → Type 0
 RunsStore tells moment left_since seen images left held held' disk disk' ended =
-    IsUnserved held held' ended
+    IsUnserved tells seen disk held held' ended
     ⊎ ((served : Result (Unit {0}) Status) × ServesStoreScript tells moment left_since seen images left held held' disk disk' served × (ended ≡ status_after served))
 
 -- the word `try` with these words behind it, which name its settings
 abbrev pub IsTryWord : List (List ℕ) → Option Word → Type 0
-IsTryWord words None = NamesSome words
+IsTryWord words None = NameNoSettings words
 IsTryWord words (Some Check) = ⊥
 IsTryWord words (Some Fate) = ⊥
 IsTryWord words (Some (Try settings)) = AreSettings words settings.queues settings.limit
@@ -124,5 +124,5 @@ IsTryWord words (Some (Load seed roots)) = ⊥
 -- `try` with these words behind it: they don't name settings, and that is printed; or a script is served over the empty history of such a store
 abbrev pub PrintsTry : List (List ℕ) → Option (List ℕ) → Option (List ℕ) → Option (List ℕ) → Status → Type 0
 PrintsTry words left held held' ended =
-    (NamesSome words × Prints (codes "no USAGE\n") Usage held held' ended)
+    (NameNoSettings words × Prints (codes "no USAGE\n") Usage held held' ended)
     ⊎ ((queues : ℕ) × (limit : ℕ) × AreSettings words queues limit × ((served : Result (Unit {0}) Status) × IsTried queues limit left held held' served × (ended ≡ status_after served)))

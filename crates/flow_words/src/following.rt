@@ -1,8 +1,13 @@
 //! The words of a standby store: `ship` and `follow`.
-ghost use Rattle.std.specs.Prelude.{◌≡◌, IsOk};
+ghost use Rattle.std.specs.Prelude.{ℕ, Err, IfErr, IsOk, MatchResult};
 ghost use Rattle.flow_disk.specs.Moments.{Only};
 ghost use Rattle.flow_session.specs.Runs.{KeepsStore, KeepsOrServes};
-ghost use Rattle.flow_words.specs.Crashes.{EndsDone};
+ghost use Rattle.standby.specs.Endings.{FollowEnd};
+ghost use Rattle.flow_words.specs.Crashes.{EndsDone, IsFailing};
+ghost use Rattle.flow_words.specs.Endings.{WordCause};
+ghost use Rattle.flow_words.specs.Following.{PrintsFollowed, PrintsResult};
+ghost use Rattle.flow_words.specs.Scripts.{status_of_word};
+ghost use Rattle.flow_words.specs.Shipping.{PrintsShipped};
 
 use crate::looking::print_answer;
 use crate::refusing::refuse;
@@ -21,7 +26,8 @@ pub fn ship_from<K: Sink, D: Disk>(
     out: &mut K,
     disk: &mut D,
 ) -> Result<Status, Status>
-    ensures { D.tells → Only (D.seen disk.old) (D.images disk.old) → KeepsStore D.moment D.left_since D.seen disk.old disk.new }
+    ensures keeps { D.tells → Only (D.seen disk.old) (D.images disk.old) → KeepsStore D.moment D.left_since D.seen disk.old disk.new }
+    ensures ships { PrintsShipped D.tells D.seen from (K.held out.old) (K.held out.new) disk.old (status_of_word result) }
 {
     match ship(alloc, disk, from, out) {
         Ok(_count) => Ok(Status::Done),
@@ -32,21 +38,34 @@ pub fn ship_from<K: Sink, D: Disk>(
     }
 }
 
+/// Prints why a stream isn't followed, or no further.
+fn print_unfollowed<K: Sink>(alloc: Global, stop: FollowStop, out: &mut K) -> Result<Status, Status>
+    ensures fails { MatchResult result IsFailing IsFailing }
+    ensures prints { PrintsResult (Err stop) (K.held out.old) (K.held out.new) (status_of_word result) }
+    ensures cause { (read read' store store' : ℕ) → FollowEnd read read' store store' stop → WordCause read read' (K.faults out.old) (K.faults out.new) store store' (status_of_word result) }
+{
+    match stop {
+        FollowStop::Store(stop) => refuse(alloc, out, &stop),
+        FollowStop::ReadFault => Err(Status::ReadFault),
+        FollowStop::TooLong => Err(Status::ScriptTooLong),
+        FollowStop::NoMemory => Err(Status::NoMemory),
+        stop => print_answer(out, &follow_refusal(alloc, stop)?, true),
+    }
+}
+
 /// Prints how far a store is that followed a stream, or why it stopped.
 fn print_followed<K: Sink>(
     alloc: Global,
     followed: Result<Followed, FollowStop>,
     out: &mut K,
 ) -> Result<Status, Status>
-    ensures { EndsDone result → IsOk followed }
+    ensures done { EndsDone result → IsOk followed }
+    ensures prints { PrintsResult followed (K.held out.old) (K.held out.new) (status_of_word result) }
+    ensures cause { (read read' store store' : ℕ) → IfErr followed (FollowEnd read read' store store') → WordCause read read' (K.faults out.old) (K.faults out.new) store store' (status_of_word result) }
 {
     match followed {
         Ok(followed) => print_answer(out, &followed_text(alloc, followed)?, false),
-        Err(FollowStop::Store(stop)) => refuse(alloc, out, &stop),
-        Err(FollowStop::ReadFault) => Err(Status::ReadFault),
-        Err(FollowStop::TooLong) => Err(Status::ScriptTooLong),
-        Err(FollowStop::NoMemory) => Err(Status::NoMemory),
-        Err(stop) => print_answer(out, &follow_refusal(alloc, stop)?, true),
+        Err(stop) => print_unfollowed(alloc, stop, out),
     }
 }
 
@@ -57,7 +76,9 @@ pub fn follow_into<S: Source, K: Sink, D: Disk + Drop>(
     out: &mut K,
     disk: D,
 ) -> (Result<Status, Status>, D)
-    ensures { D.tells → Only (D.seen disk) (D.images disk) → KeepsOrServes D.tells D.moment D.left_since D.seen D.images disk result.1 (EndsDone result.0) }
+    ensures store { D.tells → Only (D.seen disk) (D.images disk) → KeepsOrServes D.tells D.moment D.left_since D.seen D.images disk result.1 (EndsDone result.0) }
+    ensures cause { WordCause (S.faults src.old) (S.faults src.new) (K.faults out.old) (K.faults out.new) (D.faults disk) (D.faults result.1) (status_of_word result.0) }
+    ensures follows { PrintsFollowed D.tells D.seen D.images (S.left src.old) (S.left src.new) (K.held out.old) (K.held out.new) disk result.1 (status_of_word result.0) }
 {
     let (followed, disk) = follow(alloc, src, disk);
     (print_followed(alloc, followed, out), disk)

@@ -1,170 +1,288 @@
 //! The word `load`: a made script over a history in memory, and one line that sums it up.
+ghost use Rattle.std.specs.Prelude.{◌≡◌, ◌+◌, ◌<◌, ◌^◌, ◌++◌, ◌∷◌, [], List, ℕ, map, OnOk, IfOk, if◌then◌else◌};
+ghost use Rattle.std.specs.List.{flat_map};
+ghost use Rattle.flow_session.specs.Inputs.{Line as LineOf};
+ghost use Rattle.flow_words.specs.Loading.{next_number as number_behind, amount_by, is_above as above_test, above as above_in, drained as drained_lines, force_line as force_of, force_with, start_line as start_of, root_script, roots_script, import_script, lines as lines_of, is_turn as turn_test, turns_of, load_line, Serves, IsSummary, IsLoaded};
+ghost use Rattle.flow_words.specs.Scripts.{IsFresh};
+
+use flow_model::{Numbered, Transaction};
 use flow_session::{Input, NoJournal, Session};
 use flow_text::decimal;
 use std::alloc::{AllocError, Global};
 
 /// The text that the script imports: amounts above 100 take one way, the others another.
-const TEXT: &[u8] = b"STRUCTURE 'Loan' 'Amount' : LONG ; 'Risk' : STRING ; END 'Loan'
-PERSON 'ann' ROLES 'clerk' END 'ann'
-PROCESS 'P' ('Loan','Loan')
-PROGRAM_ACTIVITY 'A' ('Loan','Loan') END 'A'
-PROGRAM_ACTIVITY 'B' ('Loan','Loan') END 'B'
-PROGRAM_ACTIVITY 'C' ('Loan','Loan') END 'C'
-PROGRAM_ACTIVITY 'D' ('Loan','Loan') WHEN AT_LEAST_ONE CONNECTOR TRUE END 'D'
-CONTROL FROM 'A' TO 'B' WHEN ('Amount' > 100)
-CONTROL FROM 'A' TO 'C' OTHERWISE
-CONTROL FROM 'B' TO 'D'
-CONTROL FROM 'C' TO 'D'
-DATA FROM SOURCE TO 'A' MAP 'Amount' TO 'Amount'
-DATA FROM 'D' TO SINK MAP 'Amount' TO 'Amount'
-END 'P'";
+const TEXT: [&[u8]; 14] = [
+    b"STRUCTURE 'Loan' 'Amount' : LONG ; 'Risk' : STRING ; END 'Loan'",
+    b"PERSON 'ann' ROLES 'clerk' END 'ann'",
+    b"PROCESS 'P' ('Loan','Loan')",
+    b"PROGRAM_ACTIVITY 'A' ('Loan','Loan') END 'A'",
+    b"PROGRAM_ACTIVITY 'B' ('Loan','Loan') END 'B'",
+    b"PROGRAM_ACTIVITY 'C' ('Loan','Loan') END 'C'",
+    b"PROGRAM_ACTIVITY 'D' ('Loan','Loan') WHEN AT_LEAST_ONE CONNECTOR TRUE END 'D'",
+    b"CONTROL FROM 'A' TO 'B' WHEN ('Amount' > 100)",
+    b"CONTROL FROM 'A' TO 'C' OTHERWISE",
+    b"CONTROL FROM 'B' TO 'D'",
+    b"CONTROL FROM 'C' TO 'D'",
+    b"DATA FROM SOURCE TO 'A' MAP 'Amount' TO 'Amount'",
+    b"DATA FROM 'D' TO SINK MAP 'Amount' TO 'Amount'",
+    b"END 'P'",
+];
 
 const QUEUES: u8 = 4;
 
 const LIMIT: u64 = 10_000_000;
 
-/// What a load counts.
-#[derive(Clone, Copy, Debug, PartialEq, Eq)]
-struct Counts {
-    turns: u64,
-    above: u64,
-    bytes: u64,
-}
-
-/// A load while it is served.
+/// A load while it is served: its session, and the bytes of the replies so far.
 #[derive(Drop)]
 struct Loading {
     alloc: Global,
     session: Session,
-    counts: Counts,
+    journal: NoJournal,
+    bytes: u64,
 }
 
 /// The next number of the generator.
-fn next_number(x: u64) -> u64 {
+fn next_number(x: u64) -> u64
+    ensures { result ≡ number_behind x }
+{
     ((u128::from(x) * 1_103_515_245 + 12_345) % 2_147_483_648) as u64
 }
 
 /// The amount that a number of the generator gives.
-fn amount(x: u64) -> u64 {
+fn amount(x: u64) -> u64
+    ensures { result ≡ amount_by x }
+{
     x / 65_536 % 201
 }
 
+/// Whether an amount takes the way of those above 100.
+fn is_above(amount: u64) -> bool
+    ensures { result ≡ above_test amount }
+{
+    amount > 100
+}
+
+/// The letter of the activity on the way of an amount.
+fn way(amount: u64) -> u8
+    ensures { result ≡ (if above_test amount then 66 else 67) }
+{
+    if is_above(amount) { b'B' } else { b'C' }
+}
+
+/// What an amount adds to the count of those above 100.
+fn count_of(amount: u64) -> u64
+    ensures { result ≡ (if above_test amount then 1 else 0) }
+{
+    if is_above(amount) { 1 } else { 0 }
+}
+
+/// A count with more; one of 2^64 or more has no memory.
+fn with_more(count: u64, more: u64) -> Result<u64, AllocError>
+    ensures { IfOk result (λ sum. sum ≡ count + more) }
+{
+    match count.checked_add(more) {
+        Some(sum) => Ok(sum),
+        None => Err(AllocError),
+    }
+}
+
+/// A START with this amount.
+fn start_line(alloc: Global, amount: u64) -> Result<Vec<u8>, AllocError>
+    ensures { IfOk result (λ line. line.items ≡ start_of amount) }
+{
+    let start = b"START 'P' BY 'ann' WITH 'Amount' = ";
+    let mut line = Vec::from_slice(alloc, start)?;
+    decimal(&mut line, amount)?;
+    Ok(line)
+}
+
+/// A FORCE of the first attempt of an activity of a root.
+fn force_line(alloc: Global, root: u64, activity: u8) -> Result<Vec<u8>, AllocError>
+    ensures { IfOk result (λ line. line.items ≡ force_of root activity) }
+{
+    let mut line = Vec::from_slice(alloc, b"FORCE '")?;
+    decimal(&mut line, root)?;
+    line.push(b'/')?;
+    line.push(activity)?;
+    line.extend_from_slice(b"#1'")?;
+    Ok(line)
+}
+
+/// The FORCE of a root's first activity, with its amount.
+fn first_line(alloc: Global, root: u64, amount: u64) -> Result<Vec<u8>, AllocError>
+    ensures { IfOk result (λ line. line.items ≡ force_with root 65 amount) }
+{
+    let mut line = force_line(alloc, root, b'A')?;
+    line.extend_from_slice(b" WITH 'Amount' = ")?;
+    decimal(&mut line, amount)?;
+    Ok(line)
+}
+
 impl Loading {
-    fn line(&mut self, line: &[u8]) -> Result<(), AllocError> {
-        match self
-            .session
-            .serve(&mut NoJournal::new(self.alloc), Input::Text(line))
-        {
+    /// A load of which nothing is served yet.
+    fn new(alloc: Global) -> Result<Loading, AllocError>
+        ensures fresh { IfOk result (λ load. IsFresh 4 10000000 load.session) }
+        ensures none { IfOk result (λ load. load.bytes ≡ 0) }
+    {
+        Ok(Loading {
+            alloc,
+            session: Session::fresh(alloc, QUEUES, LIMIT)?,
+            journal: NoJournal::new(alloc),
+            bytes: 0,
+        })
+    }
+
+    /// Serves a line.
+    fn line(&mut self, line: &[u8]) -> Result<(), AllocError>
+        ensures { OnOk result (Serves (LineOf line.now ∷ []) self.old self.new) }
+    {
+        match self.session.serve(&mut self.journal, Input::Text(line)) {
             Ok(reply) => {
-                let more = reply.len() as u64;
-                self.counts.bytes = self.counts.bytes.saturating_add(more);
+                self.bytes = with_more(self.bytes, reply.len() as u64)?;
                 Ok(())
             }
             Err(_) => Err(AllocError),
         }
     }
 
-    /// A DRAIN, whose turns are counted.
-    fn drain(&mut self) -> Result<(), AllocError> {
-        let before = self.session.core().number();
-        self.line(b"DRAIN")?;
-        let turns = self.session.core().number().saturating_sub(before);
-        self.counts.turns = self.counts.turns.saturating_add(turns);
+    /// Serves lines one after the other.
+    fn lines(&mut self, lines: &[&[u8]]) -> Result<(), AllocError>
+        ensures { OnOk result (Serves (lines_of (map (λ line. line.now) lines.now)) self.old self.new) }
+    {
+        for line in lines {
+            self.line(line)?;
+        }
         Ok(())
     }
 
-    fn import(&mut self) -> Result<(), AllocError> {
+    /// Serves a line, and a DRAIN behind it.
+    fn drained(&mut self, line: &[u8]) -> Result<(), AllocError>
+        ensures { OnOk result (Serves (drained_lines line.now) self.old self.new) }
+    {
+        self.line(line)?;
+        self.line(b"DRAIN")?;
+        Ok(())
+    }
+
+    /// Imports the text.
+    fn import(&mut self) -> Result<(), AllocError>
+        ensures { OnOk result (Serves import_script self.old self.new) }
+    {
         self.line(b"IMPORT")?;
-        for line in TEXT.split(|byte| *byte == b'\n') {
-            self.line(line)?;
-        }
-        self.line(b".")
+        self.lines(&TEXT)?;
+        self.line(b".")?;
+        Ok(())
     }
 
-    /// A START with this amount.
-    fn start(&mut self, amount: u64) -> Result<(), AllocError> {
-        let start = b"START 'P' BY 'ann' WITH 'Amount' = ";
-        let mut line = Vec::from_slice(self.alloc, start)?;
-        decimal(&mut line, amount)?;
-        self.line(&line)?;
-        self.drain()
+    /// Starts a root with an amount.
+    fn start(&mut self, amount: u64) -> Result<(), AllocError>
+        ensures { OnOk result (Serves (drained_lines (start_of amount)) self.old self.new) }
+    {
+        let line = start_line(self.alloc, amount)?;
+        self.drained(&line)
     }
 
-    /// A FORCE of the first attempt of an activity of a root.
-    fn force(&mut self, root: u64, activity: u8, amount: Option<u64>) -> Result<(), AllocError> {
-        let line = force_line(self.alloc, root, activity, amount)?;
-        self.line(&line)?;
-        self.drain()
+    /// Forces the first activity of a root, with an amount.
+    fn force_first(&mut self, root: u64, amount: u64) -> Result<(), AllocError>
+        ensures { OnOk result (Serves (drained_lines (force_with root 65 amount)) self.old self.new) }
+    {
+        let line = first_line(self.alloc, root, amount)?;
+        self.drained(&line)
     }
 
-    fn root(&mut self, root: u64, amount: u64) -> Result<(), AllocError> {
+    /// Forces an activity of a root.
+    fn force(&mut self, root: u64, activity: u8) -> Result<(), AllocError>
+        ensures { OnOk result (Serves (drained_lines (force_of root activity)) self.old self.new) }
+    {
+        let line = force_line(self.alloc, root, activity)?;
+        self.drained(&line)
+    }
+
+    /// A root with an amount, from its start to its end.
+    fn root(&mut self, root: u64, amount: u64) -> Result<(), AllocError>
+        ensures { OnOk result (Serves (root_script root amount) self.old self.new) }
+    {
         self.start(amount)?;
-        self.force(root, b'A', Some(amount))?;
-        if amount > 100 {
-            self.counts.above = self.counts.above.saturating_add(1);
-            self.force(root, b'B', None)?;
-        } else {
-            self.force(root, b'C', None)?;
+        self.force_first(root, amount)?;
+        self.force(root, way(amount))?;
+        self.force(root, b'D')?;
+        Ok(())
+    }
+
+    /// So many roots, one after the other; tells how many have an amount above 100.
+    fn roots(&mut self, seed: u64, roots: u64) -> Result<u64, AllocError>
+        ensures served { OnOk result (Serves (roots_script seed roots) self.old self.new) }
+        ensures above { IfOk result (λ above. above ≡ above_in seed roots) }
+    {
+        let mut x = seed;
+        let mut above = 0u64;
+        for before in 0..roots {
+            x = next_number(x);
+            self.root(before + 1, amount(x))?;
+            above = with_more(above, count_of(amount(x)))?;
         }
-        self.force(root, b'D', None)
+        Ok(above)
     }
 }
 
-fn force_line(
-    alloc: Global,
-    root: u64,
-    activity: u8,
-    amount: Option<u64>,
-) -> Result<Vec<u8>, AllocError> {
-    let mut line = Vec::from_slice(alloc, b"FORCE '")?;
-    decimal(&mut line, root)?;
-    line.push(b'/')?;
-    line.push(activity)?;
-    line.extend_from_slice(b"#1'")?;
-    if let Some(amount) = amount {
-        line.extend_from_slice(b" WITH 'Amount' = ")?;
-        decimal(&mut line, amount)?;
+/// What a transaction adds to the count of Turns.
+fn turn_of(numbered: &Numbered) -> u64
+    ensures { result ≡ (if turn_test numbered.now.transaction then 1 else 0) }
+{
+    match numbered.transaction {
+        Transaction::Turn(_, _) => 1,
+        _ => 0,
     }
-    Ok(line)
 }
 
-/// The summary: seed, roots, transactions, turns, roots that are done, roots above 100, bytes of replies.
-fn summary(load: &Loading, seed: u64, roots: u64) -> Result<Vec<u8>, AllocError> {
-    let core = load.session.core();
-    let numbers = [
-        seed,
-        roots,
-        core.number(),
-        load.counts.turns,
-        core.done_count(),
-        load.counts.above,
-        load.counts.bytes,
-    ];
-    let mut text = Vec::from_slice(load.alloc, b"ok LOAD")?;
+/// The Turns among transactions.
+fn turns(live: &[Numbered]) -> Result<u64, AllocError>
+    ensures { IfOk result (λ turns. turns ≡ turns_of live.now) }
+{
+    let mut turns = 0u64;
+    for numbered in live {
+        turns = with_more(turns, turn_of(numbered))?;
+    }
+    Ok(turns)
+}
+
+/// The line of a load with these numbers.
+fn line_of(alloc: Global, numbers: &[u64]) -> Result<Vec<u8>, AllocError>
+    ensures { IfOk result (λ text. text.items ≡ load_line numbers.now) }
+{
+    let mut text = Vec::from_slice(alloc, b"ok LOAD")?;
     for number in numbers {
         text.push(b' ')?;
-        decimal(&mut text, number)?;
+        decimal(&mut text, *number)?;
     }
     text.push(b'\n')?;
     Ok(text)
 }
 
+/// The line that sums a load up: seed, roots, transactions, turns, roots that are done, roots above 100, bytes of replies.
+fn summary(load: &Loading, seed: u64, roots: u64, above: u64) -> Result<Vec<u8>, AllocError>
+    ensures { IfOk result (λ text. IsSummary seed roots above load.now text.items) }
+{
+    let core = load.session.core();
+    let taken = turns(core.live())?;
+    let numbers = [
+        seed,
+        roots,
+        core.number(),
+        taken,
+        core.done_count(),
+        above,
+        load.bytes,
+    ];
+    line_of(load.alloc, &numbers)
+}
+
 /// What `load` prints.
-pub fn load(alloc: Global, seed: u64, roots: u64) -> Result<Vec<u8>, AllocError> {
-    let mut load = Loading {
-        alloc,
-        session: Session::fresh(alloc, QUEUES, LIMIT)?,
-        counts: Counts {
-            turns: 0,
-            above: 0,
-            bytes: 0,
-        },
-    };
+pub fn load(alloc: Global, seed: u64, roots: u64) -> Result<Vec<u8>, AllocError>
+    ensures { IfOk result (λ text. IsLoaded seed roots text.items) }
+{
+    let mut load = Loading::new(alloc)?;
     load.import()?;
-    let mut x = seed;
-    for root in 1..roots.saturating_add(1) {
-        x = next_number(x);
-        load.root(root, amount(x))?;
-    }
-    summary(&load, seed, roots)
+    let above = load.roots(seed, roots)?;
+    summary(&load, seed, roots, above)
 }

@@ -1,5 +1,5 @@
 //! The words that only look into a store: `explain`, `verify` and `overdue`.
-ghost use Rattle.std.specs.Prelude.{◌≡◌, ℕ, true, false, codes, IfErr, MatchResult, if◌then◌else◌};
+ghost use Rattle.std.specs.Prelude.{◌≡◌, ℕ, codes, MatchResult, if◌then◌else◌};
 ghost use Rattle.flow_disk.specs.Moments.{Only};
 ghost use Rattle.flow_session.specs.Runs.{KeepsStore};
 ghost use Rattle.flow_words.specs.Crashes.{IsFailing};

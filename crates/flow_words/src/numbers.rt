@@ -1,6 +1,6 @@
 //! The numbers among the words.
-ghost use Rattle.std.specs.Prelude.{◌≤◌, IfSome, IfNone, map, string_bytes};
-ghost use Rattle.flow_words.specs.Numbers.{AreQueues, IsLimit, AreSettings, NamesSome};
+ghost use Rattle.std.specs.Prelude.{◌≡◌, ◌≢◌, ℕ, ◌<◌, ◌≤◌, ◌^◌, IfSome, IfNone, map, string_bytes, decimal};
+ghost use Rattle.flow_words.specs.Numbers.{Names, NamesNone, AreSettings, NameNoSettings};
 
 /// The limit of a store where the words name none.
 pub const USUAL_LIMIT: u64 = 1_000_000;
@@ -19,26 +19,24 @@ pub struct Settings {
 }
 
 /// A decimal number without a zero before it.
-pub fn number(word: &str) -> Option<u64> {
+pub fn number(word: &str) -> Option<u64>
+    ensures some { IfSome result (λ n. word.now ≡ decimal n) }
+    ensures none { IfNone result ((n : ℕ) → n < 2 ^ 64 → word.now ≢ decimal n) }
+{
     let digits = word.as_bytes();
-    if digits.is_empty() || (digits.len() > 1 && digits[0] == b'0') {
+    if digits.is_empty() || digits[0] == b'+' {
         return None;
     }
-    let mut value = 0u64;
-    for digit in digits {
-        if !digit.is_ascii_digit() {
-            return None;
-        }
-        value = value
-            .checked_mul(10)?
-            .checked_add(u64::from(digit.wrapping_sub(b'0')))?;
+    if digits[0] == b'0' && digits.len() > 1 {
+        return None;
     }
-    Some(value)
+    word.parse::<u64>().ok()
 }
 
 /// A number within bounds.
 pub fn number_in(word: &str, least: u64, most: u64) -> Option<u64>
-    ensures { IfSome result (λ n. (least ≤ n) × (n ≤ most)) }
+    ensures some { IfSome result (Names word.now least most) }
+    ensures none { IfNone result (NamesNone word.now least most) }
 {
     let value = number(word)?;
     if least <= value && value <= most {
@@ -49,13 +47,15 @@ pub fn number_in(word: &str, least: u64, most: u64) -> Option<u64>
 }
 
 fn queues(word: &str) -> Option<u8>
-    ensures { IfSome result AreQueues }
+    ensures some { IfSome result (Names word.now 1 16) }
+    ensures none { IfNone result (NamesNone word.now 1 16) }
 {
     u8::try_from(number_in(word, 1, MOST_QUEUES)?).ok()
 }
 
 fn limit(word: &str) -> Option<u64>
-    ensures { IfSome result IsLimit }
+    ensures some { IfSome result (Names word.now 1 10000000) }
+    ensures none { IfNone result (NamesNone word.now 1 10000000) }
 {
     number_in(word, 1, MOST_LIMIT)
 }
@@ -63,7 +63,7 @@ fn limit(word: &str) -> Option<u64>
 /// The settings that these words name: `[LIMIT n] [QUEUES n]`.
 pub fn settings_of(words: &[String]) -> Option<Settings>
     ensures some { IfSome result (λ s. AreSettings (map string_bytes words.now) s.queues s.limit) }
-    ensures none { IfNone result (NamesSome (map string_bytes words.now)) }
+    ensures none { IfNone result (NameNoSettings (map string_bytes words.now)) }
 {
     match words {
         [] => Some(Settings {

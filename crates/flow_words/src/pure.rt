@@ -1,11 +1,12 @@
 //! The words that need no store.
-ghost use Rattle.std.specs.Prelude.{◌≡◌, ℕ, Some, None, List, Result, [], ◌∷◌, codes, map, string_bytes, MatchResult};
+ghost use Rattle.std.specs.Prelude.{◌≡◌, ◌≢◌, ℕ, Some, None, List, Result, [], ◌∷◌, codes, map, string_bytes, MatchResult};
 ghost use Rattle.std.specs.Io.KnownBytes.{Appends, Keeps};
 ghost use Rattle.flow_words.specs.Endings.{PrintCause, RunCause, EndCause};
+ghost use Rattle.flow_words.specs.Loading.{IsLoadWord, PrintsLoaded, PrintsLoad};
 ghost use Rattle.flow_words.specs.Printed.{Prints, PrintsAnswer, IsUnknown, IsCheckOf, IsFateOf, answer_status};
 ghost use Rattle.flow_words.specs.Scripts.{IsTried, IsTryWord, PrintsTry, status_after};
 ghost use Rattle.flow_words.specs.declared.numbers.Settings.{Settings as SettingsOf};
-ghost use Rattle.flow_words.specs.declared.pure.Word.TheVariants.{Check as CheckWord, Fate as FateWord, Try as TryWord};
+ghost use Rattle.flow_words.specs.declared.pure.Word.TheVariants.{Check as CheckWord, Fate as FateWord, Try as TryWord, Load as LoadWord};
 ghost use Rattle.flow_words.specs.declared.status.Status.{Status as StatusOf};
 ghost use Rattle.flow_words.specs.declared.status.Status.TheVariants.{NoMemory as NoMemoryStatus, Usage as UsageStatus};
 
@@ -31,10 +32,15 @@ enum Word {
     Load(u64, u64),
 }
 
-/// The numbers of a load.
-fn load_of(seed: &str, roots: &str) -> Option<Word> {
-    let seed = number_in(seed, 0, MOST_SEED)?;
-    let roots = number_in(roots, 1, MOST_ROOTS)?;
+/// The word `load` with these words behind it.
+fn load_of(words: &[String]) -> Option<Word>
+    ensures { IsLoadWord (map string_bytes words.now) result }
+{
+    let [seed, roots] = words else {
+        return None;
+    };
+    let seed = number_in(seed.as_str(), 0, MOST_SEED)?;
+    let roots = number_in(roots.as_str(), 1, MOST_ROOTS)?;
     Some(Word::Load(seed, roots))
 }
 
@@ -46,19 +52,32 @@ fn try_of(words: &[String]) -> Option<Word>
     Some(Word::Try(settings))
 }
 
+/// The word that has words behind it.
+fn word_with(word: &str, rest: &[String]) -> Option<Word>
+    ensures tries { word.now ≡ codes "try" → IsTryWord (map string_bytes rest.now) result }
+    ensures loads { word.now ≡ codes "load" → IsLoadWord (map string_bytes rest.now) result }
+    ensures others { word.now ≢ codes "try" → word.now ≢ codes "load" → result ≡ None }
+{
+    match word {
+        "try" => try_of(rest),
+        "load" => load_of(rest),
+        _ => None,
+    }
+}
+
 /// The word that these words say.
 fn word_of(words: &[String]) -> Option<Word>
     ensures check { map string_bytes words.now ≡ codes "check" ∷ [] → result ≡ Some CheckWord }
     ensures fate { map string_bytes words.now ≡ codes "fate" ∷ [] → result ≡ Some FateWord }
     ensures unknown { IsUnknown (map string_bytes words.now) → result ≡ None }
     ensures tries { (rest : List (List ℕ)) → map string_bytes words.now ≡ codes "try" ∷ rest → IsTryWord rest result }
+    ensures loads { (rest : List (List ℕ)) → map string_bytes words.now ≡ codes "load" ∷ rest → IsLoadWord rest result }
 {
     match words {
         [word] if word.as_str() == "check" => Some(Word::Check),
         [word] if word.as_str() == "fate" => Some(Word::Fate),
-        [word, seed, roots] if word.as_str() == "load" => load_of(seed.as_str(), roots.as_str()),
-        [word, rest @ ..] if word.as_str() == "try" => try_of(rest),
-        _ => None,
+        [word, rest @ ..] => word_with(word.as_str(), rest),
+        [] => None,
     }
 }
 
@@ -131,8 +150,10 @@ fn serve_script<S: Source, K: Sink>(
     }
 }
 
+/// Prints the line of a load.
 fn print_load<K: Sink>(alloc: Global, seed: u64, roots: u64, out: &mut K) -> Status
-    ensures { PrintCause (K.faults out.old) (K.faults out.new) result }
+    ensures cause { PrintCause (K.faults out.old) (K.faults out.new) result }
+    ensures prints { PrintsLoaded seed roots (K.held out.old) (K.held out.new) result }
 {
     match load(alloc, seed, roots) {
         Err(_) => Status::NoMemory,
@@ -146,6 +167,7 @@ fn obey<S: Source, K: Sink>(alloc: Global, word: Word, src: &mut S, out: &mut K)
     ensures check { word ≡ CheckWord → PrintsAnswer (IsCheckOf (S.left src.old)) (K.held out.old) (K.held out.new) result }
     ensures fate { word ≡ FateWord → PrintsAnswer (IsFateOf (S.left src.old)) (K.held out.old) (K.held out.new) result }
     ensures tries { (settings : SettingsOf) → word ≡ TryWord settings → (served : Result (Unit {0}) StatusOf) × IsTried settings.queues settings.limit (S.left src.old) (K.held out.old) (K.held out.new) served × (result ≡ status_after served) }
+    ensures loads { (seed roots : ℕ) → word ≡ LoadWord seed roots → PrintsLoaded seed roots (K.held out.old) (K.held out.new) result }
 {
     match word {
         Word::Check => answer_check(alloc, src, out),
@@ -162,7 +184,9 @@ fn obey<S: Source, K: Sink>(alloc: Global, word: Word, src: &mut S, out: &mut K)
 /// text of their answer and nothing else, under `WriteFault` a front part of it, and else nothing. The
 /// answer is that to an input with the lines of all bytes that the source had left.
 /// The word `try` serves the inputs of the script over the empty history, and prints their replies in order, all
-/// of them under `Done`; or `no USAGE`, only where words stand behind it.
+/// of them under `Done`; or `no USAGE`, only where the words behind it name no settings. The word `load` prints the
+/// line that sums up its script, served over the empty history, as `specs/Loading.antt` says; or `no USAGE`, only where
+/// the words behind it name no seed and number of roots.
 #[tactic(auto, using(crate::proofs::EndingLemmas::ends_run, crate::proofs::EndingLemmas::ends_print))]
 pub fn run_pure<S: Source, K: Sink>(
     alloc: Global,
@@ -174,6 +198,7 @@ pub fn run_pure<S: Source, K: Sink>(
     ensures check { map string_bytes words.now ≡ codes "check" ∷ [] → PrintsAnswer (IsCheckOf (S.left src.old)) (K.held out.old) (K.held out.new) result }
     ensures fate { map string_bytes words.now ≡ codes "fate" ∷ [] → PrintsAnswer (IsFateOf (S.left src.old)) (K.held out.old) (K.held out.new) result }
     ensures tries { (rest : List (List ℕ)) → map string_bytes words.now ≡ codes "try" ∷ rest → PrintsTry rest (S.left src.old) (K.held out.old) (K.held out.new) result }
+    ensures loads { (rest : List (List ℕ)) → map string_bytes words.now ≡ codes "load" ∷ rest → PrintsLoad rest (K.held out.old) (K.held out.new) result }
     ensures unknown { IsUnknown (map string_bytes words.now) → Prints (codes "no USAGE\n") UsageStatus (K.held out.old) (K.held out.new) result }
     ensures usage { result ≡ UsageStatus → Appends (K.held out.old) (K.held out.new) (codes "no USAGE\n") }
 {

@@ -1,5 +1,5 @@
 //! The words over a store in two files, and the two that make and serve one: `new` and `run`.
-ghost use Rattle.std.specs.Prelude.{◌≡◌, ◌≢◌, ℕ, Some, None, List, [], ◌∷◌, codes, map, string_bytes, IfErr, IfSome, IsOk};
+ghost use Rattle.std.specs.Prelude.{◌≡◌, ◌≢◌, ℕ, Some, None, List, [], ◌∷◌, ◌++◌, codes, map, string_bytes, IfErr, IfSome, IsOk};
 ghost use Rattle.flow_disk.specs.Images.{Image};
 ghost use Rattle.flow_disk.specs.Moments.{Only};
 ghost use Rattle.flow_core.specs.Summaries.{summary};
@@ -9,14 +9,17 @@ ghost use Rattle.flow_session.specs.Runs.{KeepsStore, KeepsOrServes};
 ghost use Rattle.flow_session.specs.Serving.{Makes};
 ghost use Rattle.flow_words.specs.Crashes.{IsFailing, EndsDone, MakesStore, MakesKeepsOrServes};
 ghost use Rattle.flow_words.specs.Endings.{RunCause, WordCause, OnlyLooks, SendsNoStream, SendNoStream};
-ghost use Rattle.flow_words.specs.Looking.{PrintsOverdue, PrintsVerified};
+ghost use Rattle.flow_words.specs.Following.{PrintsFollowed};
+ghost use Rattle.flow_words.specs.Loading.{PrintsLoad};
+ghost use Rattle.flow_words.specs.Looking.{PrintsExplained, PrintsOverdue, PrintsVerified};
 ghost use Rattle.flow_words.specs.Making.{PrintsMade, IsNewWord, MakesNamed, PrintsNew};
 ghost use Rattle.flow_words.specs.Numbers.{AreQueues, IsLimit};
 ghost use Rattle.flow_words.specs.Printed.{PrintsAnswer, IsCheckOf, IsFateOf};
 ghost use Rattle.flow_words.specs.Scripts.{status_of_word, ServesOver, RunsStore, PrintsTry};
+ghost use Rattle.flow_words.specs.Shipping.{PrintsShipped, IsShipWord, ShipsNamed, PrintsShip};
 ghost use Rattle.flow_words.specs.declared.status.Status.TheVariants.{Done as DoneStatus};
-ghost use Rattle.flow_words.specs.declared.stored.Look.TheVariants.{Overdue as OverdueLook, Verify as VerifyLook};
-ghost use Rattle.flow_words.specs.declared.stored.Word.TheVariants.{Run as RunWord, Look as LookWord};
+ghost use Rattle.flow_words.specs.declared.stored.Look.TheVariants.{Explain as ExplainLook, Overdue as OverdueLook, Verify as VerifyLook, Ship as ShipLook};
+ghost use Rattle.flow_words.specs.declared.stored.Word.TheVariants.{Run as RunWord, Follow as FollowWord, Look as LookWord};
 
 use crate::following::{follow_into, ship_from};
 use crate::looking::{explain_in, overdue_in, print_answer, verify_in};
@@ -59,7 +62,9 @@ fn short_word(word: &str) -> Option<Word>
     ensures overdue { word.now ≡ codes "overdue" → result ≡ Some (LookWord OverdueLook) }
     ensures verify { word.now ≡ codes "verify" → result ≡ Some (LookWord VerifyLook) }
     ensures tries { word.now ≡ codes "try" → result ≡ None }
-    ensures streams { word.now ≢ codes "follow" → IfSome result SendsNoStream }
+    ensures loads { word.now ≡ codes "load" → result ≡ None }
+    ensures follows { word.now ≡ codes "follow" → result ≡ Some FollowWord }
+    ensures streams { IfSome result SendsNoStream }
 {
     match word {
         "run" => Some(Word::Run),
@@ -83,10 +88,14 @@ fn new_word(rest: &[String]) -> Option<Word>
 fn store_word(word: &str, rest: &[String]) -> Option<Word>
     ensures run { word.now ≡ codes "run" → rest.now ≡ [] → result ≡ Some RunWord }
     ensures overdue { word.now ≡ codes "overdue" → rest.now ≡ [] → result ≡ Some (LookWord OverdueLook) }
+    ensures explain { (activity : List ℕ) → word.now ≡ codes "explain" → map string_bytes rest.now ≡ activity ∷ [] → result ≡ Some (LookWord ExplainLook) }
     ensures verify { word.now ≡ codes "verify" → rest.now ≡ [] → result ≡ Some (LookWord VerifyLook) }
     ensures tries { word.now ≡ codes "try" → result ≡ None }
+    ensures loads { word.now ≡ codes "load" → result ≡ None }
     ensures news { word.now ≡ codes "new" → IsNewWord (map string_bytes rest.now) result }
-    ensures streams { word.now ≢ codes "ship" → word.now ≢ codes "follow" → IfSome result SendsNoStream }
+    ensures follows { word.now ≡ codes "follow" → rest.now ≡ [] → result ≡ Some FollowWord }
+    ensures ships { (number : List ℕ) → word.now ≡ codes "ship" → map string_bytes rest.now ≡ number ∷ [] → IsShipWord number result }
+    ensures streams { word.now ≢ codes "ship" → IfSome result SendsNoStream }
 {
     if word == "new" {
         return new_word(rest);
@@ -106,10 +115,14 @@ fn store_word(word: &str, rest: &[String]) -> Option<Word>
 fn word_of(words: &[String]) -> Option<Word>
     ensures one { (word : List ℕ) → map string_bytes words.now ≡ word ∷ [] → result ≡ None }
     ensures tries { (rest : List (List ℕ)) → map string_bytes words.now ≡ codes "try" ∷ rest → result ≡ None }
+    ensures loads { (rest : List (List ℕ)) → map string_bytes words.now ≡ codes "load" ∷ rest → result ≡ None }
     ensures run { (a b : List ℕ) → map string_bytes words.now ≡ codes "run" ∷ a ∷ b ∷ [] → a ≢ b → result ≡ Some RunWord }
     ensures overdue { (a b : List ℕ) → map string_bytes words.now ≡ codes "overdue" ∷ a ∷ b ∷ [] → a ≢ b → result ≡ Some (LookWord OverdueLook) }
+    ensures explain { (a b activity : List ℕ) → map string_bytes words.now ≡ codes "explain" ∷ a ∷ b ∷ activity ∷ [] → a ≢ b → result ≡ Some (LookWord ExplainLook) }
     ensures verify { (a b : List ℕ) → map string_bytes words.now ≡ codes "verify" ∷ a ∷ b ∷ [] → a ≢ b → result ≡ Some (LookWord VerifyLook) }
     ensures news { (a b : List ℕ) (rest : List (List ℕ)) → map string_bytes words.now ≡ codes "new" ∷ a ∷ b ∷ rest → a ≢ b → IsNewWord rest result }
+    ensures follows { (a b : List ℕ) → map string_bytes words.now ≡ codes "follow" ∷ a ∷ b ∷ [] → a ≢ b → result ≡ Some FollowWord }
+    ensures ships { (a b number : List ℕ) → map string_bytes words.now ≡ codes "ship" ∷ a ∷ b ∷ number ∷ [] → a ≢ b → IsShipWord number result }
     ensures streams { SendNoStream (map string_bytes words.now) → IfSome result SendsNoStream }
 {
     match words {
@@ -119,7 +132,9 @@ fn word_of(words: &[String]) -> Option<Word>
 }
 
 /// The bytes of the last word, where there is one.
-fn last_word(words: &[String]) -> &[u8] {
+fn last_word(words: &[String]) -> &[u8]
+    ensures { (front : List (List ℕ)) (last : List ℕ) → map string_bytes words.now ≡ front ++ last ∷ [] → result.now ≡ last }
+{
     match words.last() {
         Some(word) => word.as_bytes(),
         None => &[],
@@ -202,7 +217,10 @@ fn look_into<S: Source, K: Sink, D: Disk>(
     ensures keeps { D.tells → Only (D.seen disk.old) (D.images disk.old) → KeepsStore D.moment D.left_since D.seen disk.old disk.new }
     ensures cause { OnlyLooks look → WordCause (S.faults src.old) (S.faults src.new) (K.faults out.old) (K.faults out.new) (D.faults disk.old) (D.faults disk.new) (status_of_word result) }
     ensures overdue { look ≡ OverdueLook → PrintsOverdue D.tells D.moment D.left_since D.seen D.images (K.held out.old) (K.held out.new) disk.old disk.new (status_of_word result) }
+    ensures explain { (front : List (List ℕ)) (activity : List ℕ) → look ≡ ExplainLook → map string_bytes words.now ≡ front ++ activity ∷ []
+        → PrintsExplained D.tells D.moment D.left_since D.seen D.images activity (K.held out.old) (K.held out.new) disk.old disk.new (status_of_word result) }
     ensures verify { look ≡ VerifyLook → PrintsVerified D.tells D.moment D.left_since D.seen D.images (S.left src.old) (K.held out.old) (K.held out.new) disk.old disk.new (status_of_word result) }
+    ensures ships { (from : ℕ) → look ≡ ShipLook from → PrintsShipped D.tells D.seen from (K.held out.old) (K.held out.new) disk.old (status_of_word result) }
 {
     match look {
         Look::Explain => explain_in(alloc, last_word(words), out, disk),
@@ -225,8 +243,12 @@ fn obey<S: Source, K: Sink, D: Disk + Drop>(
     ensures cause { SendsNoStream word → WordCause (S.faults src.old) (S.faults src.new) (K.faults out.old) (K.faults out.new) (D.faults disk) (D.faults result.1) (status_of_word result.0) }
     ensures runs { word ≡ RunWord → RunsStore D.tells D.moment D.left_since D.seen D.images (S.left src.old) (K.held out.old) (K.held out.new) disk result.1 (status_of_word result.0) }
     ensures overdue { word ≡ LookWord OverdueLook → PrintsOverdue D.tells D.moment D.left_since D.seen D.images (K.held out.old) (K.held out.new) disk result.1 (status_of_word result.0) }
+    ensures explain { (front : List (List ℕ)) (activity : List ℕ) → word ≡ LookWord ExplainLook → map string_bytes words.now ≡ front ++ activity ∷ []
+        → PrintsExplained D.tells D.moment D.left_since D.seen D.images activity (K.held out.old) (K.held out.new) disk result.1 (status_of_word result.0) }
     ensures verify { word ≡ LookWord VerifyLook → PrintsVerified D.tells D.moment D.left_since D.seen D.images (S.left src.old) (K.held out.old) (K.held out.new) disk result.1 (status_of_word result.0) }
     ensures news { (rest : List (List ℕ)) → IsNewWord rest (Some word) → MakesNamed D.tells D.seen D.images rest (K.held out.old) (K.held out.new) disk result.1 (status_of_word result.0) }
+    ensures follows { word ≡ FollowWord → PrintsFollowed D.tells D.seen D.images (S.left src.old) (S.left src.new) (K.held out.old) (K.held out.new) disk result.1 (status_of_word result.0) }
+    ensures ships { (number : List ℕ) → IsShipWord number (Some word) → ShipsNamed D.tells D.seen number (K.held out.old) (K.held out.new) disk (status_of_word result.0) }
 {
     let mut disk = disk;
     match word {
@@ -244,17 +266,23 @@ fn obey<S: Source, K: Sink, D: Disk + Drop>(
 /// the history before with some of the transactions that the call makes, from the first on. Where the
 /// status is `Done`, it leaves the new store, or the history with all of them.
 ///
-/// What `check`, `fate` and `try` print is that of `run_pure`. Under `run` over two files the store isn't opened, or
+/// What `check`, `fate`, `try` and `load` print is that of `run_pure`. Under `run` over two files the store isn't opened, or
 /// a session over the state for which it stands serves the inputs of the script one after the other, as
 /// `specs/Scripts.antt` says: each transaction is kept before its reply is given, and the replies are printed in
 /// order, all of them under `Done`. Under `overdue` over two files the store isn't opened, or exactly the late items of
-/// the state for which it stands are printed; under `verify`, exactly how many lines of the source, from the first on,
+/// the state for which it stands are printed; under `explain`, why the activity of the last word is dead or finished in
+/// that state, or that the word names none or the state has no certificate for it; under `verify`, exactly how many lines of the source, from the first on,
 /// are justified over that state, as `specs/Looking.antt` says. Under `new` a store is made with the settings of the
 /// words, or none is for the cause that is printed, as `specs/Making.antt` says. A store that isn't opened is refused
 /// as `specs/Openings.antt` says.
 ///
-/// Under each word but `ship` and `follow`, `ReadFault`, `WriteFault` and `StoreFault` come only where the count of
-/// faults of the source, the sink and the disk rose.
+/// Under `follow` over two files the stream in the source is followed from the state for which the store stands, frame
+/// by frame, and how far it came or why it stopped is printed, as `specs/Following.antt` says. Under `ship` the stream
+/// of the transactions above the number that the last word names stands behind what the sink held, or the cause is
+/// printed for which it doesn't, as `specs/Shipping.antt` says.
+///
+/// Under each word but `ship`, `ReadFault`, `WriteFault` and `StoreFault` come only where the count of faults of the
+/// source, the sink and the disk rose.
 pub fn run<S: Source, K: Sink, D: Disk + Drop>(
     alloc: Global,
     words: &[String],
@@ -267,14 +295,21 @@ pub fn run<S: Source, K: Sink, D: Disk + Drop>(
     ensures check { map string_bytes words.now ≡ codes "check" ∷ [] → PrintsAnswer (IsCheckOf (S.left src.old)) (K.held out.old) (K.held out.new) result.0 }
     ensures fate { map string_bytes words.now ≡ codes "fate" ∷ [] → PrintsAnswer (IsFateOf (S.left src.old)) (K.held out.old) (K.held out.new) result.0 }
     ensures tries { (rest : List (List ℕ)) → map string_bytes words.now ≡ codes "try" ∷ rest → PrintsTry rest (S.left src.old) (K.held out.old) (K.held out.new) result.0 }
+    ensures loads { (rest : List (List ℕ)) → map string_bytes words.now ≡ codes "load" ∷ rest → PrintsLoad rest (K.held out.old) (K.held out.new) result.0 }
     ensures serves { (a b : List ℕ) → map string_bytes words.now ≡ codes "run" ∷ a ∷ b ∷ [] → a ≢ b
         → RunsStore D.tells D.moment D.left_since D.seen D.images (S.left src.old) (K.held out.old) (K.held out.new) disk result.1 result.0 }
     ensures overdue { (a b : List ℕ) → map string_bytes words.now ≡ codes "overdue" ∷ a ∷ b ∷ [] → a ≢ b
         → PrintsOverdue D.tells D.moment D.left_since D.seen D.images (K.held out.old) (K.held out.new) disk result.1 result.0 }
+    ensures explain { (a b activity : List ℕ) → map string_bytes words.now ≡ codes "explain" ∷ a ∷ b ∷ activity ∷ [] → a ≢ b
+        → PrintsExplained D.tells D.moment D.left_since D.seen D.images activity (K.held out.old) (K.held out.new) disk result.1 result.0 }
     ensures verify { (a b : List ℕ) → map string_bytes words.now ≡ codes "verify" ∷ a ∷ b ∷ [] → a ≢ b
         → PrintsVerified D.tells D.moment D.left_since D.seen D.images (S.left src.old) (K.held out.old) (K.held out.new) disk result.1 result.0 }
     ensures news { (a b : List ℕ) (rest : List (List ℕ)) → map string_bytes words.now ≡ codes "new" ∷ a ∷ b ∷ rest → a ≢ b
         → PrintsNew D.tells D.seen D.images rest (K.held out.old) (K.held out.new) disk result.1 result.0 }
+    ensures follows { (a b : List ℕ) → map string_bytes words.now ≡ codes "follow" ∷ a ∷ b ∷ [] → a ≢ b
+        → PrintsFollowed D.tells D.seen D.images (S.left src.old) (S.left src.new) (K.held out.old) (K.held out.new) disk result.1 result.0 }
+    ensures ships { (a b number : List ℕ) → map string_bytes words.now ≡ codes "ship" ∷ a ∷ b ∷ number ∷ [] → a ≢ b
+        → PrintsShip D.tells D.seen number (K.held out.old) (K.held out.new) disk result.0 }
 {
     let Some(word) = word_of(words) else {
         return (run_pure(alloc, words, src, out), disk);

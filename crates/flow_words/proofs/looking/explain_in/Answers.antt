@@ -1,4 +1,4 @@
-use Rattle.std.proofs.Common.{◌∙◌, ap, inl, inr}
+use Rattle.std.proofs.Common.{◌∙◌, ap, inl, inr, rules}
 use Rattle.std.proofs.lemmas.Result.{err_from_is_err_and}
 use Rattle.flow_core.specs.Summaries.{summary}
 use Rattle.flow_session.proofs.Runs.{opened}
@@ -22,7 +22,7 @@ returns-in_err-explain_word-in-Ok-clause-cause g c read read' =
 pub returns-in_err-explain_word-in-Ok-clause-prints : goal.returns-in_err-explain_word-in-Ok-clause-prints
 returns-in_err-explain_word-in-Ok-clause-prints g c =
     let p = err_from_is_err_and c.from_residual-in_err-explain_word-in-Ok.result c.from_residual-in_err-explain_word-in-Ok.ensures.1 in
-    inr (inl (no_memory (g.K.Sink.held c.args.out.now) (status_of_word c.from_residual-in_err-explain_word-in-Ok.result) (ap status_of_word p.1 ∙ p.2)))
+    inr (inl (no_memory g.D.Disk.tells g.D.Disk.seen c.args.disk.now (g.K.Sink.held c.args.out.now) (status_of_word c.from_residual-in_err-explain_word-in-Ok.result) (ap status_of_word p.1 ∙ p.2)))
 
 pub returns-in-None-clause-cause : goal.returns-in-None-clause-cause
 returns-in-None-clause-cause g c read read' = c.print_usage-in-None.ensures.cause read read' (g.D.Disk.faults c.args.disk.now) (g.D.Disk.faults c.reopen.new.disk)
@@ -41,3 +41,6 @@ returns-clause-prints g c = inr (inr (record {
   right = c.in-Ok.ensures.right;
   printed = prints_reason (g.K.Sink.held c.args.out.now) (g.K.Sink.held c.print_answer.new.out) (status_of_word c.print_answer.result) c.in-Ok.session.core c.core.result.now c.args.activity.now c.in-Some.text.items c.deref.result.now c.in-Some.is_refused c.core.ensures (rw c.in-Some.is at c.in_ok-explain_word-in-Ok.ensures) c.deref.ensures.value c.print_answer.ensures.prints;
 }))
+
+pub returns-in_err-named_activity-clause-prints : goal.returns-in_err-named_activity-clause-prints
+returns-in_err-named_activity-clause-prints g c = inr (inl (no_memory g.D.Disk.tells g.D.Disk.seen c.args.disk.now (g.K.Sink.held c.args.out.now) (status_of_word c.from_residual.result) (search rules)))
