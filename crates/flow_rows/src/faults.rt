@@ -45,29 +45,35 @@ const COUNTS: [u64; 12] = [0, 1, 2, 3, 3, 4, 5, 6, 6, 7, 8, 9];
 
 /// What a run leaves.
 #[derive(Drop)]
-struct Left {
-    status: Status,
-    text: Vec<u8>,
-    disk: MemDisk,
+pub(crate) struct Left {
+    pub(crate) status: Status,
+    pub(crate) text: Vec<u8>,
+    pub(crate) disk: MemDisk,
 }
 
-fn words(alloc: Global, word: &str) -> Result<Vec<String>, Fail> {
-    let mut words = Vec::new(alloc);
-    words.push(String::from_str(alloc, word)?)?;
-    words.push(String::from_str(alloc, "a")?)?;
-    words.push(String::from_str(alloc, "b")?)?;
-    Ok(words)
-}
-
-/// Runs a word over a disk; the calls of the source and of the sink that fail are listed.
-fn ran(
+/// Runs a word over a disk of two files; the calls of the source and of the sink that fail are listed.
+pub(crate) fn ran(
     alloc: Global,
     word: &str,
     script: &[u8],
     failing: (&[u64], &[u64]),
     disk: MemDisk,
 ) -> Result<Left, Fail> {
-    let words = words(alloc, word)?;
+    ran_with(alloc, &[word, "a", "b"], script, failing, disk)
+}
+
+/// Runs the words of a command line over a disk.
+pub(crate) fn ran_with(
+    alloc: Global,
+    given: &[&str],
+    script: &[u8],
+    failing: (&[u64], &[u64]),
+    disk: MemDisk,
+) -> Result<Left, Fail> {
+    let mut words = Vec::new(alloc);
+    for word in given {
+        words.push(String::from_str(alloc, word)?)?;
+    }
     let mut source = MemSource::new(alloc, script, failing.0)?;
     let mut sink = MemSink::new(alloc, failing.1)?;
     let (status, disk) = run(alloc, &words, &mut source, &mut sink, disk);
@@ -77,9 +83,9 @@ fn ran(
 
 /// A store: the bytes of its two slots.
 #[derive(Drop)]
-struct Store {
-    a: Vec<u8>,
-    b: Vec<u8>,
+pub(crate) struct Store {
+    pub(crate) a: Vec<u8>,
+    pub(crate) b: Vec<u8>,
 }
 
 fn store_of(alloc: Global, disk: &MemDisk) -> Result<Store, Fail> {
@@ -90,9 +96,14 @@ fn store_of(alloc: Global, disk: &MemDisk) -> Result<Store, Fail> {
 }
 
 /// A new store.
-fn new_store(alloc: Global) -> Result<Store, Fail> {
+pub(crate) fn new_store(alloc: Global) -> Result<Store, Fail> {
     let left = ran(alloc, "new", b"", (&[], &[]), MemDisk::new(alloc, &[])?)?;
     store_of(alloc, &left.disk)
+}
+
+/// A disk with a new store.
+pub(crate) fn new_disk(alloc: Global) -> Result<MemDisk, Fail> {
+    disk_of(alloc, &new_store(alloc)?)
 }
 
 /// The number of transactions that these answers name; None where they aren't the first ones of the script.

@@ -1,0 +1,238 @@
+//! Certificates of a store: as `explain` gives them, with each line left out, repeated, exchanged or changed, and of what is not there.
+use crate::faults::{Left, new_disk, ran_with};
+use flow_disk::MemDisk;
+use flow_words::Status;
+use std::alloc::Global;
+use std::test::Fail;
+
+/// A diamond with a dead side, and a block that was repeated.
+const SCRIPT: &[u8] = b"IMPORT
+STRUCTURE 'N' 'n' : LONG ; END 'N'
+PERSON 'ann' END 'ann'
+PROCESS 'P' ('N','N')
+PROGRAM_ACTIVITY 'A' ('N','N') END 'A'
+PROGRAM_ACTIVITY 'B' ('N','N') END 'B'
+BLOCK 'L' ('N','N') EXIT WHEN ('n' = 2)
+PROGRAM_ACTIVITY 'X' ('N','N') END 'X'
+DATA FROM 'X' TO SINK MAP 'n' TO 'n'
+END 'L'
+PROGRAM_ACTIVITY 'D' ('N','N') END 'D'
+PROGRAM_ACTIVITY 'W' ('N','N') END 'W'
+CONTROL FROM 'A' TO 'B' WHEN ('n' > 5)
+CONTROL FROM 'A' TO 'L' OTHERWISE
+CONTROL FROM 'B' TO 'D'
+CONTROL FROM 'L' TO 'D'
+CONTROL FROM 'L' TO 'W'
+END 'P'
+.
+START 'P' BY 'ann'
+DRAIN
+FORCE '1/A#1' WITH 'n' = 3
+DRAIN
+FORCE '1/L#1/X#1' WITH 'n' = 1
+DRAIN
+FORCE '1/L#2/X#1' WITH 'n' = 2
+DRAIN
+START 'P' BY 'ann'
+";
+
+/// Why D is dead: what each line needs stands before it.
+const LINES: [&str; 11] = [
+    "SCOPE '1'",
+    "FINISHED '1/A' 1",
+    "DEAD '1/B'",
+    "SCOPE '1/L#1'",
+    "FINISHED '1/L#1/X' 1",
+    "ENDED '1/L#1'",
+    "SCOPE '1/L#2'",
+    "FINISHED '1/L#2/X' 1",
+    "ENDED '1/L#2'",
+    "FINISHED '1/L' 2",
+    "DEAD '1/D'",
+];
+
+/// The path that is asked for, what `explain` answers, and the status.
+const ASKED: [(&str, &str, Status); 9] = [
+    (
+        "1/B",
+        "ok EXPLAIN 3\nSCOPE '1'\nFINISHED '1/A' 1\nDEAD '1/B'\n",
+        Status::Done,
+    ),
+    ("1/W", "no UNSETTLED READY 1\n", Status::Refused),
+    ("1/X", "no ACTIVITY\n", Status::Refused),
+    ("1/L#3/X", "no ACTIVITY\n", Status::Refused),
+    ("1/A#1/X", "no ACTIVITY\n", Status::Refused),
+    ("2/A", "no ACTIVITY\n", Status::Refused),
+    ("3/A", "no ROOT 3\n", Status::Refused),
+    ("1", "no USAGE\n", Status::Usage),
+    ("01/A", "no USAGE\n", Status::Usage),
+];
+
+/// A line, another one in its place, and the number of the line that isn't justified then.
+const CHANGED: [(usize, &str, usize); 14] = [
+    (0, "SCOPE '2'", 2),
+    (0, "SCOPE '3'", 1),
+    (1, "FINISHED '1/A' 2", 2),
+    (1, "FINISHED '1/A' 0", 2),
+    (1, "DEAD '1/A'", 2),
+    (2, "FINISHED '1/B' 1", 3),
+    (2, "DEAD  '1/B'", 3),
+    (3, "SCOPE '1/L#2'", 4),
+    (5, "ENDED '1/L#2'", 6),
+    (6, "SCOPE '1/L#3'", 7),
+    (9, "FINISHED '1/L' 1", 10),
+    (9, "FINISHED '1/L' 3", 10),
+    (10, "FINISHED '1/D' 1", 11),
+    (10, "DEAD '1/E'", 11),
+];
+
+/// A store on which the script was run.
+fn store(alloc: Global) -> Result<MemDisk, Fail> {
+    let left = ran_with(
+        alloc,
+        &["run", "a", "b"],
+        SCRIPT,
+        (&[], &[]),
+        new_disk(alloc)?,
+    )?;
+    Ok(left.disk)
+}
+
+/// What `verify` answers to these lines.
+fn verified(alloc: Global, disk: MemDisk, lines: &[&str]) -> Result<Left, Fail> {
+    let mut input = Vec::new(alloc);
+    for line in lines {
+        input.extend_from_slice(line.as_bytes())?;
+        input.push(b'\n')?;
+    }
+    ran_with(alloc, &["verify", "a", "b"], &input, (&[], &[]), disk)
+}
+
+/// Whether all these lines are justified.
+fn is_accepted(alloc: Global, lines: &[&str]) -> Result<bool, Fail> {
+    let left = verified(alloc, store(alloc)?, lines)?;
+    let count = lines.len();
+    let answer = format!(in alloc; "ok VERIFY {count}\n")?;
+    Ok(left.text.as_slice() == answer.as_bytes() && left.status == Status::Done)
+}
+
+/// Whether the line of this number is the first that isn't justified.
+fn stops_at(alloc: Global, lines: &[&str], number: usize) -> Result<bool, Fail> {
+    let left = verified(alloc, store(alloc)?, lines)?;
+    let answer = format!(in alloc; "no STEP {number}\n")?;
+    Ok(left.text.as_slice() == answer.as_bytes() && left.status == Status::Refused)
+}
+
+/// The lines with another one at a place.
+fn with_line<'a>(alloc: Global, at: usize, line: &'a str) -> Result<Vec<&'a str>, Fail> {
+    let mut lines = Vec::new(alloc);
+    for (i, old) in LINES.iter().enumerate() {
+        lines.push(if i == at { line } else { *old })?;
+    }
+    Ok(lines)
+}
+
+/// The lines without the one at a place.
+fn without(alloc: Global, at: usize) -> Result<Vec<&'static str>, Fail> {
+    let mut lines = Vec::new(alloc);
+    for (i, line) in LINES.iter().enumerate() {
+        if i != at {
+            lines.push(*line)?;
+        }
+    }
+    Ok(lines)
+}
+
+/// The lines with the one at a place twice.
+fn doubled(alloc: Global, at: usize) -> Result<Vec<&'static str>, Fail> {
+    let mut lines = Vec::new(alloc);
+    for (i, line) in LINES.iter().enumerate() {
+        lines.push(*line)?;
+        if i == at {
+            lines.push(*line)?;
+        }
+    }
+    Ok(lines)
+}
+
+/// The lines with the one at a place behind the next one.
+fn exchanged(alloc: Global, at: usize) -> Result<Vec<&'static str>, Fail> {
+    let mut lines = Vec::new(alloc);
+    for (i, line) in LINES.iter().enumerate() {
+        if i != at {
+            lines.push(*line)?;
+        }
+        if i == at.saturating_add(1) {
+            if let Some(first) = LINES.get(at) {
+                lines.push(*first)?;
+            }
+        }
+    }
+    Ok(lines)
+}
+
+#[test]
+fn activities_are_explained(rt: HostRuntime) -> Result<(), Fail> {
+    for (i, row) in ASKED.iter().enumerate() {
+        let words = ["explain", "a", "b", row.0];
+        let left = ran_with(rt.alloc(), &words, b"", (&[], &[]), store(rt.alloc())?)?;
+        assert!(rt;
+            left.text.as_slice() == row.1.as_bytes() && left.status == row.2,
+            "row {i}"
+        );
+    }
+    Ok(())
+}
+
+#[test]
+fn certificates_are_checked(rt: HostRuntime) -> Result<(), Fail> {
+    assert!(rt; is_accepted(rt.alloc(), &LINES)?);
+    assert!(rt; is_accepted(rt.alloc(), &[])?);
+    for i in 0..LINES.len() {
+        assert!(rt;
+            is_accepted(rt.alloc(), &doubled(rt.alloc(), i)?)?,
+            "twice {i}"
+        );
+    }
+    Ok(())
+}
+
+/// Where the lines stop without each of them: at the first that needs it.
+const NEEDED: [usize; 10] = [1, 2, 10, 4, 5, 6, 7, 8, 9, 10];
+
+#[test]
+fn lines_are_needed(rt: HostRuntime) -> Result<(), Fail> {
+    for (i, number) in NEEDED.iter().enumerate() {
+        assert!(rt;
+            stops_at(rt.alloc(), &without(rt.alloc(), i)?, *number)?,
+            "without {i}"
+        );
+    }
+    Ok(())
+}
+
+/// Where the lines stop when each of them is exchanged with the next one; 0 where they don't.
+const EXCHANGED: [usize; 10] = [1, 2, 0, 4, 5, 6, 7, 8, 9, 10];
+
+#[test]
+fn lines_have_an_order(rt: HostRuntime) -> Result<(), Fail> {
+    for (i, number) in EXCHANGED.iter().enumerate() {
+        let lines = exchanged(rt.alloc(), i)?;
+        let is_so = if *number == 0 {
+            is_accepted(rt.alloc(), &lines)?
+        } else {
+            stops_at(rt.alloc(), &lines, *number)?
+        };
+        assert!(rt; is_so, "exchanged {i}");
+    }
+    Ok(())
+}
+
+#[test]
+fn changed_lines_stop(rt: HostRuntime) -> Result<(), Fail> {
+    for (i, row) in CHANGED.iter().enumerate() {
+        let lines = with_line(rt.alloc(), row.0, row.1)?;
+        assert!(rt; stops_at(rt.alloc(), &lines, row.2)?, "changed {i}");
+    }
+    Ok(())
+}
