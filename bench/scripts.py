@@ -62,3 +62,51 @@ def wide_text():
     lines += ["END 'W'", "."]
     lines += [f"DONE 'A{i}'" for i in range(1024)]
     return ("\n".join(lines) + "\n").encode()
+
+
+PEOPLE = """STRUCTURE 'L' 'A' : LONG ; END 'L'
+PERSON 'ann' ROLES 'clerk' END 'ann'
+PERSON 'bob' ROLES 'rare' END 'bob'
+PROCESS 'P' ('L','L')
+PROGRAM_ACTIVITY 'A' ('L','L') START MANUAL DONE_BY ROLE 'clerk' END 'A'
+END 'P'
+PROCESS 'Q' ('L','L')
+PROGRAM_ACTIVITY 'A' ('L','L') START MANUAL DONE_BY ROLE 'rare' END 'A'
+END 'Q'
+"""
+
+
+def one_root_beside(others):
+    """So many roots with an item for a clerk, and ten with one for bob."""
+    lines = ["IMPORT", *PEOPLE.splitlines(), "."]
+    lines += ["START 'P' BY 'ann'"] * others + ["START 'Q' BY 'bob'"] * 10 + ["DRAIN"]
+    return ("\n".join(lines) + "\n").encode()
+
+
+def path_of(count):
+    """Connectors from each of so many activities to the next."""
+    return [(i, i + 1) for i in range(count - 1)]
+
+
+def fan_of(count):
+    """Connectors from the first activity to so many others."""
+    return [(0, i) for i in range(1, count + 1)]
+
+
+def run_through(count, connectors):
+    """A process of so many activities with these connectors, started and completed one by one."""
+    lines = ["IMPORT", "STRUCTURE 'E' END 'E'", "PERSON 'ann' ROLES 'clerk' END 'ann'", "PROCESS 'W' ('E','E')"]
+    lines += [f"PROGRAM_ACTIVITY 'A{i}' ('E','E') END 'A{i}'" for i in range(count)]
+    lines += [f"CONTROL FROM 'A{a}' TO 'A{b}'" for a, b in connectors]
+    lines += ["END 'W'", ".", "START 'W' BY 'ann'", "DRAIN"]
+    for i in range(count):
+        lines += [f"FORCE '1/A{i}#1'", "DRAIN"]
+    return ("\n".join(lines + ["SHOW 1"]) + "\n").encode()
+
+
+def deletions(count):
+    """So many roots, started and completed; and their deletion."""
+    lines = ["IMPORT", *PEOPLE.splitlines(), "."] + ["START 'Q' BY 'bob'"] * count + ["DRAIN"]
+    lines += [f"FORCE '{root}/A#1'" for root in range(1, count + 1)] + ["DRAIN"]
+    start = ("\n".join(lines) + "\n").encode()
+    return start, "".join(f"DELETE {root}\n" for root in range(1, count + 1)).encode()
