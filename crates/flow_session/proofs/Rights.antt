@@ -1,16 +1,17 @@
--- A state that begins with no transaction taken up is right.
+-- A state that begins with no transaction taken up is right, and its worklists hold nothing.
 use Rattle.std.proofs.Common.{◌≡◌, ℕ, ◌≤◌, List, [], length, ap, arith, Result, Ok, Err, OnOk}
 use Rattle.core_laws.proofs.Making.{blank_right}
-use Rattle.core_laws.specs.RightStates.{IsRightCore}
+use Rattle.worklist_laws.specs.Shelved.{IsRightAndListed}
 use Rattle.flow_core.specs.Allowing.{IsBlank}
 use Rattle.flow_core.specs.Summaries.{Summary, summary}
 use Rattle.flow_core.specs.declared.state.Core.{Core}
+use Rattle.worklist_laws.proofs.Transactions.{blank_shelved}
 
-pub begun_right : (c : Core) (s : Summary) → IsBlank c → c.kept ≡ s.transactions → summary c ≡ s → 1 ≤ s.queues → IsRightCore c
+pub begun_right : (c : Core) (s : Summary) → IsBlank c → c.kept ≡ s.transactions → summary c ≡ s → 1 ≤ s.queues → IsRightAndListed c
 begun_right c s blank kept is some_ =
     let number : c.number ≡ s.transactions = ap (λ (t : Summary). t.transactions) is in
     let queues : length c.queues ≡ s.queues = ap (λ (t : Summary). t.queues) is in
-    ((λ root. []), blank_right c blank (omega arith) (omega arith))
+    (((λ root. []), blank_right c blank (omega arith) (omega arith)), blank_shelved c blank)
 
 -- what holds whatever a call answers holds where it succeeds
 pub whatever : {T E P : Type 0} (r : Result T E) → P → OnOk r P

@@ -1,6 +1,6 @@
 -- A script: inputs that a session serves one after the other, each with its reply.
 use Rattle.std.specs.Prelude.{◌≡◌, ℕ, ◌≤◌, List, [], ◌∷◌, ◌++◌, length, take}
-use Rattle.core_laws.specs.RightStates.{IsRightCore}
+use Rattle.worklist_laws.specs.Shelved.{IsRightAndListed}
 use Rattle.flow_disk.specs.Images.{Image}
 use Rattle.flow_core.specs.Summaries.{Summary, summary}
 use Rattle.flow_session.specs.Inputs.{Given, IsServed}
@@ -12,7 +12,7 @@ pub record ServesOne {J : Type 0} (tells : Type 0) (holds : J → Summary → Ty
   pub served : IsServed s s' input reply
   pub makes : Makes tells moment left_since j j' (summary s.core) (λ x. summary s'.core ≡ x)
   pub kept : tells → holds j' (summary s'.core)
-  pub right : IsRightCore s.core → IsRightCore s'.core
+  pub right : IsRightAndListed s.core → IsRightAndListed s'.core
 
 -- Inputs are served one after the other, with these replies; the session and the journal are these before, and those after.
 pub data ServesAll {J : Type 0} (tells : Type 0) (holds : J → Summary → Type 0) (moment : J → ℕ) (left_since : J → ℕ → Image → Type 0) (s : Session) (j : J) : List Given → List (List ℕ) → Session → J → Type 0 where
@@ -38,4 +38,4 @@ AnsweredIsKept {J} tells holds moment left_since =
 -- a script keeps a right state right
 abbrev pub ScriptsKeepRight : {J : Type 0} → Type 0 → (J → Summary → Type 0) → (J → ℕ) → (J → ℕ → Image → Type 0) → Type 0
 ScriptsKeepRight {J} tells holds moment left_since =
-    (s : Session) (j : J) (inputs : List Given) (replies : List (List ℕ)) (s' : Session) (j' : J) → ServesAll tells holds moment left_since s j inputs replies s' j' → IsRightCore s.core → IsRightCore s'.core
+    (s : Session) (j : J) (inputs : List Given) (replies : List (List ℕ)) (s' : Session) (j' : J) → ServesAll tells holds moment left_since s j inputs replies s' j' → IsRightAndListed s.core → IsRightAndListed s'.core

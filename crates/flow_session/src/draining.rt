@@ -1,6 +1,6 @@
 //! A DRAIN: the queues are served in turn, until all are empty or the limit is met.
 ghost use Rattle.std.specs.Prelude.{◌≡◌, ℕ, ◌<◌, ◌≤◌, true, false, if◌then◌else◌, None, length, IfOk, IfErr, IfSome, OnOk, IsTrue, MatchResult};
-ghost use Rattle.core_laws.specs.RightStates.{IsRightCore};
+ghost use Rattle.worklist_laws.specs.Shelved.{IsRightAndListed};
 ghost use Rattle.recover_queue.specs.Queues.{is_quiet};
 ghost use Rattle.flow_core.specs.Answers.{has_message};
 ghost use Rattle.flow_core.specs.Summaries.{summary};
@@ -69,7 +69,7 @@ impl Session {
         ensures kept { J.tells → OnOk result (J.holds journal.new (summary self.new.core)) }
         ensures cause { MatchResult result (λ _. J.faults journal.new ≡ J.faults journal.old) (IsStopCause (J.faults journal.old) (J.faults journal.new)) }
         ensures makes { Makes J.tells J.moment J.left_since journal.old journal.new (summary self.old.core) (λ s. OnOk result (summary self.new.core ≡ s)) }
-        ensures right { IsRightCore self.old.core → OnOk result (IsRightCore self.new.core) }
+        ensures right { IsRightAndListed self.old.core → OnOk result (IsRightAndListed self.new.core) }
         ensures gathers { OnOk result (self.new.gathered ≡ self.old.gathered) }
         ensures turned { OnOk result (TakesFront self.old.core self.new.core queue) }
     {
@@ -106,7 +106,7 @@ impl Session {
         ensures kept { J.tells → OnOk result (J.holds journal.new (summary self.new.core)) }
         ensures cause { MatchResult result (λ _. J.faults journal.new ≡ J.faults journal.old) (IsStopCause (J.faults journal.old) (J.faults journal.new)) }
         ensures makes { Makes J.tells J.moment J.left_since journal.old journal.new (summary self.old.core) (λ s. OnOk result (summary self.new.core ≡ s)) }
-        ensures right { IsRightCore self.old.core → OnOk result (IsRightCore self.new.core) }
+        ensures right { IsRightAndListed self.old.core → OnOk result (IsRightAndListed self.new.core) }
         ensures gathers { OnOk result (self.new.gathered ≡ self.old.gathered) }
         ensures replied { IfOk result (λ reply. IsDrained self.old.core self.new.core reply.items) }
     {

@@ -5,7 +5,7 @@ ghost use Rattle.flow_model.specs.declared.transactions.Numbered.{Numbered as Nu
 ghost use Rattle.flow_txn.specs.Records.{record_bytes};
 ghost use Rattle.txn_log.specs.Opening.{IsOpened};
 ghost use Rattle.txn_log.specs.Records.{gates, payloads_of, places_of};
-ghost use Rattle.core_laws.specs.RightStates.{IsRightCore};
+ghost use Rattle.worklist_laws.specs.Shelved.{IsRightAndListed};
 ghost use Rattle.flow_core.specs.Refusals.{IsInOrder};
 ghost use Rattle.flow_core.specs.Summaries.{summary, taken_up, Follows};
 ghost use Rattle.flow_session.specs.Inputs.{unended};
@@ -32,7 +32,7 @@ fn adopt(
     ensures taken { OnOk result ((n : NumberedOf) × (record_bytes n.number n.transaction ≡ payload.now)
         × Follows core.old.kept (summary core.old) n × (summary core.new ≡ taken_up core.old.kept n (summary core.old))) }
     ensures kept { OnOk result (core.new.kept ≡ core.old.kept) }
-    ensures right { IsRightCore core.old → OnOk result (IsRightCore core.new) }
+    ensures right { IsRightAndListed core.old → OnOk result (IsRightAndListed core.new) }
     ensures admitted { IsInOrder core.old → OnOk result (AdmitsOne core.old payload.now core.new) }
     ensures refused { IsInOrder core.old → IfErr result (StopsAt slot place core.old payload.now) }
     ensures silent { IfErr result (λ stop. (count : ℕ) → IsOpenCause count count stop) }
@@ -56,7 +56,7 @@ fn adopt(
 fn state_of(alloc: Global, opened: &Opened) -> Result<Core, LogStop>
     requires places { places_of opened.now.records ≡ gates 42 (payloads_of opened.now.records) }
     ensures comes { IfOk result (λ core. ComesTo opened.now (summary core)) }
-    ensures right { IfOk result (λ core. 1 ≤ (summary core).queues → IsRightCore core) }
+    ensures right { IfOk result (λ core. 1 ≤ (summary core).queues → IsRightAndListed core) }
     ensures admitted { IfOk result (LeadsTo opened.now.header (payloads_of opened.now.records)) }
     ensures refused { IfErr result (StopsIn opened.now.log.slot opened.now.header (payloads_of opened.now.records)) }
     ensures silent { IfErr result (λ stop. (count : ℕ) → IsOpenCause count count stop) }
@@ -83,7 +83,7 @@ fn state_of(alloc: Global, opened: &Opened) -> Result<Core, LogStop>
 /// faults rose.
 pub fn open<D: Disk>(alloc: Global, disk: &mut D) -> Result<(Core, Opened), LogStop>
     ensures open { IfOk result (λ r. D.tells → IsOpen D.seen D.images r.1.log disk.new (summary r.0)) }
-    ensures right { IfOk result (λ r. 1 ≤ (summary r.0).queues → IsRightCore r.0) }
+    ensures right { IfOk result (λ r. 1 ≤ (summary r.0).queues → IsRightAndListed r.0) }
     ensures opened { IfOk result (λ r. D.tells → IsOpened (D.seen disk.new) r.1) }
     ensures comes { IfOk result (λ r. ComesTo r.1 (summary r.0)) }
     ensures admitted { IfOk result (λ r. LeadsTo r.1.header (payloads_of r.1.records) r.0) }
@@ -100,7 +100,7 @@ pub fn open<D: Disk>(alloc: Global, disk: &mut D) -> Result<(Core, Opened), LogS
 /// Opens a store as [`open`] does: a session over its state, and its log.
 pub fn reopen<D: Disk>(alloc: Global, disk: &mut D) -> Result<(Session, Log), LogStop>
     ensures open { IfOk result (λ r. D.tells → IsOpen D.seen D.images r.1 disk.new (summary r.0.core)) }
-    ensures right { IfOk result (λ r. 1 ≤ (summary r.0.core).queues → IsRightCore r.0.core) }
+    ensures right { IfOk result (λ r. 1 ≤ (summary r.0.core).queues → IsRightAndListed r.0.core) }
     ensures outside { IfOk result (λ r. unended r.0 ≡ None) }
     ensures refused { IfErr result (λ stop. D.tells → IsUnopened (D.seen disk.old) stop) }
     ensures seen { OnOk result (D.seen disk.new ≡ D.seen disk.old) }

@@ -3,7 +3,8 @@ ghost use Rattle.std.specs.Prelude.{◌≡◌, ◌⊎◌, ◌<◌, ◌≤◌, �
 ghost use Rattle.std.specs.Fmt.{decimal as digits_of};
 ghost use Rattle.flow_disk.specs.Moments.{LeavesOnly};
 ghost use Rattle.flow_core.specs.declared.applying.Note.{Note as NoteOf};
-ghost use Rattle.core_laws.specs.RightStates.{IsRightCore};
+ghost use Rattle.worklist_laws.specs.Asking.{AsksOpen};
+ghost use Rattle.worklist_laws.specs.Shelved.{IsRightAndListed};
 ghost use Rattle.flow_core.specs.Allowing.{IsAllowed};
 ghost use Rattle.flow_core.specs.Replies.{applied_text, refusal_text};
 ghost use Rattle.flow_core.specs.Summaries.{summary, next};
@@ -134,7 +135,7 @@ impl Session {
     /// A session over the empty history.
     pub fn fresh(alloc: Global, queues: u8, limit: u64) -> Result<Session, AllocError>
         ensures begins { IfOk result (λ session. summary session.core ≡ record { queues = queues; limit = limit; transactions = 0; roots = 0; live = [] }) }
-        ensures right { 1 ≤ queues → IfOk result (λ session. IsRightCore session.core) }
+        ensures right { 1 ≤ queues → IfOk result (λ session. IsRightAndListed session.core) }
         ensures outside { IfOk result (λ session. unended session ≡ None) }
     {
         Ok(Session {
@@ -175,7 +176,7 @@ impl Session {
         requires open { J.tells → J.holds journal.old (summary self.old.core) }
         requires allowed { IsAllowed self.old.core t }
         ensures made { OnOk result (summary self.new.core ≡ next t (summary self.old.core)) }
-        ensures right { IsRightCore self.old.core → OnOk result (IsRightCore self.new.core) }
+        ensures right { AsksOpen self.old.core t → IsRightAndListed self.old.core → OnOk result (IsRightAndListed self.new.core) }
         ensures gathers { OnOk result (self.new.gathered ≡ self.old.gathered) }
         ensures drives { OnOk result (Drives self.old.core t self.new.core) }
         ensures told { OnOk result ((note : NoteOf) × IsNoteOf self.old.core t self.new.core note
@@ -196,7 +197,7 @@ impl Session {
         ensures kept { J.tells → OnOk result (J.holds journal.new (summary self.new.core)) }
         ensures cause { MatchResult result (λ _. J.faults journal.new ≡ J.faults journal.old) (IsStopCause (J.faults journal.old) (J.faults journal.new)) }
         ensures makes { Makes J.tells J.moment J.left_since journal.old journal.new (summary self.old.core) (λ s. OnOk result (summary self.new.core ≡ s)) }
-        ensures right { IsRightCore self.old.core → OnOk result (IsRightCore self.new.core) }
+        ensures right { IsRightAndListed self.old.core → OnOk result (IsRightAndListed self.new.core) }
         ensures gathers { OnOk result (self.new.gathered ≡ self.old.gathered) }
         ensures replied { IfOk result (λ reply. IsObeyed self.old.core self.new.core command.now reply.items) }
     {
@@ -217,7 +218,7 @@ impl Session {
         ensures kept { J.tells → OnOk result (J.holds journal.new (summary self.new.core)) }
         ensures cause { MatchResult result (λ _. J.faults journal.new ≡ J.faults journal.old) (IsStopCause (J.faults journal.old) (J.faults journal.new)) }
         ensures makes { Makes J.tells J.moment J.left_since journal.old journal.new (summary self.old.core) (λ s. OnOk result (summary self.new.core ≡ s)) }
-        ensures right { IsRightCore self.old.core → OnOk result (IsRightCore self.new.core) }
+        ensures right { IsRightAndListed self.old.core → OnOk result (IsRightAndListed self.new.core) }
         ensures gathers { OnOk result (self.new.gathered ≡ self.old.gathered) }
         ensures same { self.new.core ≡ self.old.core }
         ensures replied { IfOk result (λ reply. reply.items ≡ checkpoint_text (length self.old.core.live.items)) }
@@ -241,7 +242,7 @@ impl Session {
         ensures kept { J.tells → OnOk result (J.holds journal.new (summary self.new.core)) }
         ensures cause { MatchResult result (λ _. J.faults journal.new ≡ J.faults journal.old) (IsStopCause (J.faults journal.old) (J.faults journal.new)) }
         ensures makes { Makes J.tells J.moment J.left_since journal.old journal.new (summary self.old.core) (λ s. OnOk result (summary self.new.core ≡ s)) }
-        ensures right { IsRightCore self.old.core → OnOk result (IsRightCore self.new.core) }
+        ensures right { IsRightAndListed self.old.core → OnOk result (IsRightAndListed self.new.core) }
         ensures served { IfOk result (λ reply. IsCommanded self.old.core self.new.core command.now (unended self.new) reply.items) }
     {
         match command {
@@ -266,7 +267,7 @@ impl Session {
         ensures kept { J.tells → OnOk result (J.holds journal.new (summary self.new.core)) }
         ensures cause { MatchResult result (λ _. J.faults journal.new ≡ J.faults journal.old) (IsStopCause (J.faults journal.old) (J.faults journal.new)) }
         ensures makes { Makes J.tells J.moment J.left_since journal.old journal.new (summary self.old.core) (λ s. OnOk result (summary self.new.core ≡ s)) }
-        ensures right { IsRightCore self.old.core → OnOk result (IsRightCore self.new.core) }
+        ensures right { IsRightAndListed self.old.core → OnOk result (IsRightAndListed self.new.core) }
         ensures served { IfOk result (λ reply. ServesLine line.now self.old.core self.new.core (unended self.new) reply.items) }
     {
         if line.len() > MOST_LINE {
@@ -289,7 +290,7 @@ impl Session {
         ensures kept { J.tells → OnOk result (J.holds journal.new (summary self.new.core)) }
         ensures cause { MatchResult result (λ _. J.faults journal.new ≡ J.faults journal.old) (IsStopCause (J.faults journal.old) (J.faults journal.new)) }
         ensures makes { Makes J.tells J.moment J.left_since journal.old journal.new (summary self.old.core) (λ s. OnOk result (summary self.new.core ≡ s)) }
-        ensures right { IsRightCore self.old.core → OnOk result (IsRightCore self.new.core) }
+        ensures right { IsRightAndListed self.old.core → OnOk result (IsRightAndListed self.new.core) }
         ensures served { IfOk result (λ reply. ServesText gathered.has_long gathered.text.items self.old.core self.new.core (unended self.new) reply.items) }
     {
         let Gathered { text, has_long } = gathered;
@@ -312,7 +313,7 @@ impl Session {
         ensures kept { J.tells → OnOk result (J.holds journal.new (summary self.new.core)) }
         ensures cause { MatchResult result (λ _. J.faults journal.new ≡ J.faults journal.old) (IsStopCause (J.faults journal.old) (J.faults journal.new)) }
         ensures makes { Makes J.tells J.moment J.left_since journal.old journal.new (summary self.old.core) (λ s. OnOk result (summary self.new.core ≡ s)) }
-        ensures right { IsRightCore self.old.core → OnOk result (IsRightCore self.new.core) }
+        ensures right { IsRightAndListed self.old.core → OnOk result (IsRightAndListed self.new.core) }
         ensures served { IfOk result (λ reply. ServesInside (unended_in gathered) (given input.entry) self.old.core self.new.core (unended self.new) reply.items) }
     {
         let mut gathered = gathered;
@@ -342,7 +343,7 @@ impl Session {
         ensures kept { J.tells → OnOk result (J.holds journal.new (summary self.new.core)) }
         ensures cause { MatchResult result (λ _. J.faults journal.new ≡ J.faults journal.old) (IsStopCause (J.faults journal.old) (J.faults journal.new)) }
         ensures makes { Makes J.tells J.moment J.left_since journal.old journal.new (summary self.old.core) (λ s. OnOk result (summary self.new.core ≡ s)) }
-        ensures right { IsRightCore self.old.core → OnOk result (IsRightCore self.new.core) }
+        ensures right { IsRightAndListed self.old.core → OnOk result (IsRightAndListed self.new.core) }
         ensures served { IfOk result (λ reply. IsServed self.old self.new (given input.entry) reply.items) }
     {
         if let Some(gathered) = self.gathered.take() {

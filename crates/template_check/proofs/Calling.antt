@@ -14,7 +14,7 @@ use Rattle.flow_model.specs.declared.graphs.Leaves.{Leaves}
 use Rattle.flow_model.specs.declared.graphs.LoopLine.{LoopLine}
 use Rattle.flow_model.specs.declared.graphs.Template.{Template}
 use Rattle.flow_model.specs.declared.graphs.Wiring.{Wiring}
-use Rattle.template_check.specs.Built.{AreSoundBehind, IsSoundAlone}
+use Rattle.template_check.specs.Built.{AreSoundBehind, IsSoundAlone, ComeBeforeAlone}
 use Rattle.process_rules.specs.Calling.{CallsTo, IsCalling, IsCallingWork, AreOrdered}
 
 module _ (limit : ℕ) where
@@ -95,23 +95,28 @@ ordered_append before (x ∷ xs) ys first second =
 
 -- no templates are sound
 pub sound_none : (before : ℕ) → AreSoundBehind before []
-sound_none before = record { alone = λ k d less. absurd (omega (arith, less)); ordered = λ k t is. cc }
+sound_none before = record { alone = λ k d less. absurd (omega (arith, less)); ordered = λ k t is. cc; performed = λ k d less. absurd (omega (arith, less)) }
 
 -- templates are sound behind those before which they stand
 pub sound_append : (before : ℕ) (xs ys : List Template) → AreSoundBehind before xs → AreSoundBehind (before + length xs) ys → AreSoundBehind before (xs ++ ys)
 sound_append before xs ys first second = record {
   alone = All-append (λ (t : Template). IsSoundAlone t.graph) xs ys first.alone second.alone;
   ordered = ordered_append before xs ys first.ordered second.ordered;
+  performed = All-append (λ (t : Template). ComeBeforeAlone t.graph) xs ys first.performed second.performed;
 }
 
--- and so is one more
-pub sound_push : (before : ℕ) (ts : List Template) (t : Template) → AreSoundBehind before ts → IsSoundAlone t.graph → IsCalling (before + length ts) t.graph → AreSoundBehind before (ts ++ t ∷ [])
-sound_push before ts t first alone calls = sound_append before ts (t ∷ []) first (record { alone = one; ordered = here })
+-- one more by itself
+pub alone_push : (ts : List Template) (t : Template) → All (λ u. IsSoundAlone u.graph) ts → IsSoundAlone t.graph → All (λ u. IsSoundAlone u.graph) (ts ++ t ∷ [])
+alone_push ts t first alone = All-append (λ (u : Template). IsSoundAlone u.graph) ts (t ∷ []) first one
   where
     one : All (λ (u : Template). IsSoundAlone u.graph) (t ∷ [])
     one zero d less = alone
     one (suc k) d less = absurd (omega (arith, less))
 
+-- one more behind the processes that it runs
+pub ordered_push : (before : ℕ) (ts : List Template) (t : Template) → AreOrdered before ts → IsCalling (before + length ts) t.graph → AreOrdered before (ts ++ t ∷ [])
+ordered_push before ts t first calls = ordered_append before ts (t ∷ []) first here
+  where
     here : AreOrdered (before + length ts) (t ∷ [])
     here zero u is = let same : t ≡ u = cc in subst (λ (v : Template). IsCalling (before + length ts + 0) v.graph) same (moved (before + length ts) (before + length ts + 0) t.graph (omega arith) calls)
     here (suc k) u is = cc

@@ -2,7 +2,7 @@
 use Rattle.std.proofs.Common.{◌≡◌, ℕ, List, [], ◌∷◌, ◌++◌, Option, Some, None, Result, Ok, Err, refl, inl, inr, ⊎_elim}
 use Rattle.std.specs.Prelude.{IfOk}
 use Rattle.text_graphs.specs.Places.{IsLeastOf}
-use Rattle.template_check.specs.Rules.{Rule, fault_in, IsFoundAt, IsFirstBroken}
+use Rattle.template_check.specs.Rules.{Rule, fault_in, IsFirstBroken}
 
 -- the first of some rules is broken
 pub found_here : (rule : Rule) (rules : List Rule) (p : ℕ) → IsLeastOf rule.1 (Some p) → IsFirstBroken (rule ∷ rules) (Some (rule.0, p))

@@ -11,3 +11,5 @@ pub mod ProcessNames
 pub mod Together
 pub mod Meaning
 pub mod Resolutions
+pub mod Walking
+pub mod Performers

@@ -14,7 +14,7 @@ use Rattle.flow_model.specs.declared.graphs.Template.{Template}
 use Rattle.flow_model.specs.declared.graphs.Work.{Work, Program, Block', Process}
 use Rattle.flow_model.specs.declared.trees.ProcessTree.{ProcessTree}
 use Rattle.text_graphs.specs.Blocks.{lists_of, IsCovered}
-use Rattle.template_check.specs.Built.{IsSoundGraph, SoundTo, IsSoundAlone, AreSound, IsSound}
+use Rattle.template_check.specs.Built.{IsSoundGraph, SoundTo, IsSoundAlone, AreSound, IsSound, ComeBeforeTo, ComeBeforeAlone}
 use Rattle.text_graphs.specs.Texts.{lines_in, AreNamesApart, IsConnected, IsJudged, IsLimited, IsLineAlong}
 use Rattle.text_graphs.specs.declared.scopes.Scope.{Scope}
 use Rattle.text_graphs.proofs.Differing.{one_place}
@@ -26,6 +26,11 @@ template_sound : (ts : List Template) (t : ℕ) (h : Graph) → All (λ u. IsSou
 template_sound [] t h all is = cc
 template_sound (x ∷ xs) zero h all is = let same : x.graph ≡ h = cc in subst IsSoundAlone same (all 0 x (omega arith))
 template_sound (x ∷ xs) (suc t) h all is = template_sound xs t h (λ k d less. all (suc k) d (omega arith)) is
+
+template_performed : (ts : List Template) (t : ℕ) (h : Graph) → All (λ u. ComeBeforeAlone u.graph) ts → graph_of ts t ≡ Some h → ComeBeforeAlone h
+template_performed [] t h all is = cc
+template_performed (x ∷ xs) zero h all is = let same : x.graph ≡ h = cc in subst ComeBeforeAlone same (all 0 x (omega arith))
+template_performed (x ∷ xs) (suc t) h all is = template_performed xs t h (λ k d less. all (suc k) d (omega arith)) is
 
 module _ (ts : List Template) where
   widened : (P Q : Graph → Type 0) (o : Option Activity) → ((h : Graph) → P h → Q h) → OfInside ts P o → OfInside ts Q o
@@ -103,6 +108,22 @@ module _ (ts : List Template) (all : AreSound ts) where
 
   pub aimed_together : (depth : ℕ) → All (λ t. Aimed ts depth t.graph) ts
   aimed_together depth = λ k d less. let g = (get_or ts k d).graph in sound_aimed ts depth g (sound_with depth g (all.alone k d less))
+
+  -- what an activity runs has its performers before
+  run_performed : (w : Work) (h : Graph) → (graph_in [] w ≡ Some h → ComeBeforeAlone h) → graph_in ts w ≡ Some h → ComeBeforeAlone h
+  run_performed (Program p) h alone is = cc
+  run_performed (Block' p g) h alone is = alone is
+  run_performed (Process k) h alone is = template_performed ts k h all.performed is
+
+  runs_performed : (g : Graph) → ComeBeforeAlone g → (a : ℕ) (activity : Activity) (h : Graph) → slice_get (out-Graph g).activities a ≡ Some activity → graph_in ts activity.work ≡ Some h → ComeBeforeAlone h
+  runs_performed g alone a activity h at runs = run_performed activity.work h (λ is depth. (alone (suc depth)).inside a activity h at is) runs
+
+  performed_with : (depth : ℕ) (g : Graph) → ComeBeforeAlone g → ComeBeforeTo ts depth g
+  performed_with zero g alone = record { here = (alone 0).here; inside = λ a activity h at runs. tt }
+  performed_with (suc depth) g alone = record { here = (alone 0).here; inside = λ a activity h at runs. performed_with depth h (runs_performed g alone a activity h at runs) }
+
+  pub performed_together : (depth : ℕ) → All (λ t. ComeBeforeTo ts depth t.graph) ts
+  performed_together depth = λ k d less. performed_with depth (get_or ts k d).graph (all.performed k d less)
 
 -- where the rules find nothing in the graphs of a text, its processes are sound
 pub sound_text : (scopes : List Scope) (processes : List ProcessTree) → All (λ s. AreNamesApart s.elements.now) scopes → All (λ s. IsConnected s.elements.now) scopes

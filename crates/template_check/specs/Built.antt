@@ -3,15 +3,18 @@ use Rattle.std.specs.Prelude.{◌≡◌, ℕ, zero, suc, ◌<◌, ◌≤◌, Opt
 use Rattle.std.specs.List.{All}
 use Rattle.std.specs.Option.{option_map}
 use Rattle.fate_laws.specs.Layout.{IsLaid, Laid, OfInside}
-use Rattle.fate_laws.specs.Walks.{IsWired}
+use Rattle.fate_laws.specs.Walks.{IsWired, Walk}
 use Rattle.fate_laws.specs.WellFormed.{AreSimple, Well}
 use Rattle.flow_model.specs.ScopeContainers.{graph_in}
+use Rattle.flow_model.specs.declared.graphs.Activity.{Activity}
 use Rattle.flow_model.specs.declared.graphs.DataLine.{DataLine}
+use Rattle.flow_model.specs.declared.graphs.DoneBy.TheVariants as by
 use Rattle.flow_model.specs.declared.graphs.Graph.{Graph, out-Graph}
 use Rattle.flow_model.specs.declared.graphs.MapEnd.{MapEnd}
 use Rattle.flow_model.specs.declared.graphs.MapEnd.TheVariants.{Border, Activity as At}
+use Rattle.flow_model.specs.declared.graphs.Program.{Program as ProgramOf}
 use Rattle.flow_model.specs.declared.graphs.Template.{Template}
-use Rattle.flow_model.specs.declared.graphs.Work.{Work}
+use Rattle.flow_model.specs.declared.graphs.Work.{Work, Program}
 use Rattle.flow_model.specs.declared.trees.ActivityTree.{ActivityTree}
 use Rattle.flow_model.specs.declared.trees.ElementTree.{ElementTree}
 use Rattle.flow_model.specs.declared.trees.EndTree.{EndTree}
@@ -64,10 +67,35 @@ IsSoundAlone g = (depth : ℕ) → SoundTo [] depth g
 abbrev pub IsSoundWork : Work → Type 0
 IsSoundWork work = (g : Graph) → graph_in [] work ≡ Some g → IsSoundAlone g
 
+-- ---- performers
+
+-- where the program of an activity is done by the performer of another one, a walk of connectors leads from that one to it
+abbrev pub PerformersComeBefore : Graph → Type 0
+PerformersComeBefore g =
+    (a b : ℕ) (activity : Activity) (p : ProgramOf) → slice_get (out-Graph g).activities a ≡ Some activity → activity.work ≡ Program p → p.by ≡ by.PerformerOf b
+    → (n : ℕ) × Walk (out-Graph g).controls (suc n) b a
+
+-- so it is in a graph, and what its activities run has this property
+pub record ComeBeforeWith (ts : List Template) (g : Graph) (P : Graph → Type 0) : Type 0 where
+  pub here : PerformersComeBefore g
+  pub inside : (a : ℕ) (activity : Activity) (h : Graph) → slice_get (out-Graph g).activities a ≡ Some activity → graph_in ts activity.work ≡ Some h → P h
+
+-- so it is in a graph, and in those inside it, to this depth
+abbrev pub ComeBeforeTo : List Template → ℕ → Graph → Type 0
+ComeBeforeTo ts zero g = ComeBeforeWith ts g (λ h. Unit {0})
+ComeBeforeTo ts (suc depth) g = ComeBeforeWith ts g (ComeBeforeTo ts depth)
+
+-- in a graph and the blocks inside it
+abbrev pub ComeBeforeAlone : Graph → Type 0
+ComeBeforeAlone g = (depth : ℕ) → ComeBeforeTo [] depth g
+
+-- ---- libraries
+
 -- templates are sound behind so many others: each but for the processes that it runs, and those stand before it
 pub record AreSoundBehind (before : ℕ) (ts : List Template) : Type 0 where
   pub alone : All (λ t. IsSoundAlone t.graph) ts
   pub ordered : AreOrdered before ts
+  pub performed : All (λ t. ComeBeforeAlone t.graph) ts
 
 -- the templates of a library are sound
 abbrev pub AreSound : List Template → Type 0
@@ -98,3 +126,7 @@ WellTogether = (ts : List Template) → AreSound ts → (depth : ℕ) → All (�
 -- its connectors lead to its activities
 abbrev pub AimedTogether : Type 0
 AimedTogether = (ts : List Template) → AreSound ts → (depth : ℕ) → All (λ t. Aimed ts depth t.graph) ts
+
+-- performers come before
+abbrev pub PerformedTogether : Type 0
+PerformedTogether = (ts : List Template) → AreSound ts → (depth : ℕ) → All (λ t. ComeBeforeTo ts depth t.graph) ts

@@ -1,11 +1,12 @@
 //! A text judged by the rules in their order, and what an accepted one compiles to.
-ghost use Rattle.std.specs.Prelude.{◌≡◌, ◌<◌, ◌≤◌, ◌-◌, ◌^◌, map, None, length, take, IfOk, IfErr, OnOk};
+ghost use Rattle.std.specs.Prelude.{◌≡◌, ℕ, ◌<◌, ◌≤◌, ◌-◌, ◌^◌, map, None, length, take, IfOk, IfErr, OnOk};
 ghost use Rattle.std.specs.List.{All};
 ghost use Rattle.leaf_rules.specs.Counts.{AreCounted};
 ghost use Rattle.leaf_rules.specs.Leaves.{table_leaves};
 ghost use Rattle.leaf_rules.specs.StructureLeaves.{leaves_in};
 ghost use Rattle.leaf_rules.specs.Structures.{behind};
 ghost use Rattle.leaf_rules.specs.Tables.{HasContainers};
+ghost use Rattle.process_rules.specs.Doers.{NamesNoPerformer};
 ghost use Rattle.process_rules.specs.Imports.{IsIndexed};
 ghost use Rattle.process_rules.specs.Knowing.{IsKnowing};
 ghost use Rattle.process_rules.specs.Shapes.{shapes_of, told_shape};
@@ -14,7 +15,7 @@ ghost use Rattle.template_check.specs.Compiling.{AreBuilt, AreLeavesOf, HasTree,
 ghost use Rattle.template_check.specs.Judged.{line_at, IsFault, IsEarlyFault, IsJudged};
 ghost use Rattle.template_check.specs.Rules.{fault_in, from_callees, from_connectors, from_leaves, from_sizes, later_rules, IsFirstBroken};
 ghost use Rattle.text_graphs.specs.Blocks.{lists_of, IsCovered};
-ghost use Rattle.text_graphs.specs.Graphs.{graph_at, graphs_in, AreGraphsOf};
+ghost use Rattle.text_graphs.specs.Graphs.{graph_at, graphs_in, AreGraphsOf, InGraphs};
 ghost use Rattle.text_graphs.specs.Texts.{processes_in, structures_in, AreNamesApart, IsConnected};
 
 use crate::building::{BuildFault, Builder};
@@ -96,6 +97,7 @@ fn built<'a>(
     shapes: &[Shape],
 ) -> Result<Compiled, BuildFault>
     requires sound { All (λ p. IsSound p.elements) (processes_in tree.now.items) }
+    requires performers { (p : ℕ) → InGraphs tree.now.items NamesNoPerformer p → ⊥ }
     requires leaves { AreLeavesOf tree.now.items (table_leaves builder.now.table) }
     requires knowing { IsKnowing builder.now.known (processes_in tree.now.items) }
     ensures { IfOk result (λ compiled. AreBuilt builder.now.known.catalog.now tree.now.items compiled.templates) }
@@ -138,6 +140,7 @@ fn sized_and_built<'a>(
 ) -> Result<Judged, AllocError>
     requires graphs { AreGraphsOf tree.now.items (graphs_in scopes.now) }
     requires sound { AreSoundWithin scopes.now (processes_in tree.now.items) }
+    requires performers { (p : ℕ) → InGraphs tree.now.items NamesNoPerformer p → ⊥ }
     requires structures { behind builder.now.table.structures.definitions.items ≡ structures_in tree.now.items }
     requires leaves { AreLeavesOf tree.now.items (table_leaves builder.now.table) }
     requires knowing { IsKnowing builder.now.known (processes_in tree.now.items) }

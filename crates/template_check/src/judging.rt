@@ -1,16 +1,17 @@
 //! The rules in their order, group by group: of each group the first that is broken, at its least place.
-ghost use Rattle.std.specs.Prelude.{◌≡◌, map, None, IfOk};
+ghost use Rattle.std.specs.Prelude.{◌≡◌, ℕ, map, None, IfOk};
 ghost use Rattle.std.specs.List.{All};
 ghost use Rattle.leaf_rules.specs.Counts.{AreCounted};
 ghost use Rattle.leaf_rules.specs.Leaves.{table_leaves};
 ghost use Rattle.leaf_rules.specs.StructureLeaves.{leaves_in};
 ghost use Rattle.leaf_rules.specs.Structures.{behind};
 ghost use Rattle.leaf_rules.specs.Tables.{HasContainers};
+ghost use Rattle.process_rules.specs.Doers.{NamesNoPerformer};
 ghost use Rattle.process_rules.specs.Imports.{IsIndexed};
 ghost use Rattle.process_rules.specs.Knowing.{ArePeople, IsKnowing};
 ghost use Rattle.process_rules.specs.Shapes.{shapes_of, told_shape};
 ghost use Rattle.template_check.specs.Rules.{rules_on_names, rules_on_structures, rules_on_connectors, rules_on_leaves, rules_on_lines, rules_on_callees, rules_on_people, rules_on_sizes, rules_on_counts, IsFirstBroken};
-ghost use Rattle.text_graphs.specs.Graphs.{graph_at, graphs_in, AreGraphsOf};
+ghost use Rattle.text_graphs.specs.Graphs.{graph_at, graphs_in, AreGraphsOf, InGraphs};
 ghost use Rattle.text_graphs.specs.Texts.{lines_in, people_in, processes_in, structures_in, AreNamesApart, IsConnected, IsLimited, IsLineAlong};
 
 use connector_rules::{
@@ -162,7 +163,8 @@ pub fn first_of_people<'a>(
 ) -> Result<Broken, AllocError>
     requires graphs { AreGraphsOf tree.now.items (graphs_in scopes.now) }
     requires people { ArePeople known.now (people_in tree.now.items) }
-    ensures { IsIndexed known.now.catalog.now → IfOk result (IsFirstBroken (rules_on_people known.now.catalog.now.library tree.now.items)) }
+    ensures performers { IfOk result (λ fault. fault ≡ None → (p : ℕ) → InGraphs tree.now.items NamesNoPerformer p → ⊥) }
+    ensures first { IsIndexed known.now.catalog.now → IfOk result (IsFirstBroken (rules_on_people known.now.catalog.now.library tree.now.items)) }
 {
     if let Some(place) = unknown_people(known, scopes) {
         return Ok(Some((19, place)));

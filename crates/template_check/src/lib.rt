@@ -14,5 +14,5 @@ mod wires;
 
 pub use compiling::{Compiled, compile, line_of, syntax_tree};
 pub use faults::{ImportFault, RuleFault};
-pub use layout::{aimed_together, laid_together, well_together};
+pub use layout::{aimed_together, laid_together, performed_together, well_together};
 pub use process_rules::Catalog;

@@ -49,9 +49,8 @@ use Rattle.view_laws.specs.Runs.{Event, Turned, Completed as CompletedBy, seen, 
 use Rattle.worklist_laws.proofs.Moving.{message_shelves, completion_shelves, hold_shelves}
 use Rattle.worklist_laws.proofs.OpenLines.{IsNamed, open_same}
 use Rattle.worklist_laws.proofs.Ranks.{entry_leads}
-use Rattle.worklist_laws.proofs.Settled.{right_settles}
+use Rattle.worklist_laws.proofs.Settled.{ComeBefore, right_settles}
 use Rattle.worklist_laws.proofs.Shelves.{hold_same}
-use Rattle.worklist_laws.specs.Asking.{ComeBefore}
 use Rattle.worklist_laws.specs.Shelved.{is_open_entry, open_line, HoldExactly, IsShelved}
 
 -- ---- what became of a live root

@@ -1,4 +1,4 @@
--- What a transaction asks of items and roots, and what a library asks of performers.
+-- What a transaction asks of items and roots.
 use Rattle.std.specs.Prelude.{◌≡◌, ◌⊎◌, ℕ, zero, suc, Some, List, slice_get}
 use Rattle.fate_laws.specs.Walks.{Walk}
 use Rattle.flow_core.specs.Allowing.{mode_in, IsOpen}
@@ -16,8 +16,6 @@ use Rattle.flow_model.specs.declared.transactions.Transaction.{Transaction}
 use Rattle.flow_model.specs.declared.transactions.Transaction.TheVariants.{Claim, Release, Transfer, Take, Restart, Delete}
 use Rattle.navigator.specs.declared.instance.Instance.{Instance}
 
--- ---- transactions
-
 -- a root, where it is live, is done or terminated
 abbrev pub IsOver : Core → ℕ → Type 0
 IsOver c root = (i : Instance) → instance_of c root ≡ Some i → (mode_in i ≡ mode.Done) ⊎ (mode_in i ≡ mode.Terminated)
@@ -31,25 +29,3 @@ AsksOpen c (Take item take) = IsOpen c item
 AsksOpen c (Restart item) = IsOpen c item
 AsksOpen c (Delete root) = IsOver c root
 AsksOpen c t = Unit {0}
-
--- ---- performers
-
--- where the program of an activity is done by the performer of another one, a walk of connectors leads from that one to it
-abbrev pub PerformersComeBefore : Graph → Type 0
-PerformersComeBefore g =
-    (a b : ℕ) (activity : Activity) (p : Program) → slice_get (out-Graph g).activities a ≡ Some activity → program_in activity.work ≡ Some p → p.by ≡ by.PerformerOf b
-    → (n : ℕ) × Walk (out-Graph g).controls (suc n) b a
-
--- so it is in a graph, and in those inside it
-pub record ComeBeforeWith (ts : List Template) (g : Graph) (inner : Graph → Type 0) : Type 0 where
-  pub here : PerformersComeBefore g
-  pub inside : (a : ℕ) (activity : Activity) (h : Graph) → slice_get (out-Graph g).activities a ≡ Some activity → graph_in ts activity.work ≡ Some h → inner h
-
--- to this depth
-abbrev pub ComeBeforeIn : List Template → ℕ → Graph → Type 0
-ComeBeforeIn ts zero g = ComeBeforeWith ts g (λ h. Unit {0})
-ComeBeforeIn ts (suc depth) g = ComeBeforeWith ts g (ComeBeforeIn ts depth)
-
--- so it is in each graph of a library, at every depth
-abbrev pub ComeBefore : List Template → Type 0
-ComeBefore ts = (t : ℕ) (g : Graph) → graph_of ts t ≡ Some g → (depth : ℕ) → ComeBeforeIn ts depth g

@@ -3,7 +3,6 @@ use Rattle.std.specs.Prelude.{◌≡◌, ℕ, suc, ◌<◌, ◌≤◌, Some, Lis
 use Rattle.core_laws.specs.RightStates.{IsRightState, Makes}
 use Rattle.flow_core.specs.Admitting.{IsAdmitted}
 use Rattle.flow_core.specs.Allowing.{IsBlank}
-use Rattle.flow_core.specs.Driving.{templates}
 use Rattle.flow_core.specs.Judgements.{IsVerdict}
 use Rattle.flow_core.specs.Refusals.{IsInOrder}
 use Rattle.flow_core.specs.Shelving.{rank_on, Shelves}
@@ -20,7 +19,7 @@ use Rattle.navigator.specs.Items.{Entry, stand, entry_at}
 use Rattle.navigator.specs.declared.scopes.ScopeState.{ScopeState}
 use Rattle.staff_worklists.specs.Listing.{IsWorklist}
 use Rattle.view_laws.specs.Runs.{Event}
-use Rattle.worklist_laws.specs.Asking.{AsksOpen, ComeBefore}
+use Rattle.worklist_laws.specs.Asking.{AsksOpen}
 use Rattle.worklist_laws.specs.Exact.{IsExact}
 use Rattle.worklist_laws.specs.Shelved.{IsShelved}
 
@@ -37,7 +36,7 @@ BlankIsShelved = (c : Core) → IsBlank c → IsShelved c
 -- so they go on doing with each transaction that may be, where it does to the shelves what is said of it
 abbrev pub StaysShelved : Type 0
 StaysShelved =
-    (c c' : Core) (t : Transaction) (runs : ℕ → List Event) → IsRightState c runs → IsShelved c → Makes c t c' → Shelves c t c' → AsksOpen c t → ComeBefore (templates c')
+    (c c' : Core) (t : Transaction) (runs : ℕ → List Event) → IsRightState c runs → IsShelved c → Makes c t c' → Shelves c t c' → AsksOpen c t
     → IsShelved c'
 
 -- a command that comes to a transaction has asked that its item is open
@@ -48,12 +47,11 @@ VerdictsAskOpen = (c : Core) (command : Command) (t : Transaction) → IsVerdict
 abbrev pub AdmittedAskOpen : Type 0
 AdmittedAskOpen = (c : Core) (number : ℕ) (t : Transaction) → IsAdmitted c number t → AsksOpen c t
 
--- a transaction of a history: it may be, does so to the shelves, and asked what it has to; performers come before
+-- a transaction of a history: it may be, does so to the shelves, and asked what it has to
 pub record Lists (c : Core) (t : Transaction) (c' : Core) : Type 0 where
   pub makes : Makes c t c'
   pub shelves : Shelves c t c'
   pub asks : AsksOpen c t
-  pub before : ComeBefore (templates c')
 
 -- the worklists hold exactly the open manual items along a history, after each of its transactions
 abbrev pub HistoriesStayShelved : Type 0

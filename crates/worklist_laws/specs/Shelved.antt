@@ -2,6 +2,7 @@
 use Rattle.std.specs.Prelude.{◌≡◌, ℕ, Bool, false, not, ◌&&◌, if◌then◌else◌, Option, Some, None, List}
 use Rattle.std.specs.Option.{option_map_or}
 use Rattle.activity_states.specs.States.{fate_of}
+use Rattle.core_laws.specs.RightStates.{IsRightCore}
 use Rattle.flow_core.specs.Answers.{instance_of}
 use Rattle.flow_core.specs.Driving.{item_of}
 use Rattle.flow_core.specs.Shelving.{line_now, rank_now, Standing, stands}
@@ -58,3 +59,7 @@ pub record HoldExactly (lines : Path → Option ItemLine) (ranks : Path → Opti
 -- the worklists of a state hold exactly the open manual items of its roots
 abbrev pub IsShelved : Core → Type 0
 IsShelved c = HoldExactly (open_line c) (rank_now c) (stands c)
+
+-- a state is right, and its worklists hold exactly the open manual items of its roots
+abbrev pub IsRightAndListed : Core → Type 0
+IsRightAndListed c = IsRightCore c × IsShelved c

@@ -1,12 +1,13 @@
 use Rattle.std.proofs.Common.{ap}
-use Rattle.core_laws.proofs.Making.{core_right}
 use Rattle.flow_core.specs.Summaries.{Summary}
+use Rattle.worklist_laws.proofs.OpenAsked.{admitted_asks}
+use Rattle.worklist_laws.proofs.Transactions.{listed_stays}
 use Rattle.flow_session.proofs.opening.adopt.Goals as goal
 
 pub returns-in-Ok-adopt-clause-right : goal.returns-in-Ok-adopt-clause-right
-returns-in-Ok-adopt-clause-right c = core_right c.args.core.now c.adopt.new.self c.in-Ok.numbered.transaction (record {
+returns-in-Ok-adopt-clause-right c = λ was. listed_stays c.args.core.now c.adopt.new.self c.in-Ok.numbered.transaction (record {
   allowed = c.in-Ok-adopt.ensures.allowed;
   drives = c.in-Ok-adopt.ensures.drives;
   counts = c.in-Ok-adopt.ensures.counts;
   lives = (c.in-Ok.numbered.number, ap (λ (s : Summary). s.live) c.in-Ok-adopt.ensures.taken);
-})
+}) c.in-Ok-adopt.ensures.shelves (admitted_asks c.args.core.now c.in-Ok.numbered.number c.in-Ok.numbered.transaction (c.in-Ok-adopt.ensures.admitted was.0.1.indexed)) was

@@ -1,6 +1,6 @@
 use Rattle.std.proofs.Common.{◌≡◌, ◌≤◌, take}
 use Rattle.txn_log.specs.Records.{payloads_of}
-use Rattle.core_laws.specs.RightStates.{IsRightCore}
+use Rattle.worklist_laws.specs.Shelved.{IsRightAndListed}
 use Rattle.flow_core.specs.Refusals.{IsInOrder}
 use Rattle.flow_core.specs.Summaries.{summary}
 use Rattle.flow_session.specs.Keeping.{Brings}
@@ -14,5 +14,5 @@ invariant-loop-record l = record {
   queues : (summary l.core).queues ≡ l.opened.header.queues;
   order : IsInOrder l.core;
   leads : LeadsTo l.opened.header (payloads_of (take l.record-index l.opened.records)) l.core;
-  right : 1 ≤ l.opened.header.queues → IsRightCore l.core;
+  right : 1 ≤ l.opened.header.queues → IsRightAndListed l.core;
 }

@@ -1,11 +1,15 @@
-use Rattle.std.proofs.Common.{◌≡◌, ℕ, ◌+◌, List, take, length, Some, None, sym, ap, subst, ◌∙◌}
+use Rattle.std.proofs.Common.{◌≡◌, ℕ, ◌+◌, List, take, length, Some, None, sym, ap, subst, ◌∙◌, rules}
+use Rattle.std.proofs.lemmas.List.{take_all}
+use Rattle.flow_model.specs.declared.trees.ItemTree.{ItemTree}
 use Rattle.flow_model.specs.declared.trees.ProcessTree.{ProcessTree}
 use Rattle.template_check.specs.Built.{IsSound}
+use Rattle.template_check.specs.Compiling.{process_names, template_names}
 use Rattle.process_rules.specs.Calling.{IsCalling}
 use Rattle.template_check.specs.Meant.{AreMeantFrom, reading_of}
 use Rattle.text_graphs.specs.Texts.{process_of, processes_in}
 use Rattle.template_check.proofs.Meaning.{kind_next, kind_past, meant_next}
-use Rattle.template_check.proofs.Calling.{sound_push}
+use Rattle.template_check.proofs.Performers.{all_performed}
+use Rattle.template_check.proofs.Calling.{alone_push, ordered_push}
 use Rattle.template_check.proofs.ProcessNames.{named_next, named_past}
 use Rattle.text_graphs.proofs.Judging.{all_kept}
 use Rattle.template_check.proofs.compiling.built.Goals as goal
@@ -29,8 +33,8 @@ loop-item-preserved c =
     let r = reading_of c.args.builder.now in
     let not_meant = λ (none : process_of x ≡ None). subst (λ (ps : List ProcessTree). AreMeantFrom r 0 ps c.loop-item.templates) (sym (kind_past process_of items i x less is none)) so_far.meant in
     elim c.match-item.branch [
-      | in-Structure w ↦ rw w.templates-is (record { sound = so_far.sound; named = past (ap process_of w.in-Structure.is); meant = not_meant (ap process_of w.in-Structure.is) })
-      | in-Person+in_ok-person-in-Person+in_ok-push-in-Person w ↦ rw w.templates-is (record { sound = so_far.sound; named = past (ap process_of w.in-Person.is); meant = not_meant (ap process_of w.in-Person.is) })
+      | in-Structure w ↦ rw w.templates-is (record { alone = so_far.alone; ordered = so_far.ordered; named = past (ap process_of w.in-Structure.is); meant = not_meant (ap process_of w.in-Structure.is) })
+      | in-Person+in_ok-person-in-Person+in_ok-push-in-Person w ↦ rw w.templates-is (record { alone = so_far.alone; ordered = so_far.ordered; named = past (ap process_of w.in-Person.is); meant = not_meant (ap process_of w.in-Person.is) })
       | in-Process+in_ok-narrow-in-Process+in_ok-template-in-Process+in_ok-push-in-Process w ↦
           let before = length c.args.builder.now.known.catalog.now.library.templates in
           let built = w.in_ok-template-in-Process in
@@ -38,9 +42,25 @@ loop-item-preserved c =
           let number : w.in_ok-narrow-in-Process.field-0 ≡ length c.loop-item.templates = w.in_ok-narrow-in-Process.ensures ∙ w.len-number.ensures in
           let some : process_of x ≡ Some w.in-Process.process = ap process_of w.in-Process.is in
           rw w.templates-is (record {
-            sound = rw w.in_ok-push-in-Process.ensures.ok (sound_push before c.loop-item.templates built.template so_far.sound built.ensures.sound calls);
+            alone = rw w.in_ok-push-in-Process.ensures.ok (alone_push c.loop-item.templates built.template so_far.alone built.ensures.sound);
+            ordered = rw w.in_ok-push-in-Process.ensures.ok (ordered_push before c.loop-item.templates built.template so_far.ordered calls);
             named = named_next items i x less is c.loop-item.templates w.push-in-Process.new.self built.template w.in-Process.process some w.in_ok-push-in-Process.ensures.ok built.ensures.named so_far.named;
             meant = subst (λ (ps : List ProcessTree). AreMeantFrom r 0 ps w.push-in-Process.new.self) (sym (kind_next process_of items i x w.in-Process.process less is some))
                 (meant_next r (processes_in (take i items)) c.loop-item.templates w.push-in-Process.new.self w.in-Process.process built.template w.in_ok-narrow-in-Process.field-0 number w.in_ok-push-in-Process.ensures.ok so_far.meant built.ensures.meant);
           })
     ]
+
+pub returns : goal.returns
+returns c =
+    let items = c.args.tree.now.items in
+    let all = take_all c.loop-item.item-index items (rw c.as_slice-item-items.ensures at c.loop-item-test.false) in
+    let so_far = c.loop-item.invariant in
+    let r = reading_of c.args.builder.now in
+    let meant = subst (λ (xs : List ItemTree). AreMeantFrom r 0 (processes_in xs) c.loop-item.templates) all so_far.meant in
+    record {
+      sound = record { alone = so_far.alone; ordered = so_far.ordered; performed = all_performed items r c.loop-item.templates c.requires.performers meant };
+      named = subst (λ (xs : List ItemTree). template_names c.loop-item.templates ≡ process_names xs) all so_far.named;
+      reading = r;
+      read = search rules;
+      meant = meant;
+    }

@@ -1,5 +1,7 @@
 use Rattle.std.proofs.Common.{◌≡◌, length, take}
-use Rattle.template_check.specs.Built.{AreSoundBehind}
+use Rattle.std.specs.List.{All}
+use Rattle.process_rules.specs.Calling.{AreOrdered}
+use Rattle.template_check.specs.Built.{IsSoundAlone}
 use Rattle.template_check.specs.Compiling.{process_names, template_names}
 use Rattle.template_check.specs.Meant.{AreMeantFrom, reading_of}
 use Rattle.text_graphs.specs.Texts.{processes_in}
@@ -7,7 +9,8 @@ use Rattle.template_check.proofs.compiling.built.Given as goal
 
 abbrev pub invariant-loop-item : goal.invariant-loop-item
 invariant-loop-item l = record {
-  sound : AreSoundBehind (length l.builder.known.catalog.now.library.templates) l.templates;
+  alone : All (λ t. IsSoundAlone t.graph) l.templates;
+  ordered : AreOrdered (length l.builder.known.catalog.now.library.templates) l.templates;
   named : template_names l.templates ≡ process_names (take l.item-index l.tree.items);
   meant : AreMeantFrom (reading_of l.builder) 0 (processes_in (take l.item-index l.tree.items)) l.templates;
 }

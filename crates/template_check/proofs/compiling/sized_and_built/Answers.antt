@@ -1,4 +1,3 @@
-use Rattle.std.proofs.Common.{Some, None}
 use Rattle.template_check.proofs.compiling.sized_and_built.Goals as goal
 
 pub first_of_counts-requires-clause-structures : goal.first_of_counts-requires-clause-structures

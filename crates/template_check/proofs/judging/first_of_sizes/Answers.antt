@@ -1,4 +1,4 @@
-use Rattle.std.proofs.Common.{Some, None, refl, inl, inr}
+use Rattle.std.proofs.Common.{refl, inl, inr}
 use Rattle.template_check.proofs.Passing.{none_found}
 use Rattle.text_graphs.specs.Texts.{processes_in}
 use Rattle.template_check.proofs.judging.first_of_sizes.Goals as goal

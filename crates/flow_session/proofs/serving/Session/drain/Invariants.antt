@@ -1,5 +1,5 @@
 use Rattle.std.proofs.Common.{◌≡◌, ◌≤◌, ◌-◌}
-use Rattle.core_laws.specs.RightStates.{IsRightCore}
+use Rattle.worklist_laws.specs.Shelved.{IsRightAndListed}
 use Rattle.flow_core.specs.Summaries.{summary}
 use Rattle.flow_session.specs.Serving.{Makes}
 use Rattle.flow_session.proofs.Turns.{HasTaken}
@@ -11,7 +11,7 @@ invariant-loop-self g l = record {
   makes : Makes g.J.Journal.tells g.J.Journal.moment g.J.Journal.left_since l.initial.journal l.journal (summary l.initial.self.core) (λ s. summary l.self.core ≡ s);
   taken : HasTaken l.initial.self.core l.self.core l.turns l.queue;
   some : 1 ≤ l.queue;
-  right : IsRightCore l.initial.self.core → IsRightCore l.self.core;
+  right : IsRightAndListed l.initial.self.core → IsRightAndListed l.self.core;
   text : l.self.gathered ≡ l.initial.self.gathered;
   unfailed : g.J.Journal.faults l.journal ≡ g.J.Journal.faults l.initial.journal;
 }

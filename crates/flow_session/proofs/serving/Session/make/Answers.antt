@@ -1,11 +1,11 @@
 use Rattle.std.proofs.Common.{◌∙◌, ◌+◌, ap}
 use Rattle.flow_txn.specs.Records.{record_bytes}
-use Rattle.core_laws.proofs.Making.{core_right}
 use Rattle.flow_core.proofs.Moved.{front_of}
 use Rattle.flow_core.specs.Summaries.{Summary, summary}
 use Rattle.flow_session.proofs.Rights.{whatever}
 use Rattle.flow_session.proofs.Stopping.{silent_stop}
 use Rattle.std.proofs.lemmas.Result.{err_from_is_err_and}
+use Rattle.worklist_laws.proofs.Transactions.{listed_stays}
 use Rattle.flow_session.proofs.serving.Session.make.Goals as goal
 
 pub returns-clause-kept : goal.returns-clause-kept
@@ -22,12 +22,12 @@ pub returns-clause-drives : goal.returns-clause-drives
 returns-clause-drives g c = whatever c.keep.result (c.in_ok-applied.ensures.drives (front_of c.args.self.now.core c.args.t c.requires.allowed.asked))
 
 pub returns-clause-right : goal.returns-clause-right
-returns-clause-right g c = λ was. whatever c.keep.result (core_right c.args.self.now.core c.apply.new.self c.args.t (record {
+returns-clause-right g c = λ asks was. whatever c.keep.result (listed_stays c.args.self.now.core c.apply.new.self c.args.t (record {
   allowed = c.requires.allowed;
   drives = c.in_ok-applied.ensures.drives (front_of c.args.self.now.core c.args.t c.requires.allowed.asked);
   counts = c.in_ok-applied.ensures.counts;
   lives = (c.args.self.now.core.number + 1, ap (λ (s : Summary). s.live) c.in_ok-applied.ensures.next);
-}) was)
+}) (c.in_ok-applied.ensures.shelves (front_of c.args.self.now.core c.args.t c.requires.allowed.asked)) asks was)
 
 pub returns-in_err-payload-clause-cause : goal.returns-in_err-payload-clause-cause
 returns-in_err-payload-clause-cause g c =

@@ -2,6 +2,7 @@ use Rattle.std.proofs.Common.{rules}
 use Rattle.flow_core.specs.Summaries.{summary}
 use Rattle.flow_session.proofs.Calls.{makes_nothing, makes_one}
 use Rattle.flow_session.proofs.Stopping.{silent}
+use Rattle.worklist_laws.proofs.OpenAsked.{verdict_asks}
 use Rattle.flow_session.proofs.serving.Session.obey.Goals as goal
 
 pub returns-in_err-make-in-Ok-Do-clause-makes : goal.returns-in_err-make-in-Ok-Do-clause-makes
@@ -24,3 +25,7 @@ returns-in-Ok-Same-clause-cause g c = silent (g.J.Journal.faults c.args.journal.
 
 pub returns-in-Ok-Refused-clause-cause : goal.returns-in-Ok-Refused-clause-cause
 returns-in-Ok-Refused-clause-cause g c = silent (g.J.Journal.faults c.args.journal.now) c.refused.result c.refused.ensures.silent
+
+pub returns-in_ok-make-in-Ok-Do-clause-right : goal.returns-in_ok-make-in-Ok-Do-clause-right
+returns-in_ok-make-in-Ok-Do-clause-right g c = λ was.
+    c.in_ok-make-in-Ok-Do.ensures.right (verdict_asks c.args.self.now.core c.args.command.now c.in-Ok-Do.t c.in-Ok-Do.ensures was.0.1.indexed) was

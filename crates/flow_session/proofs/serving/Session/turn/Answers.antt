@@ -2,6 +2,7 @@ use Rattle.std.proofs.Common.{rules}
 use Rattle.flow_core.specs.Summaries.{summary}
 use Rattle.flow_session.proofs.Calls.{makes_one, makes_nothing}
 use Rattle.flow_session.proofs.Turns.{takes_front}
+use Rattle.worklist_laws.proofs.OpenAsked.{verdict_asks}
 use Rattle.flow_session.proofs.serving.Session.turn.Goals as goal
 
 pub returns-in-Ok-Do-clause-makes : goal.returns-in-Ok-Do-clause-makes
@@ -12,3 +13,7 @@ returns-clause-makes g c = makes_nothing g.J.Journal.tells g.J.Journal.moment g.
 
 pub returns-in-Ok-Do-clause-turned : goal.returns-in-Ok-Do-clause-turned
 returns-in-Ok-Do-clause-turned g c = takes_front c.make.result c.args.self.now.core c.make.new.self.core c.args.queue _ c.in-Ok-Do.t c.in-Ok-Do.ensures (search rules) c.make.ensures.drives c.make.ensures.made
+
+pub returns-in-Ok-Do-clause-right : goal.returns-in-Ok-Do-clause-right
+returns-in-Ok-Do-clause-right g c = λ was.
+    c.make.ensures.right (verdict_asks c.args.self.now.core _ c.in-Ok-Do.t c.in-Ok-Do.ensures was.0.1.indexed) was
