@@ -2,7 +2,7 @@
 ghost use Rattle.std.specs.Prelude.{◌≡◌, ◌++◌, Some, OnOk, IfOk};
 ghost use Rattle.process_rules.specs.Imports.{IsIndexed, latest_person};
 ghost use Rattle.flow_core.specs.Replies.{note_text, applied_text, refusal_text};
-ghost use Rattle.flow_core.specs.Answers.{templates_text as text_of_templates, queue_answer, audit_answer, instance_of, mode_now, AreRowsOf, IsShown, IsListed};
+ghost use Rattle.flow_core.specs.Answers.{templates_text as text_of_templates, queue_answer, audit_answer, instance_of, mode_now, IsShown, IsListed};
 ghost use Rattle.flow_core.specs.Allowing.{seen_entry, known_entry};
 ghost use Rattle.flow_core.specs.Containing.{IsOutputOf, IsInputOf, IsOutputShown, IsOutputBy, IsOutputAnswer, IsInputShown, IsInputAnswer};
 ghost use Rattle.flow_core.specs.Queries.{IsAnswer};
@@ -20,7 +20,7 @@ use crate::refusals::{Refusal, write_refusal};
 use crate::state::Core;
 use crate::words::{end_line, numbered};
 use audit_trail::write_message;
-use flow_model::{Bytes, Container, FateRow, Graph, List, Mode, Name, PersonDef, Query};
+use flow_model::{Bytes, Container, Graph, Mode, Name, PersonDef, Query};
 use navigator::{Instance, Item};
 use reply_text::{write_fate, write_mode};
 use std::alloc::AllocError;
@@ -64,16 +64,10 @@ impl Core {
         Ok(out)
     }
 
-    fn rows_of(&self, instance: &Instance) -> Result<List<FateRow>, AllocError>
-        ensures { IfOk result (AreRowsOf self.now.store.catalog.library instance.now) }
-    {
-        instance.rows(self.alloc, self.library())
-    }
-
     fn view_of(&self, root: u64, instance: &Instance) -> Result<Vec<u8>, AllocError>
         ensures { IfOk result (λ out. IsShown self.now.store.catalog.library root (Some instance.now) out.items) }
     {
-        let rows = self.rows_of(instance)?;
+        let rows = self.rows_in(self.alloc, instance)?;
         let mut out = Vec::new(self.alloc);
         write_view(&mut out, root, instance.mode(), rows.as_slice())?;
         Ok(out)
