@@ -8,7 +8,7 @@ use Rattle.flow_core.specs.Summaries.{summary}
 use Rattle.flow_core.specs.declared.state.Core.{Core}
 use Rattle.flow_session.specs.Histories.{StandsFor}
 use Rattle.flow_session.specs.Runs.{KeepsStore}
-use Rattle.core_laws.specs.RightStates.{IsRightCore}
+use Rattle.worklist_laws.specs.Shelved.{IsRightAndListed}
 use Rattle.deadlines.specs.Texts.{IsOverdueText}
 use Rattle.explain.specs.Explained.{ExplainsWord}
 use Rattle.explain.specs.Verified.{IsVerified}
@@ -23,7 +23,7 @@ pub record LooksInto {D : Type 0} (tells : Type 0) (moment : D → ℕ) (left_si
   pub core : Core
   pub keeps : Only (seen disk) (images disk) → KeepsStore moment left_since seen disk disk'
   pub stood : tells → StandsFor (summary core) (seen disk)
-  pub right : 1 ≤ (summary core).queues → IsRightCore core
+  pub right : 1 ≤ (summary core).queues → IsRightAndListed core
   pub printed : IsPrinted core
 
 -- the text of exactly the late items of a state is printed

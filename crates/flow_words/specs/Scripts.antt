@@ -16,7 +16,7 @@ use Rattle.flow_session.specs.Keeping.{IsOpen}
 use Rattle.flow_session.specs.Runs.{KeepsStore}
 use Rattle.flow_session.specs.declared.store.Stored.{Stored}
 use Rattle.flow_session.specs.declared.journal.NoJournal.{NoJournal}
-use Rattle.core_laws.specs.RightStates.{IsRightCore}
+use Rattle.worklist_laws.specs.Shelved.{IsRightAndListed}
 use Rattle.flow_words.specs.Crashes.{empty_history}
 use Rattle.flow_words.specs.Numbers.{AreSettings, NameNoSettings}
 use Rattle.flow_words.specs.Openings.{IsUnserved}
@@ -69,7 +69,7 @@ pub record ServesScript {J : Type 0} (tells : Type 0) (holds : J → Summary →
 pub record IsFresh (queues limit : ℕ) (s : Session) : Type 0 where
   pub empty : summary s.core ≡ empty_history queues limit
   pub outside : unended s ≡ None
-  pub right : 1 ≤ queues → IsRightCore s.core
+  pub right : 1 ≤ queues → IsRightAndListed s.core
 
 -- `try`: a session over the empty history serves the script, in memory alone; without memory for the session nothing is printed
 abbrev pub IsTried : ℕ → ℕ → Option (List ℕ) → Option (List ℕ) → Option (List ℕ) → Result (Unit {0}) Status → Type 0
@@ -94,7 +94,7 @@ pub record ServesStoreScript {D : Type 0} (tells : Type 0) (moment : D → ℕ) 
   pub keeps : Only (seen disk) (images disk) → KeepsStore moment left_since seen disk opened
   pub stood : tells → StandsFor (summary s.core) (seen disk)
   pub outside : unended s ≡ None
-  pub right : 1 ≤ (summary s.core).queues → IsRightCore s.core
+  pub right : 1 ≤ (summary s.core).queues → IsRightAndListed s.core
   pub serves : ServesOver tells moment left_since seen images left held held' s log opened disk' ended
 
 -- how a script that is served ends the program

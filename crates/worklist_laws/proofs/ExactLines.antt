@@ -13,6 +13,7 @@ use Rattle.std.proofs.lemmas.Map.Keys.{IsDistinct-from_sorted}
 use Rattle.std.proofs.lemmas.Map.Text.{is_eq-slice_cmp}
 use Rattle.std.proofs.lemmas.Option.{none-some, slice_get_read, slice_get_within, get_or_from_slice_get}
 use Rattle.std.proofs.lemmas.Slice.Eq.{bytes_eq-Decides}
+use Rattle.flow_core.specs.Answers.{IsListed}
 use Rattle.flow_core.specs.Shelving.{rank_now, stands}
 use Rattle.flow_core.specs.declared.state.Core.{Core}
 use Rattle.flow_model.specs.declared.graphs.PersonDef.{PersonDef}
@@ -26,7 +27,7 @@ use Rattle.staff_worklists.specs.Standing.{listed_at}
 use Rattle.staff_worklists.specs.declared.worklists.Listed.{Listed}
 use Rattle.worklist_laws.proofs.OpenLines.{named_ranks, open_named}
 use Rattle.worklist_laws.proofs.Shelves.{rank_tells, listed_is}
-use Rattle.worklist_laws.specs.Exact.{IsForPerson, IsExact}
+use Rattle.worklist_laws.specs.Exact.{IsForPerson, IsExact, ListsExactly}
 use Rattle.worklist_laws.specs.Shelved.{open_line, listed_as, IsShelved}
 
 -- ---- lists
@@ -227,3 +228,8 @@ module _ (c : Core) (shelved : IsShelved c) where
 
   pub worklist_exact : (person : PersonDef) (lines : List WorkLine) → IsWorklist c.worklists.shelves person lines → IsExact c person lines
   worklist_exact person lines is = subst (IsExact c person) (sym is.3) (exact_lines person is.0 is.1 is.2)
+
+-- what WORKLIST replies lists exactly these
+pub reply_exact : (c : Core) (name text : List ℕ) (found : Option PersonDef) → IsShelved c → IsListed c name found text → ListsExactly c name found text
+reply_exact c name text None shelved is = is
+reply_exact c name text (Some person) shelved is = (is.0, worklist_exact c shelved person is.0 is.1, is.2)

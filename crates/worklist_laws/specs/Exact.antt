@@ -1,10 +1,13 @@
 -- Exact worklists: the lines of a person are the open items that the person sees, in show order.
-use Rattle.std.specs.Prelude.{◌≡◌, ◌↔◌, ◌||◌, ◌&&◌, ℕ, Bool, true, Some, List, map}
+use Rattle.std.specs.Prelude.{◌≡◌, ◌↔◌, ◌||◌, ◌&&◌, ℕ, Bool, true, Option, None, Some, List, map}
 use Rattle.std.specs.List.{Contains}
 use Rattle.std.specs.List.Sorted.{IsStrictlySortedBy}
 use Rattle.std.specs.Ordering.{nat_cmp}
 use Rattle.std.specs.Cmp.Lexicographic.{slice_cmp}
+use Rattle.flow_core.specs.Answers.{worklist_text}
+use Rattle.flow_core.specs.Replies.{refusal_text}
 use Rattle.flow_core.specs.Shelving.{rank_now}
+use Rattle.flow_core.specs.declared.refusals.Refusal.TheVariants as refused
 use Rattle.flow_core.specs.declared.state.Core.{Core}
 use Rattle.flow_model.specs.declared.graphs.PersonDef.{PersonDef}
 use Rattle.flow_model.specs.declared.instances.ItemLine.{ItemLine}
@@ -31,3 +34,8 @@ pub record IsExact (c : Core) (person : PersonDef) (lines : List WorkLine) : Typ
   pub ranks : List (List ℕ)
   pub ranked : map (λ line. rank_now c line.item) lines ≡ map Some ranks
   pub rising : IsStrictlySortedBy (slice_cmp nat_cmp) ranks
+
+-- a reply lists exactly those items of the person of a name, or refuses the name of nobody
+abbrev pub ListsExactly : Core → List ℕ → Option PersonDef → List ℕ → Type 0
+ListsExactly c name None text = text ≡ refusal_text (refused.Person name)
+ListsExactly c name (Some person) text = (lines : List WorkLine) × IsExact c person lines × (text ≡ worklist_text name lines)

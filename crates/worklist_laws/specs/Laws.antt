@@ -4,11 +4,13 @@ use Rattle.core_laws.specs.RightStates.{IsRightState, Makes}
 use Rattle.flow_core.specs.Admitting.{IsAdmitted}
 use Rattle.flow_core.specs.Allowing.{IsBlank}
 use Rattle.flow_core.specs.Judgements.{IsVerdict}
+use Rattle.flow_core.specs.Queries.{IsAnswer}
 use Rattle.flow_core.specs.Refusals.{IsInOrder}
 use Rattle.flow_core.specs.Shelving.{rank_on, Shelves}
 use Rattle.flow_core.specs.declared.judging.Verdict.TheVariants.{Do}
 use Rattle.flow_core.specs.declared.state.Core.{Core}
 use Rattle.flow_model.specs.declared.commands.Command.{Command}
+use Rattle.flow_model.specs.declared.commands.Query.TheVariants as ask
 use Rattle.flow_model.specs.declared.graphs.Graph.{Graph}
 use Rattle.flow_model.specs.declared.graphs.PersonDef.{PersonDef}
 use Rattle.flow_model.specs.declared.graphs.Template.{Template}
@@ -17,11 +19,12 @@ use Rattle.flow_model.specs.declared.instances.WorkLine.{WorkLine}
 use Rattle.flow_model.specs.declared.transactions.Transaction.{Transaction}
 use Rattle.navigator.specs.Items.{Entry, stand, entry_at}
 use Rattle.navigator.specs.declared.scopes.ScopeState.{ScopeState}
+use Rattle.process_rules.specs.Imports.{latest_person}
 use Rattle.staff_worklists.specs.Listing.{IsWorklist}
 use Rattle.view_laws.specs.Runs.{Event}
 use Rattle.worklist_laws.specs.Asking.{AsksOpen}
-use Rattle.worklist_laws.specs.Exact.{IsExact}
-use Rattle.worklist_laws.specs.Shelved.{IsShelved}
+use Rattle.worklist_laws.specs.Exact.{IsExact, ListsExactly}
+use Rattle.worklist_laws.specs.Shelved.{IsRightAndListed, IsShelved}
 
 -- two items of a root that are there at the same rank are one
 abbrev pub RanksDiffer : Type 0
@@ -63,3 +66,7 @@ HistoriesStayShelved =
 -- then the worklist of a person is exact
 abbrev pub WorklistsAreExact : Type 0
 WorklistsAreExact = (c : Core) (person : PersonDef) (lines : List WorkLine) → IsShelved c → IsWorklist c.worklists.shelves person lines → IsExact c person lines
+
+-- and what WORKLIST replies is exact, in each state that is right and listed
+abbrev pub RepliesAreExact : Type 0
+RepliesAreExact = (c : Core) (name text : List ℕ) → IsRightAndListed c → IsAnswer c (ask.Worklist name) text → ListsExactly c name (latest_person c.store.catalog.library name) text

@@ -12,5 +12,5 @@ mod exact;
 mod shelved;
 
 pub use asked::{admitted_ask_open, verdicts_ask_open};
-pub use exact::worklists_are_exact;
+pub use exact::{replies_are_exact, worklists_are_exact};
 pub use shelved::{blank_shelved, histories_stay_shelved, ranks_differ, stays_shelved};

@@ -33,5 +33,5 @@ returns-in-Ok-clause-follows g c = inr (record {
   core = c.in-Ok.core;
   stood = λ told. subst (StandsFor (summary c.in-Ok.core)) c.in-Ok.ensures.seen (c.in-Ok.ensures.open told).holds;
   queued = λ told. opened_has_queue (g.D.Disk.seen c.open.new.disk) c.in-Ok.opened (summary c.in-Ok.core) (c.in-Ok.ensures.opened told) c.in-Ok.ensures.comes;
-  follows = λ some_. c.follow_from.ensures.follows (c.in-Ok.ensures.right some_);
+  follows = λ some_. c.follow_from.ensures.follows (c.in-Ok.ensures.right some_).0;
 })
