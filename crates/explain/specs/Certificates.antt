@@ -8,12 +8,12 @@ use Rattle.certificates.specs.Lines.{line_text}
 use Rattle.certificates.specs.declared.lines.CertLine.{CertLine}
 use Rattle.certificates.specs.declared.lines.CertLine.TheVariants.{Scope, Dead, Finished, Ended}
 
--- the line tells how this activity has ended
-abbrev pub Settles : Path → List ℕ → CertLine → Type 0
-Settles p name (Scope q) = ⊥
-Settles p name (Dead q other) = (q ≡ p) × (other ≡ name)
-Settles p name (Finished q other attempt) = (q ≡ p) × (other ≡ name)
-Settles p name (Ended q) = ⊥
+-- the line tells that this activity has ended with this fate
+abbrev pub Settles : Path → List ℕ → Fate → CertLine → Type 0
+Settles p name fate (Scope q) = ⊥
+Settles p name fate (Dead q other) = (q ≡ p) × (other ≡ name) × (fate ≡ DeadFate)
+Settles p name fate (Finished q other attempt) = (q ≡ p) × (other ≡ name) × (fate ≡ FinishedFate attempt)
+Settles p name fate (Ended q) = ⊥
 
 -- an activity of this fate is neither dead nor finished
 abbrev pub IsUnsettled : Fate → Type 0

@@ -1,3 +1,4 @@
+pub mod Shown
 pub mod Certificates
 pub mod Verified
 pub mod Explained

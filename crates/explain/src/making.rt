@@ -1,7 +1,11 @@
 //! Certificates from what the engine shows.
-ghost use Rattle.std.specs.Prelude.{◌≡◌, ◌-◌, length, slice_get, Some, IfOk, IfErr, MatchOption};
+ghost use Rattle.std.specs.Prelude.{◌≡◌, ℕ, ◌-◌, List, length, option_copied, slice_get, Some, IfOk, IfErr, MatchOption};
+ghost use Rattle.flow_core.specs.Driving.{templates};
+ghost use Rattle.flow_core.specs.Facts.{AreFactsOf};
+ghost use Rattle.flow_model.specs.ScopeContainers.{graph_of};
 ghost use Rattle.explain.specs.Certificates.{Settles, IsUnsettled};
-ghost use Rattle.explain.specs.Explained.{EndsWith, AreJustifiedBy, IsCertificate, IsWithout, HasNone};
+ghost use Rattle.explain.specs.Explained.{EndsAs, IsCertificate, IsWithout, HasNone};
+ghost use Rattle.explain.specs.Shown.{activity_spelling, fate_at, fate_in, AreShown, IsShown};
 ghost use Rattle.explain.specs.declared.making.ExplainFault.TheVariants.{NoMemory};
 
 use crate::checking::checked;
@@ -49,7 +53,9 @@ struct Shown<'a> {
 }
 
 /// The rows of a view by the texts of their activities.
-fn by_text(alloc: Global, rows: &[FateRow]) -> Result<IndexMap<Vec<u8>, Fate>, AllocError> {
+fn by_text(alloc: Global, rows: &[FateRow]) -> Result<IndexMap<Vec<u8>, Fate>, AllocError>
+    ensures { IfOk result (λ fates. (text : List ℕ) → fate_at fates text ≡ fate_in rows.now text) }
+{
     let mut fates = IndexMap::new(alloc);
     for row in rows {
         fates.insert(activity_text(alloc, &row.scope, &row.name)?, row.fate)?;
@@ -64,7 +70,7 @@ fn settled_line(
     name: &Name,
     fate: Fate,
 ) -> Result<Option<CertLine>, AllocError>
-    ensures { IfOk result (λ found. MatchOption found (IsUnsettled fate) (Settles scope.now name.now)) }
+    ensures { IfOk result (λ found. MatchOption found (IsUnsettled fate) (Settles scope.now name.now fate)) }
 {
     match fate {
         Fate::Waiting => Ok(None),
@@ -270,29 +276,36 @@ fn certificate(shown: &Shown<'_>, line: CertLine) -> Result<List<CertLine>, Allo
 }
 
 /// The graph of a template.
-fn root_graph(core: &Core, template: u32) -> Option<&Graph> {
-    let template = core.library().templates.as_slice().get(template as usize)?;
-    Some(&template.graph)
+fn root_graph(core: &Core, template: u32) -> Option<&Graph>
+    ensures { option_copied result ≡ graph_of (templates core.now) template }
+{
+    match core.library().templates.as_slice().get(template as usize) {
+        None => None,
+        Some(template) => Some(&template.graph),
+    }
 }
 
-/// The fates that the engine shows of a live root; none where it shows none.
+/// The fates that the engine shows of a live root.
 fn fates_shown<'a>(
     alloc: Global,
     core: &'a Core,
     facts: &RootFacts,
-) -> Result<Option<Shown<'a>>, AllocError> {
+) -> Result<Shown<'a>, AllocError>
+    requires { AreFactsOf core.now facts.now.root facts.now }
+    ensures { IfOk result (λ shown. AreShown core.now facts.now.root shown.fates) }
+{
     let Some(graph) = root_graph(core, facts.template) else {
-        return Ok(None);
+        unreachable!();
     };
     let Some(rows) = core.begun_rows(alloc, facts.root)? else {
-        return Ok(None);
+        unreachable!();
     };
-    Ok(Some(Shown {
+    Ok(Shown {
         alloc,
         library: core.library(),
         graph,
         fates: by_text(alloc, rows.as_slice())?,
-    }))
+    })
 }
 
 /// The certificate of an activity of a live root.
@@ -301,8 +314,8 @@ fn explain_shown(
     scope: &Path,
     activity: &Name,
 ) -> Result<List<CertLine>, ExplainFault>
-    ensures certificate { IfOk result (EndsWith scope.now activity.now) }
-    ensures fault { IfErr result IsWithout }
+    ensures certificate { IfOk result (EndsAs (fate_at shown.now.fates (activity_spelling scope.now activity.now)) scope.now activity.now) }
+    ensures fault { IfErr result (IsWithout (fate_at shown.now.fates (activity_spelling scope.now activity.now))) }
 {
     let text = activity_text(shown.alloc, scope, activity)?;
     let Some(fate) = shown.fates.get(text.as_slice()).copied() else {
@@ -322,22 +335,21 @@ fn explain_over(
     scope: &Path,
     activity: &Name,
 ) -> Result<List<CertLine>, ExplainFault>
-    ensures certificate { IfOk result (EndsWith scope.now activity.now) }
-    ensures justified { IfOk result (AreJustifiedBy core.now facts.now) }
-    ensures fault { IfErr result IsWithout }
+    requires { AreFactsOf core.now scope.now.root facts.now }
+    ensures certificate { IfOk result (IsCertificate core.now scope.now activity.now) }
+    ensures fault { IfErr result (HasNone core.now scope.now activity.now) }
 {
-    let Some(shown) = fates_shown(alloc, core, facts)? else {
-        return Err(ExplainFault::Activity);
-    };
+    let shown = fates_shown(alloc, core, facts)?;
     let lines = explain_shown(&shown, scope, activity)?;
     Ok(checked(alloc, core, facts, lines)?)
 }
 
 /// The certificate of an activity that is dead or finished: its line behind all that it needs, each once. Every
-/// line is justified by those before it, over the accepted completions of the root.
+/// line is justified by those before it, over the accepted completions of the root, and the last one tells the fate
+/// that the state shows of the activity.
 ///
 /// `Root` exactly where there is no live root of that number, else `Activity` where its scope isn't begun or has
-/// no such activity, else `Unsettled` where it is neither dead nor finished.
+/// no such activity, else `Unsettled` with its fate where it is neither dead nor finished.
 pub fn explain(
     alloc: Global,
     core: &Core,
@@ -345,7 +357,7 @@ pub fn explain(
     activity: &Name,
 ) -> Result<List<CertLine>, ExplainFault>
     ensures certificate { IfOk result (IsCertificate core.now scope.now activity.now) }
-    ensures fault { IfErr result (HasNone core.now scope.now) }
+    ensures fault { IfErr result (HasNone core.now scope.now activity.now) }
 {
     let Some(facts) = core.root_facts(alloc, scope.root)? else {
         return Err(ExplainFault::Root(scope.root));

@@ -1,6 +1,6 @@
 //! The texts of activities, and the activities that words name.
 ghost use Rattle.std.specs.Prelude.{◌≡◌, IfOk, IfSome};
-ghost use Rattle.explain.specs.Explained.{activity_spelling};
+ghost use Rattle.explain.specs.Shown.{activity_spelling};
 
 use certificates::activity_in;
 use flow_model::{Name, Path, path_text};
