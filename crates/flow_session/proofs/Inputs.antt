@@ -7,7 +7,7 @@ use Rattle.flow_model.specs.declared.commands.Command.{Command}
 use Rattle.flow_model.specs.declared.commands.Command.TheVariants.{Import, Start, Turn, Drain, Claim, Release, Transfer, Take, Done, Force, Restart, Suspend, Resume, Terminate, Delete, Clock, Checkpoint, Ask}
 use Rattle.flow_model.specs.declared.commands.Query.{Query}
 use Rattle.flow_core.specs.declared.state.Core.{Core}
-use Rattle.flow_session.specs.Inputs.{Unended, Answers, IsCommanded, ServesLine, IsWrongAt, CommandLine, WrongLine, ServesText, unended, unended_in, word_text}
+use Rattle.flow_session.specs.Inputs.{Unended, IsCommanded, ServesLine, IsWrongAt, CommandLine, WrongLine, ServesText, unended, unended_in, word_text}
 use Rattle.flow_session.specs.Replying.{IsObeyed}
 use Rattle.flow_session.specs.declared.serving.Session.{Session}
 

@@ -1,17 +1,13 @@
 -- Why a store isn't opened: the record that is unfit, and those before it.
-use Rattle.std.proofs.Common.{◌≡◌, inl, inr, ℕ, zero, suc, ◌+◌, ◌<◌, List, [], ◌∷◌, ◌++◌, length, take, drop, get_or, Err, refl, sym, ap, subst, ◌∙◌, arith}
+use Rattle.std.proofs.Common.{◌≡◌, ℕ, zero, suc, ◌+◌, ◌<◌, List, [], ◌∷◌, ◌++◌, length, take, drop, get_or, refl, sym, ap, subst, ◌∙◌, arith}
 use Rattle.flow_disk.specs.declared.disk.Slot.{Slot}
-use Rattle.flow_disk.specs.Images.{Image}
-use Rattle.txn_log.specs.Causes.{UnlessFault}
 use Rattle.txn_log.specs.declared.header.Header.{Header}
 use Rattle.txn_log.specs.declared.judged.Record.{Record}
 use Rattle.txn_log.specs.declared.stops.LogStop.{LogStop}
 use Rattle.txn_log.specs.declared.stops.LogStop.TheVariants as log
-use Rattle.txn_log.specs.Opening.{IsRefusal}
 use Rattle.txn_log.specs.Records.{payloads_of, places_of, gates, reach}
-use Rattle.txn_log.specs.Stores.{NoStore, ForeignIn, DamagedIn, Counts, store_of}
 use Rattle.flow_core.specs.declared.state.Core.{Core}
-use Rattle.flow_session.specs.Refusing.{AdmitsOne, OneRecord, LeadsTo, IsUnfit, BreaksAt, IsUnopened, StopsAt, StopsIn}
+use Rattle.flow_session.specs.Refusing.{AdmitsOne, OneRecord, LeadsTo, IsUnfit, BreaksAt, StopsAt, StopsIn}
 
 -- ---- the records of a slot
 

@@ -3,7 +3,6 @@ use Rattle.std.proofs.Common.{◌≡◌, ◌⊎◌, inl, inr, ℕ, ◌+◌, ◌�
 use Rattle.std.proofs.lemmas.List.{length-append, take-append-le}
 use Rattle.std.proofs.Math.Nat.{eq-or-lt_of_le}
 use Rattle.std.proofs.Math.Seq.{take-length}
-use Rattle.worklist_laws.specs.Shelved.{IsRightAndListed}
 use Rattle.flow_disk.specs.Images.{Image}
 use Rattle.flow_core.specs.Summaries.{Summary, summary}
 use Rattle.flow_session.specs.Histories.{StandsFor}

@@ -1,8 +1,7 @@
 -- A DRAIN, which takes messages from the queues in turn.
-use Rattle.std.proofs.Common.{◌≡◌, ◌⊎◌, inl, inr, subst, Result, Ok, Err, IfOk, OnOk, Some, None, Option, ℕ, zero, suc, ◌+◌, ◌-◌, ◌^◌, ◌<◌, ◌≤◌, ◌==◌, min, Bool, true, false, List, [], ◌∷◌, length, refl, sym, ap, ◌∙◌, arith, true≢false}
+use Rattle.std.proofs.Common.{◌≡◌, ◌⊎◌, inl, inr, subst, Result, Ok, Err, IfOk, OnOk, Some, None, ℕ, suc, ◌+◌, ◌-◌, ◌^◌, ◌<◌, ◌≤◌, ◌==◌, min, true, false, List, [], ◌∷◌, length, refl, sym, ap, ◌∙◌, arith, true≢false}
 use Rattle.std.specs.Prelude.{◌&&◌, nat_le, nat_lt, if◌then◌else◌, is_some, slice_get, slice_index_or}
 use Rattle.std.specs.Global.{Vec}
-use Rattle.std.specs.List.{list_all}
 use Rattle.std.proofs.lemmas.Bool.{and_parts, leb-true}
 use Rattle.std.proofs.lemmas.Bool.Decides.{leb_tells}
 use Rattle.flow_model.specs.declared.commands.Command.TheVariants.{Turn as TurnCommand}

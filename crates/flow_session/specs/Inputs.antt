@@ -1,5 +1,5 @@
 -- What one input of a session does: to the state, to the text of an IMPORT that isn't ended yet, and what is replied.
-use Rattle.std.specs.Prelude.{◌≡◌, ℕ, ◌<◌, ◌≤◌, nat_le, Bool, true, false, ◌||◌, if◌then◌else◌, Option, Some, None, option_map, List, [], ◌∷◌, ◌++◌, length, codes, bytes_eq}
+use Rattle.std.specs.Prelude.{◌≡◌, ℕ, ◌<◌, nat_le, Bool, true, false, ◌||◌, if◌then◌else◌, Option, Some, None, option_map, List, [], ◌∷◌, ◌++◌, length, codes, bytes_eq}
 use Rattle.std.specs.Fmt.{decimal}
 use Rattle.command_lang.specs.Reading.{AreLineTokens, SaysCommand, IsOnlyCommand, IsRefusal, RefusesFirst}
 use Rattle.command_lang.specs.Refusing.{SomeCommand}

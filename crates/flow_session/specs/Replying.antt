@@ -1,11 +1,8 @@
 -- What is replied to a command, and what becomes of the state.
-use Rattle.std.specs.Prelude.{◌≡◌, ◌⊎◌, ℕ, ◌+◌, ◌-◌, ◌^◌, min, Bool, true, false, List, [], ◌∷◌, ◌++◌, length, codes}
+use Rattle.std.specs.Prelude.{◌≡◌, ◌⊎◌, ℕ, ◌+◌, List, [], ◌∷◌, ◌++◌, codes}
 use Rattle.std.specs.Fmt.{decimal}
-use Rattle.std.specs.List.{All}
 use Rattle.flow_model.specs.declared.commands.Command.{Command}
-use Rattle.flow_model.specs.declared.instances.Message.{Message}
 use Rattle.flow_model.specs.declared.transactions.Transaction.{Transaction}
-use Rattle.flow_model.specs.declared.transactions.Transaction.TheVariants.{Turn}
 use Rattle.flow_core.specs.declared.applying.Note.{Note}
 use Rattle.flow_core.specs.declared.judging.Verdict.TheVariants.{Do, Same, Refused}
 use Rattle.flow_core.specs.declared.refusals.Refusal.{Refusal}
@@ -14,8 +11,7 @@ use Rattle.flow_core.specs.Driving.{Drives}
 use Rattle.flow_core.specs.Judgements.{IsVerdict}
 use Rattle.flow_core.specs.Replies.{applied_text, refusal_text}
 use Rattle.flow_core.specs.Summaries.{summary, next}
-use Rattle.flow_core.specs.Verdicts.{IsFor, IsNoteOf}
-use Rattle.flow_session.specs.Histories.{after}
+use Rattle.flow_core.specs.Verdicts.{IsNoteOf}
 
 -- a command makes the transaction to which it is judged, which drives the state, and the reply has its number and what came of it
 pub record IsMade (old new : Core) (command : Command) (reply : List ℕ) : Type 0 where

@@ -4,7 +4,7 @@ use Rattle.txn_log.specs.declared.judged.Record.{Record}
 use Rattle.txn_log.specs.Records.{payloads_of}
 use Rattle.flow_core.specs.Summaries.{Summary, summary}
 use Rattle.flow_session.specs.Keeping.{Brings}
-use Rattle.flow_session.specs.Refusing.{AdmitsOne, NoRecord, LeadsTo, StopsAt}
+use Rattle.flow_session.specs.Refusing.{AdmitsOne, NoRecord, LeadsTo}
 use Rattle.flow_session.proofs.Keeping.{brings_more}
 use Rattle.flow_session.proofs.Refusing.{leads_more, stops_in}
 use Rattle.flow_session.proofs.Rights.{begun_right}

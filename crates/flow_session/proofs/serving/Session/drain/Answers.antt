@@ -2,7 +2,7 @@ use Rattle.std.proofs.Common.{◌∙◌, refl, arith, rules, length}
 use Rattle.flow_core.specs.Summaries.{summary}
 use Rattle.flow_session.proofs.Calls.{makes_nothing, makes_more, makes_last}
 use Rattle.flow_session.proofs.Rights.{whatever}
-use Rattle.flow_session.proofs.Turns.{taken_none, taken_more, behind_some, one_less, drained}
+use Rattle.flow_session.proofs.Turns.{taken_none, taken_more, behind_some}
 use Rattle.flow_session.proofs.Stopping.{silent_after, cause_after}
 use Rattle.std.proofs.lemmas.Result.{err_from_is_err_and}
 use Rattle.flow_session.proofs.serving.Session.drain.Goals as goal

@@ -1,5 +1,5 @@
 use Rattle.std.proofs.Common.{rules}
-use Rattle.flow_session.proofs.Turns.{next_at, next_around, all_quiet}
+use Rattle.flow_session.proofs.Turns.{next_at, all_quiet}
 use Rattle.flow_session.proofs.serving.Session.next_queue.Goals as goal
 
 pub returns-in-Some-clause-some : goal.returns-in-Some-clause-some

@@ -2,7 +2,7 @@ use Rattle.std.proofs.Common.{rules}
 use Rattle.flow_core.specs.Summaries.{summary}
 use Rattle.flow_session.proofs.Calls.{makes_nothing, makes_one}
 use Rattle.flow_session.proofs.Stopping.{silent}
-use Rattle.worklist_laws.proofs.OpenAsked.{verdict_asks}
+use Rattle.flow_session.proofs.Rights.{asks_open}
 use Rattle.flow_session.proofs.serving.Session.obey.Goals as goal
 
 pub returns-in_err-make-in-Ok-Do-clause-makes : goal.returns-in_err-make-in-Ok-Do-clause-makes
@@ -28,4 +28,4 @@ returns-in-Ok-Refused-clause-cause g c = silent (g.J.Journal.faults c.args.journ
 
 pub returns-in_ok-make-in-Ok-Do-clause-right : goal.returns-in_ok-make-in-Ok-Do-clause-right
 returns-in_ok-make-in-Ok-Do-clause-right g c = λ was.
-    c.in_ok-make-in-Ok-Do.ensures.right (verdict_asks c.args.self.now.core c.args.command.now c.in-Ok-Do.t c.in-Ok-Do.ensures was.0.1.indexed) was
+    c.in_ok-make-in-Ok-Do.ensures.right (asks_open c.args.self.now.core c.args.command.now _ c.in-Ok-Do.t c.in-Ok-Do.ensures c.in-Ok-Do.field-0-is was) was

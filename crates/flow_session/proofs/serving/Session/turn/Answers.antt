@@ -2,7 +2,8 @@ use Rattle.std.proofs.Common.{rules}
 use Rattle.flow_core.specs.Summaries.{summary}
 use Rattle.flow_session.proofs.Calls.{makes_one, makes_nothing}
 use Rattle.flow_session.proofs.Turns.{takes_front}
-use Rattle.worklist_laws.proofs.OpenAsked.{verdict_asks}
+use Rattle.flow_model.specs.declared.commands.Command.TheVariants.{Turn as TurnCommand}
+use Rattle.flow_session.proofs.Rights.{asks_open}
 use Rattle.flow_session.proofs.serving.Session.turn.Goals as goal
 
 pub returns-in-Ok-Do-clause-makes : goal.returns-in-Ok-Do-clause-makes
@@ -16,4 +17,4 @@ returns-in-Ok-Do-clause-turned g c = takes_front c.make.result c.args.self.now.c
 
 pub returns-in-Ok-Do-clause-right : goal.returns-in-Ok-Do-clause-right
 returns-in-Ok-Do-clause-right g c = λ was.
-    c.make.ensures.right (verdict_asks c.args.self.now.core _ c.in-Ok-Do.t c.in-Ok-Do.ensures was.0.1.indexed) was
+    c.make.ensures.right (asks_open c.args.self.now.core (TurnCommand c.args.queue) _ c.in-Ok-Do.t c.in-Ok-Do.ensures c.in-Ok-Do.field-0-is was) was
