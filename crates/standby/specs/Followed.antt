@@ -18,9 +18,9 @@ IsNotOpened so stop = ⊥
 
 -- why a store isn't opened, as the end of following
 abbrev pub IsEndBy : LogStop → FollowStop → Type 0
-IsEndBy stop (Store other) = other ≡ stop
+IsEndBy stop (Store found) = found ≡ stop
 IsEndBy stop NoMemory = Unit {0}
-IsEndBy stop other = ⊥
+IsEndBy stop ended = ⊥
 
 -- A store is opened, and a stream is followed from its state on. Where the disk tells its bytes, that is what they stand for, and where the stream ends, whatever the disk may leave then stands for the state at the last stage.
 pub record FollowsOpened (tells : Type 0) (seen : Image) (images : Image → Type 0) (left left' : Option (List ℕ)) (result : Result Followed FollowStop) : Type 0 where
