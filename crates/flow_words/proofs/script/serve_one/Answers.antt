@@ -1,7 +1,8 @@
 use Rattle.std.proofs.Common.{rules, subst, sym}
 use Rattle.flow_words.specs.Endings.{ServeCause}
 use Rattle.flow_words.proofs.EndingLemmas.{stop_serves}
-use Rattle.flow_words.proofs.Serving.{nothing_printed}
+use Rattle.flow_session.specs.Inputs.{given}
+use Rattle.flow_words.proofs.Serving.{nothing_printed, printed_one}
 use Rattle.flow_words.proofs.script.serve_one.Goals as goal
 
 pub returns-in-Err-clause-cause : goal.returns-in-Err-clause-cause
@@ -17,3 +18,10 @@ returns-then-is_empty-clause-served g c = (
   record { served = c.in-Ok.ensures.served; makes = c.in-Ok.ensures.makes; kept = c.in-Ok.ensures.kept; right = c.in-Ok.ensures.right },
   nothing_printed (g.K.Sink.held c.args.out.now) c.in-Ok.reply.items (search rules),
 )
+
+pub returns-else-is_empty-clause-served : goal.returns-else-is_empty-clause-served
+returns-else-is_empty-clause-served g c =
+    printed_one g.J.Journal.tells g.J.Journal.holds g.J.Journal.moment g.J.Journal.left_since (g.K.Sink.held c.args.out.now) (g.K.Sink.held c.print.new.out) (given c.args.input) c.in-Ok.reply.items
+    c.args.session.now c.serve.new.self c.args.journal.now c.serve.new.journal c.print.result
+    (record { served = c.in-Ok.ensures.served; makes = c.in-Ok.ensures.makes; kept = c.in-Ok.ensures.kept; right = c.in-Ok.ensures.right })
+    (rw c.deref.ensures.value at c.print.ensures.whole) (rw c.deref.ensures.value at c.print.ensures.part)
