@@ -1,0 +1,14 @@
+#!/usr/bin/env bash
+# All that a change has to pass: the proofs and the tests in the crates, then the scripts of this folder on the program
+# that was built. Ends with the status of the first that failed.
+set -uo pipefail
+cd "$(dirname "${BASH_SOURCE[0]}")/.."
+
+rt ci || exit
+# What needs no program comes first.
+for script in tests/promises.py tests/widths.py tests/words.py; do
+    python3 "$script" || exit
+done
+for script in tests/pages.py tests/files/run.py; do
+    python3 "$script" crates/flow_cli/out/flow_cli || exit
+done
