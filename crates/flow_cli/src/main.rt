@@ -1,7 +1,7 @@
 //! The program `flow`: the words of its command line over standard input and output and two files.
 #![tactic(auto)]
 
-use flow_disk::FileDisk;
+use flow_files::FileDisk;
 use flow_io::{StdSink, StdSource};
 use flow_words::{Status, run};
 use std::alloc::AllocError;

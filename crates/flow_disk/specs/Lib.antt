@@ -6,5 +6,4 @@ pub mod Replay
 pub mod Crashes
 pub mod Contents
 pub mod Laws
-pub mod Synced
 pub mod InMemory

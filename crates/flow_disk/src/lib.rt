@@ -1,9 +1,9 @@
 //! Which bytes stand in the two slots of a disk, which may stand there after a crash, and did the
 //! disk fail?
 //!
-//! `Disk` is what a log writes to. Two files on a real disk meet it, of whose bytes nothing is
-//! told, and a disk in memory, which tells everything, fails at the calls that a test lists, and
-//! gives what a crash may leave. The crate never knows what the bytes mean.
+//! `Disk` is what a log writes to. A disk in memory meets it, which tells everything, fails at the
+//! calls that a test lists, and gives what a crash may leave. The crate never knows what the bytes
+//! mean.
 //!
 //! Begin reading with the trait in `disk.rt`, then with `specs/Images.antt` and
 //! `specs/Moments.antt`, which say what a crash may leave; `specs/Replay.antt` says it of the disk
@@ -14,12 +14,10 @@
 mod change;
 mod counts;
 mod disk;
-mod files;
 mod kept;
 mod memory;
 #[cfg(test)]
 mod tests;
 
 pub use disk::{Disk, Failed, Slot};
-pub use files::FileDisk;
 pub use memory::MemDisk;

@@ -1,5 +1,5 @@
 use Rattle.std.proofs.Common.{◌≤◌, ◌-◌, length}
-use Rattle.flow_disk.proofs.files.write_whole.Given as goal
+use Rattle.flow_files.proofs.files.write_whole.Given as goal
 
 abbrev pub invariant-loop-done : goal.invariant-loop-done
 invariant-loop-done g l = l.done ≤ length l.bytes

@@ -1,10 +1,10 @@
 //! Two files as a disk. What they hold, and what a crash leaves of them, is not told.
 ghost use Rattle.std.specs.Prelude.{◌≡◌, ◌≤◌, [], length, true, false, IsSome, IfOk, OnOk, OnErr, Ok};
 ghost use Rattle.flow_disk.specs.Causes.{HasCause};
-ghost use Rattle.flow_disk.specs.Synced.{is_synced, unsynced};
+ghost use Rattle.flow_files.specs.Synced.{is_synced, unsynced};
 ghost use Rattle.flow_disk.specs.declared.disk.Slot.{Slot as SlotOf};
 
-use crate::disk::{Disk, Failed, Slot};
+use flow_disk::{Disk, Failed, Slot};
 use std::fs::{Files, OpenFile, OpenOptions};
 use std::io;
 use std::io::{Read, Seek, SeekFrom, Write};
@@ -34,7 +34,7 @@ pub struct FileDisk<'a, R: Files> {
 }
 
 impl<'a, R: Files> Model for FileDisk<'a, R> {
-    ghost use Rattle.flow_disk.specs.Synced.{Known};
+    ghost use Rattle.flow_files.specs.Synced.{Known};
 
     ghost Value = { Known };
 
