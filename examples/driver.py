@@ -242,6 +242,8 @@ def main():
     parser.add_argument("--seed", type=int, default=None)
     words = parser.parse_args()
     program = os.path.abspath(words.program)
+    if not os.access(program, os.X_OK):
+        sys.exit(f"driver.py: no program at {program}; ./flow builds it, or name one with --program")
     chance = random.Random(words.seed)
     with open(os.path.join(HERE, "credit", "credit.fdl"), encoding="ascii") as file:
         text = file.read()
