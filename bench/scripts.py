@@ -110,3 +110,20 @@ def deletions(count):
     lines += [f"FORCE '{root}/A#1'" for root in range(1, count + 1)] + ["DRAIN"]
     start = ("\n".join(lines) + "\n").encode()
     return start, "".join(f"DELETE {root}\n" for root in range(1, count + 1)).encode()
+
+
+def manual_case(count):
+    """A process of so many manual activities in a chain, for one role; and the commands of one case of it, as a
+    function of its root, one transaction each."""
+    lines = ["STRUCTURE 'E' END 'E'", "PERSON 'ann' ROLES 'clerk' END 'ann'", "PROCESS 'Manual' ('E','E')"]
+    lines += [f"PROGRAM_ACTIVITY 'A{i}' ('E','E') START MANUAL DONE_BY ROLE 'clerk' END 'A{i}'" for i in range(count)]
+    lines += [f"CONTROL FROM 'A{i}' TO 'A{i + 1}'" for i in range(count - 1)] + ["END 'Manual'"]
+
+    def commands(root):
+        told = ["START 'Manual' BY 'ann'", "TURN 1"]
+        for i in range(count):
+            told += [f"CLAIM '{root}/A{i}#1' BY 'ann'", f"DONE '{root}/A{i}#1' BY 'ann'"]
+            told += ["TURN 1"] if i < count - 1 else []
+        return told
+
+    return "\n".join(lines) + "\n", commands
