@@ -76,7 +76,7 @@ def serving(flow, folder):
 
 
 def filled(flow, size, folder):
-    """Fills a store with at least so many transactions, and answers how many there are."""
+    """Fills a store with about `size` transactions, and answers how many there are."""
     roots = max(1, (size - 1) // 9)
     memory = "/dev/shm" if os.access("/dev/shm", os.W_OK) else folder
     with tempfile.TemporaryDirectory(dir=memory) as quick:
@@ -100,7 +100,7 @@ def copied(folder):
 
 
 def by_size(flow, size, folder):
-    """What opening, CHECKPOINT, copying, ship and follow take for a store of so many transactions."""
+    """What opening, CHECKPOINT, copying, ship and follow take for a store of about `size` transactions."""
     count = filled(flow, size, folder)
     bytes_of = size_of(folder, "A")
     print(f"\n{count:,} transactions, {bytes_of / 1e6:.1f} MB, {bytes_of / count:.0f} bytes each")

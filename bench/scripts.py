@@ -32,7 +32,7 @@ def load_script(roots, seed=1):
 
 
 def long_text(size):
-    """A process text of at most this many bytes, and nearly so many, that breaks no rule."""
+    """A process text of exactly `size` bytes, blanks at its end included, that breaks no rule."""
     parts = ["STRUCTURE 'N' 'n' : LONG ; 's' : STRING ; END 'N'\n"]
     have, process = len(parts[0]), 0
     while process < 256:
@@ -77,24 +77,24 @@ END 'Q'
 
 
 def one_root_beside(others):
-    """So many roots with an item for a clerk, and ten with one for bob."""
+    """`others` roots with an item for a clerk, and ten with one for bob."""
     lines = ["IMPORT", *PEOPLE.splitlines(), "."]
     lines += ["START 'P' BY 'ann'"] * others + ["START 'Q' BY 'bob'"] * 10 + ["DRAIN"]
     return ("\n".join(lines) + "\n").encode()
 
 
 def path_of(count):
-    """Connectors from each of so many activities to the next."""
+    """Connectors from each of `count` activities to the next."""
     return [(i, i + 1) for i in range(count - 1)]
 
 
 def fan_of(count):
-    """Connectors from the first activity to so many others."""
+    """Connectors from the first activity to `count` others."""
     return [(0, i) for i in range(1, count + 1)]
 
 
 def run_through(count, connectors):
-    """A process of so many activities with these connectors, started and completed one by one."""
+    """A process of `count` activities with these connectors, started and completed one by one."""
     lines = ["IMPORT", "STRUCTURE 'E' END 'E'", "PERSON 'ann' ROLES 'clerk' END 'ann'", "PROCESS 'W' ('E','E')"]
     lines += [f"PROGRAM_ACTIVITY 'A{i}' ('E','E') END 'A{i}'" for i in range(count)]
     lines += [f"CONTROL FROM 'A{a}' TO 'A{b}'" for a, b in connectors]
@@ -105,7 +105,7 @@ def run_through(count, connectors):
 
 
 def deletions(count):
-    """So many roots, started and completed; and their deletion."""
+    """`count` roots, started and completed; and their deletion."""
     lines = ["IMPORT", *PEOPLE.splitlines(), "."] + ["START 'Q' BY 'bob'"] * count + ["DRAIN"]
     lines += [f"FORCE '{root}/A#1'" for root in range(1, count + 1)] + ["DRAIN"]
     start = ("\n".join(lines) + "\n").encode()
@@ -113,17 +113,17 @@ def deletions(count):
 
 
 def manual_case(count):
-    """A process of so many manual activities in a chain, for one role; and the commands of one case of it, as a
+    """A process of `count` manual activities in a chain, for one role; and the commands of one case of it, as a
     function of its root, one transaction each."""
     lines = ["STRUCTURE 'E' END 'E'", "PERSON 'ann' ROLES 'clerk' END 'ann'", "PROCESS 'Manual' ('E','E')"]
     lines += [f"PROGRAM_ACTIVITY 'A{i}' ('E','E') START MANUAL DONE_BY ROLE 'clerk' END 'A{i}'" for i in range(count)]
     lines += [f"CONTROL FROM 'A{i}' TO 'A{i + 1}'" for i in range(count - 1)] + ["END 'Manual'"]
 
     def commands(root):
-        told = ["START 'Manual' BY 'ann'", "TURN 1"]
+        lines = ["START 'Manual' BY 'ann'", "TURN 1"]
         for i in range(count):
-            told += [f"CLAIM '{root}/A{i}#1' BY 'ann'", f"DONE '{root}/A{i}#1' BY 'ann'"]
-            told += ["TURN 1"] if i < count - 1 else []
-        return told
+            lines += [f"CLAIM '{root}/A{i}#1' BY 'ann'", f"DONE '{root}/A{i}#1' BY 'ann'"]
+            lines += ["TURN 1"] if i < count - 1 else []
+        return lines
 
     return "\n".join(lines) + "\n", commands

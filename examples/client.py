@@ -157,7 +157,7 @@ class NoEmpty(Refusal):
 
 
 class NoQueued(Refusal):
-    """So many messages of the root are still queued."""
+    """Messages of the root are still queued: `number` of them."""
     code = "QUEUED"
 
 
@@ -185,7 +185,7 @@ REFUSALS = {kind.code: kind for kind in Refusal.__subclasses__()}
 
 
 def refusal_of(command: str, line: str) -> Refusal:
-    """The refusal that a line `no CODE ..` tells, in the class of its code."""
+    """The refusal for a line `no CODE ..`, in the class of its code."""
     _, code, kept = (line + "  ").split(" ", 2)
     kind = REFUSALS.get(code)
     if kind is None:
@@ -288,7 +288,7 @@ class Event:
 
 
 def fate_of(line: str) -> Fate:
-    """The fate that a line of SHOW tells."""
+    """The fate in a line of SHOW."""
     path, word, attempt = re.fullmatch(r"'(.*)' ([A-Z]+)(?: (\d+))?", line).groups()
     return Fate(path, word, int(attempt) if attempt else None)
 
@@ -566,7 +566,7 @@ class Upkeep:
     dropped: int = 0
 
     def deleted(self, events: int) -> None:
-        """A root with so many live transactions was deleted; the DELETE goes with them."""
+        """Counts a deleted root: its live transactions, and the DELETE itself."""
         self.dropped += events + 1
 
     def checkpointed(self, live: int) -> None:
@@ -581,7 +581,7 @@ class Upkeep:
 
 @dataclass(frozen=True)
 class Report:
-    """What became of an item that an agent took: its fate; None where the take was old when it was reported."""
+    """The result of an agent's work on an item: the item's fate; None where the take was old when it was reported."""
     item: str
     take: int
     fate: str | None

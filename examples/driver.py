@@ -28,7 +28,7 @@ AGENTS = ("Rate#1/Fetch File", "Rate#1/Score", "Reject", "Pay Out", "Archive")
 
 
 class DoomedStore(Store):
-    """A store whose program may be killed: after so many changes, at a random part of a change's time.
+    """A store whose program is killed at a chosen moment: after a number of changes, within the time of the next one.
 
     It keeps the answered transactions by their numbers, each with the first word of its command.
     """
@@ -44,7 +44,7 @@ class DoomedStore(Store):
         self.timer: threading.Timer | None = None
 
     def doom(self, changes: int, part: float) -> None:
-        """Kills the program at the change behind so many, after this part of a change's time."""
+        """Kills the program at the change of this number from now, after this part of a change's time."""
         self.changes_left, self.part = changes, part
 
     def ask(self, command: str) -> list[str]:
@@ -171,7 +171,8 @@ def check(store: DoomedStore) -> int:
 
 
 def rounds(store: DoomedStore, kills: int, chance: random.Random) -> tuple[list[str], int, int]:
-    """Plays the case with at most so many kills. Answers its output, the kills, and what was found behind them."""
+    """Plays the case with at most this number of kills. Answers its output, the kills, and how many transactions were
+    found without an answer."""
     killed, found = 0, 0
     while True:
         store.reopen()
@@ -198,18 +199,18 @@ def words() -> argparse.Namespace:
 
 
 def main() -> None:
-    told = words()
-    program = os.path.abspath(told.program)
+    options = words()
+    program = os.path.abspath(options.program)
     if not os.access(program, os.X_OK):
         sys.exit(f"driver.py: no program at {program}; ./flow build makes it, or name one with --program")
     with tempfile.TemporaryDirectory() as own:
-        folder = told.folder or own
+        folder = options.folder or own
         try:
             Store.make("A", "B", program, folder)
         except (NoStore, Fault) as error:
             sys.exit(f"driver.py: {error}")
         store = DoomedStore(program, folder)
-        output, kills, found = rounds(store, told.kills if told.kill else 0, random.Random(told.seed))
+        output, kills, found = rounds(store, options.kills if options.kill else 0, random.Random(options.seed))
         status = store.close()
     print("\n".join(output))
     print(f"transactions: {len(store.answered)}; kills: {kills}; found there without an answer: {found}; "

@@ -1,5 +1,5 @@
 #!/usr/bin/env python3
-"""Prints what no query of a store tells: its transactions with their values, who gave which output, the live
+"""Prints what no query of a store shows: its transactions with their values, who gave which output, the live
 roots with their starters, keys and modes, the clock, and how full the store is.
 
   flow ship A B 0 | journal.py [--json]           the transactions of a stream
@@ -291,15 +291,15 @@ class Transaction:
 
     def fields(self) -> dict[str, object]:
         """The transaction as an object of JSON, without what it doesn't have."""
-        told = {"kind": "transaction", "number": self.number, "word": self.word, "root": self.root,
+        fields = {"kind": "transaction", "number": self.number, "word": self.word, "root": self.root,
                 "item": self.item, "by": self.by, "take": self.take, "detail": self.detail or None,
                 "values": self.values or None}
-        return {name: value for name, value in told.items() if value is not None}
+        return {name: value for name, value in fields.items() if value is not None}
 
 
 @dataclass
 class Root:
-    """A live root. The mode is what its commands tell of it, until it is asked for."""
+    """A live root. The mode is known from its commands alone, until the program is asked."""
     number: int
     process: str
     version: int
@@ -320,7 +320,7 @@ class Root:
 
 @dataclass
 class Journal:
-    """What the transactions so far tell."""
+    """The library, the roots and the clock after the transactions that were read."""
     library: Library = field(default_factory=Library)
     roots: dict[int, Root] = field(default_factory=dict)
     clock: int = 0
@@ -471,7 +471,7 @@ def ask_modes(store: Store, roots: list[Root]) -> None:
             root.mode = store.show(root.number).mode
 
 
-def told(source: Source, store: Store | None) -> Iterator[Transaction | Root | Fullness]:
+def entries(source: Source, store: Store | None) -> Iterator[Transaction | Root | Fullness]:
     """The transactions of a source, then the live roots, then how full the store is. Where a store is given, the
     modes of the roots are asked of it."""
     journal = Journal()
@@ -494,7 +494,7 @@ def main() -> None:
     try:
         source = files_source(words.files) if words.files else stream_source(sys.stdin.buffer.read())
         store = Store(*words.files, program=words.program) if words.files and words.program else None
-        for entry in told(source, store):
+        for entry in entries(source, store):
             print(json.dumps(entry.fields()) if words.json else entry.line())
     except BrokenPipeError:
         # Whoever reads has had enough; what is still to be flushed goes nowhere.

@@ -8,7 +8,7 @@
   there for the program, and the repository's folders beside it. What a command prints, standard error behind
   standard output, has to be what stands below it; a line `..` stands for any number of lines.
 - Sessions: a table of commands and replies behind a comment `<!-- session: FILE -->` is compared with what `flow
-  try` replies to the script FILE: its rows have to stand there in their order.
+  try` replies to the script FILE: its rows have to stand there in their order. Words behind FILE are given to `try`.
 - Rules: the texts of the table of rules in docs/language.md, with their answers.
 - Examples: each `script.txt` under examples/ with its `replies.txt`, and the texts of `fate`.
 - Patterns: each `NAME.txt` of examples/patterns/ with the rows in `NAME.rows`.
@@ -44,7 +44,7 @@ class Results:
     passed: int = 0
     failures: list[str] = field(default_factory=list)
 
-    def tell(self, name: str, wanted: list[str], got: list[str]) -> bool:
+    def compare(self, name: str, wanted: list[str], got: list[str]) -> bool:
         """Counts a comparison; prints it where it fails. `..` in what is wanted stands for any lines."""
         if fits(wanted, got):
             self.passed += 1
@@ -132,7 +132,7 @@ def check_page(path: Path, program: Path, results: Results, is_filled: bool) -> 
             for command in commands(page, begin, end):
                 got = run(["bash", "-c", "\n".join(command.text) + "\n"], folder)
                 label = f"{path.relative_to(TOP)}:{command.line + 1} $ {command.text[0]}"
-                if not results.tell(label, command.wanted, got) and is_filled:
+                if not results.compare(label, command.wanted, got) and is_filled:
                     changes.append((command, got))
     for command, got in reversed(changes):
         first = command.line + len(command.text)
@@ -182,11 +182,12 @@ def check_sessions(path: Path, program: Path, results: Results) -> None:
     """Compares the tables of a page that name a session with what the program replies to it."""
     page = path.read_text(encoding="utf-8").split("\n")
     for at, line in enumerate(page):
-        named = re.fullmatch(r"<!-- session: (\S+) -->", line)
+        named = re.fullmatch(r"<!-- session: (\S+)( .*)? -->", line)
         if not named:
             continue
         script = (TOP / named.group(1)).read_text(encoding="utf-8")
-        pairs = replies_of(script.splitlines(), run([str(program), "try"], TOP, script.encode()))
+        words = [str(program), "try", *(named.group(2) or "").split()]
+        pairs = replies_of(script.splitlines(), run(words, TOP, script.encode()))
         for row, cells in rows_behind(page, at):
             asked, answered = spans(cells[0]), spans(cells[1])
             if asked is None or answered is None:
@@ -195,7 +196,7 @@ def check_sessions(path: Path, program: Path, results: Results) -> None:
                 pairs.pop(0)
             got = [line for _, reply in pairs[:len(asked)] for line in reply]
             del pairs[:len(asked)]
-            results.tell(f"{path.relative_to(TOP)}:{row + 1} {asked[0]}", answered, got)
+            results.compare(f"{path.relative_to(TOP)}:{row + 1} {asked[0]}", answered, got)
 
 
 # ---- the table of rules
@@ -206,8 +207,8 @@ ENDED = "END 'P'"
 
 
 def chain(count: int, calls: int) -> list[str]:
-    """So many processes; each but the first calls the one before so many times. One process takes 2 + calls lines,
-    the first 3."""
+    """A chain of `count` processes; each but the first calls the one before it `calls` times. The first has 3 lines,
+    the others 2 + calls."""
     lines = [FRAME[0], "PROCESS 'P0' ('N','N')", "PROGRAM_ACTIVITY 'A' ('N','N') END 'A'", "END 'P0'"]
     for i in range(1, count):
         lines += [f"PROCESS 'P{i}' ('N','N')"]
@@ -217,7 +218,7 @@ def chain(count: int, calls: int) -> list[str]:
 
 
 def many_processes(count: int) -> list[str]:
-    """A structure, and so many processes, one a line."""
+    """A structure, and `count` processes, one on each line."""
     return [FRAME[0]] + [f"PROCESS 'P{i}' ('N','N') PROGRAM_ACTIVITY 'A' ('N','N') END 'A' END 'P{i}'"
                          for i in range(count)]
 
@@ -225,11 +226,11 @@ def many_processes(count: int) -> list[str]:
 def rule_text(rule: int, cell: str, page: list[str]) -> list[str]:
     """The text that a row of the table of rules describes."""
     found = re.findall(r"`([^`]*)`", cell)
-    told: dict[int, Callable[[], list[str]]] = {
+    generated: dict[int, Callable[[], list[str]]] = {
         18: lambda: page[page.index("The text of rule 18:") + 3:][:8], 21: lambda: chain(18, 1),
         22: lambda: chain(6, 10), 24: lambda: many_processes(257)}
-    if rule in told:
-        return told[rule]()
+    if rule in generated:
+        return generated[rule]()
     if found[0] in ("A", "B"):
         attributes = {found[0]: found[1] + " "}
         return FRAME[:2] + [line.format(attributes.get(name, "")) for name, line in zip("AB", FRAME[2:])] \
@@ -249,7 +250,7 @@ def check_rules(program: Path, results: Results) -> None:
     for row, cells in rows_behind(page, head):
         text = "\n".join(rule_text(int(cells[0]), cells[2], page)) + "\n"
         got = run([str(program), "check"], TOP, text.encode())
-        results.tell(f"docs/language.md:{row + 1} rule {cells[0]}", spans(cells[3]) or [], got[:1])
+        results.compare(f"docs/language.md:{row + 1} rule {cells[0]}", spans(cells[3]) or [], got[:1])
 
 
 # ---- examples and patterns
@@ -260,11 +261,11 @@ def check_examples(program: Path, results: Results) -> None:
     for script in sorted(TOP.glob("examples/*/script.txt")):
         got = run([str(program), "try"], TOP, script.read_bytes())
         wanted = script.with_name("replies.txt").read_text(encoding="ascii").splitlines()
-        results.tell(str(script.relative_to(TOP)), wanted, got)
+        results.compare(str(script.relative_to(TOP)), wanted, got)
     for wanted_file in sorted(TOP.glob("examples/fate/*.out")) + sorted(TOP.glob("examples/patterns/*.rows")):
         text = wanted_file.with_suffix(".txt")
         got = run([str(program), "fate"], TOP, text.read_bytes())
-        results.tell(str(text.relative_to(TOP)), wanted_file.read_text(encoding="ascii").splitlines(), got)
+        results.compare(str(text.relative_to(TOP)), wanted_file.read_text(encoding="ascii").splitlines(), got)
 
 
 def check_pattern_names(results: Results) -> None:
@@ -275,8 +276,8 @@ def check_pattern_names(results: Results) -> None:
     there = sorted(path.stem for path in TOP.glob("examples/patterns/*.txt"))
     rows = sorted(path.stem for path in TOP.glob("examples/patterns/*.rows"))
     named = sorted(set(re.findall(r"examples/patterns/([a-z_]+)\.txt", page.read_text(encoding="utf-8"))))
-    results.tell("examples/patterns: each text has its rows", there, rows)
-    results.tell("docs/patterns.md: names each text", there, named)
+    results.compare("examples/patterns: each text has its rows", there, rows)
+    results.compare("docs/patterns.md: names each text", there, named)
 
 
 def main() -> None:
