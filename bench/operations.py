@@ -45,9 +45,10 @@ def measured(words, folder, data=b"", out=subprocess.DEVNULL):
     return time.perf_counter() - begin, used.ru_maxrss / 1024
 
 
-def size_of(folder, *names):
-    """The bytes of files together."""
-    return sum(os.path.getsize(os.path.join(folder, name)) for name in names)
+def written(path):
+    """The bytes of a slot up to its last record, without the room that is written ahead."""
+    with open(path, "rb") as file:
+        return len(file.read().rstrip(b"\0"))
 
 
 def serving(flow, folder):
@@ -69,10 +70,9 @@ def serving(flow, folder):
     done = len(count) * CASES
     row("run, asked one by one by examples/client.py", f"{done / seconds:,.0f} a second",
         f"{done} transactions, {seconds:.3f} s")
-    with open(os.path.join(folder, "C"), "rb") as file:
-        written = len(file.read().rstrip(b"\0"))
+    bytes_of = written(os.path.join(folder, "C")) - len(text)
     row(f"a case of {MANUAL} manual activities", f"{len(count)} transactions",
-        f"{(written - len(text)) / CASES:,.0f} bytes, {(written - len(text)) / done:.0f} a transaction")
+        f"{bytes_of / CASES:,.0f} bytes, {bytes_of / done:.0f} a transaction")
 
 
 def filled(flow, size, folder):
@@ -102,7 +102,7 @@ def copied(folder):
 def by_size(flow, size, folder):
     """What opening, CHECKPOINT, copying, ship and follow take for a store of about `size` transactions."""
     count = filled(flow, size, folder)
-    bytes_of = size_of(folder, "A")
+    bytes_of = written(os.path.join(folder, "A"))
     print(f"\n{count:,} transactions, {bytes_of / 1e6:.1f} MB, {bytes_of / count:.0f} bytes each")
     opening, memory = measured([flow, "run", "A", "B"], folder)
     row("opening", f"{opening:.3f} s", f"{opening / count * 1e6:.2f} microseconds a transaction")

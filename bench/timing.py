@@ -12,7 +12,7 @@ def program():
     """The path of the program: the first word, or the usual place."""
     path = os.path.abspath(sys.argv[1] if len(sys.argv) > 1 else USUAL)
     if not os.access(path, os.X_OK):
-        sys.exit(f"{sys.argv[0]}: no program at {path}; ./flow builds it, or name one")
+        sys.exit(f"{sys.argv[0]}: no program at {path}; ./flow build makes it, or name one")
     return path
 
 
