@@ -28,6 +28,8 @@ from types import TracebackType
 Value = int | str
 Values = Mapping[str, Value]
 
+# A program reads this many bytes of input, and then ends with status 7.
+MOST_INPUT = 268_435_456
 USUAL_PROGRAM = os.path.join(os.path.dirname(os.path.abspath(__file__)), "..", "crates", "flow_cli", "out", "flow_cli")
 
 
@@ -315,8 +317,9 @@ class Store:
     def __init__(self, a: str, b: str, program: str = USUAL_PROGRAM, folder: str | None = None) -> None:
         self.a, self.b, self.program, self.folder = a, b, program, folder
         self.process: subprocess.Popen[bytes] | None = None
-        # The greatest transaction number that was answered in this run.
+        # The greatest transaction number that was answered, and the bytes that this run was given.
         self.newest = 0
+        self.sent = 0
         self.upkeep = Upkeep()
 
     # -- opening and closing
@@ -337,6 +340,7 @@ class Store:
         """Starts the program."""
         self.process = subprocess.Popen([self.program, "run", self.a, self.b], cwd=self.folder,
                                         stdin=subprocess.PIPE, stdout=subprocess.PIPE)
+        self.sent = 0
 
     def close(self) -> int:
         """Ends the input of the program, and answers its status."""
@@ -371,9 +375,15 @@ class Store:
         return self.reply(command)
 
     def send(self, text: str) -> None:
-        """Gives the program lines to read."""
+        """Gives the program lines to read. Opens the store again where they would pass what one run reads."""
+        if self.process is None:
+            raise ValueError("the store isn't open")
+        data = text.encode("ascii")
+        if self.sent + len(data) > MOST_INPUT:
+            self.reopen()
+        self.sent += len(data)
         try:
-            self.process.stdin.write(text.encode("ascii"))
+            self.process.stdin.write(data)
             self.process.stdin.flush()
         except BrokenPipeError:
             raise self.fault("") from None
@@ -697,7 +707,13 @@ def ship_once(program: str, store: tuple[str, str], standby: tuple[str, str], fo
         if not shipped.stdout.endswith(b"\n"):
             raise Fault(shipped.returncode)
         raise refusal_of(" ".join(words), shipped.stdout.decode("ascii").strip())
-    line = one_line(program, ["follow", *standby], folder, shipped.stdout)
+    try:
+        line = one_line(program, ["follow", *standby], folder, shipped.stdout)
+    except Fault as fault:
+        if fault.status != 7:
+            raise
+        # The stream is longer than what one run reads: its first part was taken, and the rest is shipped from there.
+        return standby_number(program, *standby, folder) - have + ship_once(program, store, standby, folder)
     found = re.fullmatch(r"ok FOLLOW \d+ (\d+)", line)
     if not found:
         raise refusal_of(f"follow {' '.join(standby)}", line)
