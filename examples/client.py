@@ -11,7 +11,8 @@
 
 A `Store` is a `flow run A B` that is asked line by line. Replies come back as values with names. A refusal is
 raised as a `Refusal` of a class of its own, with what the refusal keeps. Where the program ends before it has
-answered, `Fault` is raised: the command may be kept or not, and `reopen` starts the program again.
+answered, `Fault` is raised: the command may be kept or not, and `reopen` starts the program again. Several threads
+may share a store: one command and its reply go at a time.
 
 Leaves are written plainly: "Amount", "Lines[0].Item". Values are numbers and texts.
 """
@@ -21,6 +22,7 @@ import hashlib
 import os
 import re
 import subprocess
+import threading
 from collections.abc import Callable, Iterable, Mapping
 from dataclasses import dataclass, field
 from types import TracebackType
@@ -321,6 +323,7 @@ class Store:
         self.newest = 0
         self.sent = 0
         self.upkeep = Upkeep()
+        self.lock = threading.RLock()
 
     # -- opening and closing
 
@@ -370,9 +373,12 @@ class Store:
     # -- asking
 
     def ask(self, command: str) -> list[str]:
-        """The lines of the reply to one command. Raises a Refusal, or a Fault."""
-        self.send(command + "\n")
-        return self.reply(command)
+        """The lines of the reply to one command. Raises a Refusal, or a Fault; ValueError where it isn't one line."""
+        if "\n" in command or not command.strip():
+            raise ValueError("a command is one line")
+        with self.lock:
+            self.send(command + "\n")
+            return self.reply(command)
 
     def send(self, text: str) -> None:
         """Gives the program lines to read. Opens the store again where they would pass what one run reads."""
@@ -418,11 +424,14 @@ class Store:
 
     def import_text(self, text: str) -> int:
         """Imports a process text, and answers how many processes it has. Raises NoRule with the broken line."""
-        self.send("IMPORT\n" + text.rstrip("\n") + "\n.\n")
-        try:
-            return int(self.reply("IMPORT")[0].split()[3])
-        except NoRule as broken:
-            raise broken.show(text) from None
+        if any(line in (".", ".\r") for line in text.split("\n")):
+            raise ValueError("a line `.` would end the text")
+        with self.lock:
+            self.send("IMPORT\n" + text.rstrip("\n") + "\n.\n")
+            try:
+                return int(self.reply("IMPORT")[0].split()[3])
+            except NoRule as broken:
+                raise broken.show(text) from None
 
     def import_file(self, path: str) -> int:
         """Imports the process text of a file."""
