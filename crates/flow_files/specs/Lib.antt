@@ -1,1 +1,1 @@
-pub mod Synced
+pub mod Known
