@@ -1,6 +1,8 @@
 #!/usr/bin/env python3
-"""Times `flow run A B` on a script of 300 roots, beside the syncs alone that it asks for: two a transaction,
-each after a write to one file. Then a CHECKPOINT, and reopening. Usage: run.py [PROGRAM [FOLDER]]"""
+"""Times `flow run A B` on a script of 600 roots, beside the writes and syncs alone that it asks for: two syncs a
+transaction, each after a write to one file. One floor syncs whole files that grow (fsync), the other the bytes alone
+of a file whose room is there (fdatasync). The three take turns. Then a CHECKPOINT, and reopening. Usage: run.py
+[PROGRAM [FOLDER]]"""
 import os
 import sys
 import tempfile
@@ -9,24 +11,53 @@ import time
 from scripts import load_script
 from timing import program, table, timed
 
-ROOTS = 300
+ROOTS = 600
+TURNS = 3
+TRANSACTIONS = 1 + 9 * ROOTS
+
+
+def floor(folder, sync, room, size):
+    """The seconds for so many transactions of so many bytes: a record behind a closed gate, then its gate."""
+    path = os.path.join(folder, "floor")
+    file = os.open(path, os.O_RDWR | os.O_CREAT | os.O_TRUNC, 0o600)
+    os.pwrite(file, bytes(room), 0)
+    os.fsync(file)
+    begin = time.perf_counter()
+    for i in range(TRANSACTIONS):
+        os.pwrite(file, b"x" * (size - 1) + b"\0", size * i + 1)
+        sync(file)
+        os.pwrite(file, b"\1", size * i)
+        sync(file)
+    seconds = time.perf_counter() - begin
+    os.close(file)
+    os.remove(path)
+    return seconds
+
+
+def served(flow, folder):
+    """The seconds that a new store takes to serve the script, and the bytes of a transaction."""
+    for name in ("A", "B"):
+        if os.path.exists(os.path.join(folder, name)):
+            os.remove(os.path.join(folder, name))
+    timed([flow, "new", "A", "B"], folder=folder)
+    seconds, _ = timed([flow, "run", "A", "B"], load_script(ROOTS), folder)
+    with open(os.path.join(folder, "A"), "rb") as file:
+        return seconds, len(file.read().rstrip(b"\0")) // TRANSACTIONS
+
+
 flow = program()
 with tempfile.TemporaryDirectory(dir=sys.argv[2] if len(sys.argv) > 2 else ".") as folder:
-    timed([flow, "new", "A", "B"], folder=folder)
-    seconds, out = timed([flow, "run", "A", "B"], load_script(ROOTS), folder)
-    transactions = 1 + 9 * ROOTS
-
-    begin = time.perf_counter()
-    floor = os.open(os.path.join(folder, "floor"), os.O_RDWR | os.O_CREAT, 0o600)
-    for i in range(2 * transactions):
-        os.pwrite(floor, b"x" * 40, 40 * i)
-        os.fdatasync(floor)
-    os.close(floor)
-    least = time.perf_counter() - begin
-
+    runs, grown, roomy = [], [], []
+    for _ in range(TURNS):
+        seconds, size = served(flow, folder)
+        runs.append(seconds)
+        grown.append(floor(folder, os.fsync, 0, size))
+        roomy.append(floor(folder, os.fdatasync, size * TRANSACTIONS + 4096, size))
     again, _ = timed([flow, "run", "A", "B"], folder=folder)
     check, _ = timed([flow, "run", "A", "B"], b"CHECKPOINT\n", folder)
-    table([(f"flow run, {ROOTS} roots", seconds, f"{transactions} transactions"),
-           ("two syncs a transaction", least, f"run takes {seconds / least:.2f} times as long"),
+    run, fsyncs, fdatasyncs = min(runs), min(grown), min(roomy)
+    table([(f"flow run, {ROOTS} roots", run, f"{TRANSACTIONS} transactions, {size} bytes each"),
+           ("two fsyncs a transaction", fsyncs, f"run has {fsyncs / run:.2f} times the rate"),
+           ("two fdatasyncs, room there", fdatasyncs, f"run has {fdatasyncs / run:.2f} times the rate"),
            ("reopening", again, f"{os.path.getsize(os.path.join(folder, 'A'))} bytes in A"),
            ("reopening and CHECKPOINT", check, f"{os.path.getsize(os.path.join(folder, 'B'))} bytes in B")])

@@ -176,7 +176,7 @@ impl SlotFile {
     {
         let count = self.waiting.len();
         let room = room_behind(self.at, count, self.size);
-        if room == 0 || self.waiting.resize(count.saturating_add(room), 0).is_err() {
+        if count == 0 || room == 0 || self.waiting.resize(count.saturating_add(room), 0).is_err() {
             return self.put_out();
         }
         let done = match &self.file {
