@@ -58,9 +58,15 @@ def flow(folder, *words, data=b"", **more):
     return done.returncode, done.stdout
 
 
+def serving(folder):
+    """A run that serves a store, with pipes to it and from it."""
+    return subprocess.Popen([PROGRAM, "run", "A", "B"], cwd=folder, stdin=subprocess.PIPE, stdout=subprocess.PIPE)
+
+
 def wants(seen, status, output=None):
     """Fails where a run didn't end with this status and, if it is given, this output."""
-    check(seen[0] == status and output in (None, seen[1]), f"status {seen[0]} and {seen[1][:80]!r}, not {status}, {output!r}")
+    is_so = seen[0] == status and output in (None, seen[1])
+    check(is_so, f"status {seen[0]} and {seen[1][:80]!r}, not {status}, {output!r}")
 
 
 def made(folder, *lines):
@@ -104,7 +110,7 @@ def each_word(folder):
 @trial
 def two_runs_at_once(folder):
     made(folder, "CLOCK 1")
-    with subprocess.Popen([PROGRAM, "run", "A", "B"], cwd=folder, stdin=subprocess.PIPE, stdout=subprocess.PIPE) as first:
+    with serving(folder) as first:
         first.stdin.write(b"CLOCK 2\n")
         first.stdin.flush()
         check(first.stdout.readline() == b"ok 2 CLOCK 2\n", "the first run answers")
@@ -122,7 +128,7 @@ def two_runs_at_once(folder):
 @trial
 def look_during_a_run(folder):
     made(folder, "CLOCK 1")
-    with subprocess.Popen([PROGRAM, "run", "A", "B"], cwd=folder, stdin=subprocess.PIPE, stdout=subprocess.PIPE) as first:
+    with serving(folder) as first:
         first.stdin.write(b"CLOCK 2\n")
         first.stdin.flush()
         first.stdout.readline()
@@ -257,7 +263,8 @@ def words_that_are_not_text(folder):
 
 @trial
 def examples_on_files(folder):
-    names = [name for name in sorted(os.listdir(EXAMPLES)) if os.path.exists(os.path.join(EXAMPLES, name, "replies.txt"))]
+    names = sorted(name for name in os.listdir(EXAMPLES)
+                   if os.path.exists(os.path.join(EXAMPLES, name, "replies.txt")))
     for name in names:
         place = os.path.join(folder, name)
         os.mkdir(place)
@@ -275,7 +282,7 @@ def examples_on_files(folder):
 @trial
 def closed_reader(folder):
     made(folder)
-    with subprocess.Popen([PROGRAM, "run", "A", "B"], cwd=folder, stdin=subprocess.PIPE, stdout=subprocess.PIPE) as run:
+    with serving(folder) as run:
         run.stdin.write(b"CLOCK 1\n")
         run.stdin.flush()
         check(run.stdout.readline() == b"ok 1 CLOCK 1\n", "the run answers")
@@ -322,7 +329,7 @@ def full_disk(folder):
 def stopped_and_continued(folder):
     made(folder)
     data = b"".join(b"CLOCK %d\n" % i for i in range(1, 101))
-    with subprocess.Popen([PROGRAM, "run", "A", "B"], cwd=folder, stdin=subprocess.PIPE, stdout=subprocess.PIPE) as run:
+    with serving(folder) as run:
         output = []
         reading = threading.Thread(target=lambda: output.append(run.communicate(data)[0]))
         reading.start()
@@ -395,7 +402,7 @@ def killed_run(folder, chance, clock, checkpoints):
     lines = []
     for i in range(clock + 1, clock + 41):
         lines += [f"CLOCK {i}"] + ["CHECKPOINT"] * (checkpoints and i % 3 == 0)
-    with subprocess.Popen([PROGRAM, "run", "A", "B"], cwd=folder, stdin=subprocess.PIPE, stdout=subprocess.PIPE) as run:
+    with serving(folder) as run:
         run.stdin.write("".join(line + "\n" for line in lines).encode())
         run.stdin.flush()
         output = b"".join(run.stdout.readline() for _ in range(chance.randrange(1, 8)))
@@ -472,7 +479,7 @@ def kills_under_follow(folder):
     check(status == 0, f"ship: status {status}")
     cases = [(SEED + i, stream, 15) for i in range(4)]
     beside(folder, killed_follow, cases)
-    return f"{15 * len(cases)} kills: the standby opens, falls behind nothing that it had, and holds a front part of the stream"
+    return f"{15 * len(cases)} kills: the standby opens, keeps what it had, and holds a front part of the stream"
 
 
 # --- Faults of the device ---
@@ -682,8 +689,8 @@ def main():
             word, line = tried(function, in_memory)
             words.append(word)
             print(line, flush=True)
-    skipped = words.count("skipped")
-    print(f"{words.count('passed')} passed, {words.count('failed')} failed" + (f", {skipped} skipped" if skipped else ""))
+    skipped = f", {words.count('skipped')} skipped" if "skipped" in words else ""
+    print(f"{words.count('passed')} passed, {words.count('failed')} failed{skipped}")
     return 1 if "failed" in words else 0
 
 
