@@ -374,7 +374,7 @@ class Store:
 
     def ask(self, command: str) -> list[str]:
         """The lines of the reply to one command. Raises a Refusal, or a Fault; ValueError where it isn't one line."""
-        if "\n" in command or not command.strip():
+        if "\n" in command or not re.sub(r"/\*.*?\*/", "", command).strip():
             raise ValueError("a command is one line")
         with self.lock:
             self.send(command + "\n")
@@ -579,7 +579,8 @@ class Upkeep:
     """When a checkpoint pays: it drops the transactions of deleted roots, and writes all others.
 
     `live` is the number that the last checkpoint answered, `dropped` the transactions of roots that were deleted
-    since then. A checkpoint is due where it would drop at least as much as it would write, and a thousand at least.
+    since then. A checkpoint is due where as many were dropped as the last one wrote, and a thousand at least. Both
+    numbers begin at 0 with each `Store`: keep the `Upkeep` where an application is started anew often.
     """
     live: int = 0
     dropped: int = 0
