@@ -11,6 +11,7 @@
   try` replies to the script FILE: its rows have to stand there in their order. Words behind FILE are given to `try`.
 - Rules: the texts of the table of rules in docs/language.md, with their answers.
 - Examples: each `script.txt` under examples/ with its `replies.txt`, and the texts of `fate`.
+- Paths: each file or folder that a page names in code marks is there.
 - Patterns: each `NAME.txt` of examples/patterns/ with the rows in `NAME.rows`.
 
 PROGRAM is crates/flow_cli/out/flow_cli where it is left out. --only runs the parts whose names have a word in
@@ -268,6 +269,18 @@ def check_examples(program: Path, results: Results) -> None:
         results.compare(str(text.relative_to(TOP)), wanted_file.read_text(encoding="ascii").splitlines(), got)
 
 
+PATH = re.compile(r"`((?:docs|examples|bench|tests|crates)/[A-Za-z0-9_./-]*[A-Za-z0-9_-]/?)(?: [^`]*)?`")
+
+
+def check_paths(path: Path, results: Results) -> None:
+    """The files and folders that a page names are there; what a build makes (out/) needn't be."""
+    for at, line in enumerate(path.read_text(encoding="utf-8").split("\n")):
+        for name in PATH.findall(line):
+            if "NAME" not in name and "/out/" not in name:
+                there = name if (TOP / name).exists() else "no such file"
+                results.compare(f"{path.relative_to(TOP)}:{at + 1} names {name}", [name], [there])
+
+
 def check_pattern_names(results: Results) -> None:
     """Each text of examples/patterns/ has its rows, and is named on the page of patterns; and the other way round."""
     page = TOP / "docs" / "patterns.md"
@@ -295,6 +308,7 @@ def main() -> None:
         name = str(path.relative_to(TOP))
         parts.append((name, lambda path=path: check_page(path, program, results, words.fill)))
         parts.append((name, lambda path=path: check_sessions(path, program, results)))
+        parts.append((name, lambda path=path: check_paths(path, results)))
     parts += [("rules", lambda: check_rules(program, results)),
               ("examples", lambda: check_examples(program, results)),
               ("patterns", lambda: check_pattern_names(results))]
