@@ -340,7 +340,7 @@ class Store:
         return cls(a, b, program, folder)
 
     def open(self) -> None:
-        """Starts the program."""
+        """Starts the program. Whether the store can be opened shows with the first command."""
         self.process = subprocess.Popen([self.program, "run", self.a, self.b], cwd=self.folder,
                                         stdin=subprocess.PIPE, stdout=subprocess.PIPE)
         self.sent = 0
