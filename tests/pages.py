@@ -11,7 +11,8 @@
   try` replies to the script FILE: its rows have to stand there in their order. Words behind FILE are given to `try`.
 - Rules: the texts of the table of rules in docs/language.md, with their answers.
 - Examples: each `script.txt` under examples/ with its `replies.txt`, and the texts of `fate`.
-- Paths: each file or folder that a page names in code marks is there.
+- Paths: each file or folder that a page names in code marks is there, and each that it links to; in the pages at
+  the top and those of the crates too.
 - Patterns: each `NAME.txt` of examples/patterns/ with the rows in `NAME.rows`.
 
 PROGRAM is crates/flow_cli/out/flow_cli where it is left out. --only runs the parts whose names have a word in
@@ -272,13 +273,25 @@ def check_examples(program: Path, results: Results) -> None:
 PATH = re.compile(r"`((?:docs|examples|bench|tests|crates)/[A-Za-z0-9_./-]*[A-Za-z0-9_-]/?)(?: [^`]*)?`")
 
 
+LINK = re.compile(r"\]\(([^)#:]+)(?:#[^)]*)?\)")
+
+
+def named_paths(path: Path, line: str) -> Iterator[tuple[str, Path]]:
+    """The files and folders that a line of a page names, and where they should be. What a build makes (out/) and
+    patterns of names are left out."""
+    for name in PATH.findall(line):
+        if "NAME" not in name and "/out/" not in name:
+            yield name, TOP / name
+    for name in LINK.findall(line):
+        yield name, path.parent / name
+
+
 def check_paths(path: Path, results: Results) -> None:
-    """The files and folders that a page names are there; what a build makes (out/) needn't be."""
+    """The files and folders that a page names are there."""
     for at, line in enumerate(path.read_text(encoding="utf-8").split("\n")):
-        for name in PATH.findall(line):
-            if "NAME" not in name and "/out/" not in name:
-                there = name if (TOP / name).exists() else "no such file"
-                results.compare(f"{path.relative_to(TOP)}:{at + 1} names {name}", [name], [there])
+        for name, place in named_paths(path, line):
+            there = name if place.exists() else "no such file"
+            results.compare(f"{path.relative_to(TOP)}:{at + 1} names {name}", [name], [there])
 
 
 def check_pattern_names(results: Results) -> None:
@@ -309,6 +322,8 @@ def main() -> None:
         parts.append((name, lambda path=path: check_page(path, program, results, words.fill)))
         parts.append((name, lambda path=path: check_sessions(path, program, results)))
         parts.append((name, lambda path=path: check_paths(path, results)))
+    for path in sorted(TOP.glob("C*.md")) + sorted(TOP.glob("crates/*/README.md")):
+        parts.append((str(path.relative_to(TOP)), lambda path=path: check_paths(path, results)))
     parts += [("rules", lambda: check_rules(program, results)),
               ("examples", lambda: check_examples(program, results)),
               ("patterns", lambda: check_pattern_names(results))]
