@@ -1,6 +1,7 @@
 #!/usr/bin/env python3
-"""Measures what docs/operations.md needs: transactions a second while serving, the bytes of a transaction and of a
-case, and for stores of several sizes opening, memory, CHECKPOINT, copying both files, ship and follow.
+"""Measures what docs/operations.md needs: a sync of the device, transactions a second while serving, the bytes of
+a transaction and of a case, and for stores of several sizes opening, memory, CHECKPOINT, copying both files, ship
+and follow.
 
 Usage: operations.py [PROGRAM [FOLDER [SIZE..]]]
 
@@ -49,6 +50,22 @@ def written(path):
     """The bytes of a slot up to its last record, without the room that is written ahead."""
     with open(path, "rb") as file:
         return len(file.read().rstrip(b"\0"))
+
+
+def syncing(folder):
+    """How long a sync takes that has 40 bytes to write, in a file whose room is there, and in one that grows."""
+    count = 1000
+    for name, room in (("in a file whose room is there", 1 << 20), ("in a file that grows", 0)):
+        file = os.open(os.path.join(folder, "sync"), os.O_RDWR | os.O_CREAT | os.O_TRUNC, 0o600)
+        os.pwrite(file, b"\0" * room, 0)
+        os.fsync(file)
+        begin = time.perf_counter()
+        for i in range(count):
+            os.pwrite(file, b"x" * 40, 40 * i)
+            os.fdatasync(file)
+        seconds = (time.perf_counter() - begin) / count
+        os.close(file)
+        row(f"a sync {name}", f"{seconds * 1000:.3f} ms", f"at most {0.5 / seconds:,.0f} transactions a second")
 
 
 def serving(flow, folder):
@@ -125,6 +142,7 @@ def main():
     place = sys.argv[2] if len(sys.argv) > 2 else "."
     sizes = [int(word.replace(",", "")) for word in sys.argv[3:]] or [10_000, 100_000, 1_000_000]
     with tempfile.TemporaryDirectory(dir=place) as folder:
+        syncing(folder)
         serving(flow, folder)
     for size in sizes:
         with tempfile.TemporaryDirectory(dir=place) as folder:
