@@ -159,9 +159,16 @@ class Process:
     structures: dict[str, list[Member]]
     input: str
     activities: dict[str, Activity] = field(default_factory=dict)
+    known: dict[str, list[str]] = field(default_factory=dict)
 
     def leaves(self, structure: str) -> list[str]:
-        """The leaves of a structure, depth first in the order of declaration."""
+        """The leaves of a structure, depth first in the order of declaration. They are made once."""
+        if structure not in self.known:
+            self.known[structure] = self.made_leaves(structure)
+        return self.known[structure]
+
+    def made_leaves(self, structure: str) -> list[str]:
+        """Makes the leaves of a structure."""
         found: list[str] = []
         for name, kind, count in self.structures[structure]:
             for place in [""] if count is None else [f"[{i}]" for i in range(count)]:
