@@ -11,3 +11,5 @@ pub mod Versions
 pub mod Refusing
 pub mod Admitting
 pub mod Contained
+pub mod Texts
+pub mod Exact

@@ -23,7 +23,8 @@ use Rattle.process_rules.specs.Imports.{IsIndexed}
 use Rattle.template_store.specs.declared.store.TemplateStore.{TemplateStore}
 use Rattle.flow_core.specs.Allowing.{IsAsked}
 use Rattle.flow_core.specs.Answers.{instance_of}
-use Rattle.flow_core.specs.Driving.{templates, IsVersionAt, HasNoVersion, IsMade, StartsIn, BecomesStarted, ChangesRoot, ChangesRoots, HoldsItem, Drives, IsFrontOf, put_in, queue_now}
+use Rattle.flow_core.specs.Driving.{templates, IsVersionAt, RunsAt, HasNoVersion, IsMade, StartsIn, BecomesStarted}
+use Rattle.flow_core.specs.Driving.{ChangesRoot, ChangesRoots, HoldsItem, Drives, IsFrontOf, put_in, queue_now}
 use Rattle.flow_core.specs.Summaries.{root_about}
 use Rattle.flow_core.specs.declared.state.Core.{Core}
 use Rattle.flow_core.proofs.Putting.{put_length, same_queue}
@@ -181,3 +182,11 @@ front_of c (Resume root) asked = tt
 front_of c (Terminate root) asked = tt
 front_of c (Delete root) asked = tt
 front_of c (Clock minutes) asked = tt
+
+-- a root that was started from a template that is there runs at its place
+pub runs_at : {E : Type 0} (r : Result (Option Instance) E) (ts : List Template) (t number : ℕ) (name : Name)
+    (input : Container) (g : Graph) (place : ℕ) → t ≡ place → graph_of ts t ≡ Some g
+    → IfOk r (λ i. Starts ts t number name input i) → IfOk r (RunsAt place)
+runs_at (Err e) ts t number name input g place same there is = tt
+runs_at (Ok None) ts t number name input g place same there is = none-some g (sym is ∙ there)
+runs_at (Ok (Some i)) ts t number name input g place same there is = is.template ∙ same

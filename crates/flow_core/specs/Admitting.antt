@@ -1,5 +1,6 @@
 -- Which record of a store is admitted: one that may stand under its number, and that the tests of its command give now.
-use Rattle.std.specs.Prelude.{◌≡◌, ◌⊎◌, ◌↔◌, ℕ, ◌+◌, ◌^◌, ◌<◌, ◌≤◌, Bool, true, false, Option, Some, None, is_none, IfSome, IsTrue, List, [], ◌∷◌, slice_get, bytes_eq}
+use Rattle.std.specs.Prelude.{◌≡◌, ◌⊎◌, ◌↔◌, ℕ, ◌+◌, ◌^◌, ◌<◌, ◌≤◌, Bool, true, false, Option, Some, None, is_none}
+use Rattle.std.specs.Prelude.{IfSome, IsTrue, List, [], ◌∷◌, slice_get, bytes_eq}
 use Rattle.std.specs.HashMap as hash
 use Rattle.std.specs.List.{list_all}
 use Rattle.std.specs.Option.{option_map_or}
@@ -18,7 +19,9 @@ use Rattle.flow_model.specs.declared.transactions.Transaction.{Transaction}
 use Rattle.flow_model.specs.declared.transactions.Transaction.TheVariants as made
 use Rattle.flow_core.specs.Allowing.{Subject, IsThere}
 use Rattle.flow_core.specs.Driving.{IsFront}
-use Rattle.flow_core.specs.Refusals.{first_of, person_of, person_test, who_test, newest_of, clock_test, root_test, queued_test, is_active, is_suspended, is_going, is_over, claim_test, release_test, transfer_test, taking_test, completing_test, forcing_test, restart_test, IsRuleOf}
+use Rattle.flow_core.specs.Refusals.{first_of, person_of, person_test, who_test, newest_of, clock_test, root_test}
+use Rattle.flow_core.specs.Refusals.{queued_test, is_active, is_suspended, is_going, is_over, claim_test, release_test}
+use Rattle.flow_core.specs.Refusals.{transfer_test, taking_test, completing_test, forcing_test, restart_test, IsRuleOf}
 use Rattle.flow_core.specs.Summaries.{started, deleted}
 use Rattle.flow_core.specs.declared.refusals.Refusal.{Refusal}
 use Rattle.flow_core.specs.declared.state.Core.{Core}
@@ -47,7 +50,8 @@ root_with c None = None
 root_with c (Some key) = hash.get_by (λ k. bytes_eq key k.items) c.keys
 
 -- a Start carries the newest version, a key that no live root has, a starter who is declared, and settings that fit
-pub record IsStartDue (c : Core) (process : Name) (version : ℕ) (starter : Name) (key : Option Name) (settings : List Setting) : Type 0 where
+pub record IsStartDue (c : Core) (process : Name) (version : ℕ) (starter : Name) (key : Option Name)
+    (settings : List Setting) : Type 0 where
   pub template : Template
   pub newest : newest_of c process ≡ Some template
   pub number : template.version ≡ version
@@ -59,10 +63,13 @@ pub record IsStartDue (c : Core) (process : Name) (version : ℕ) (starter : Nam
 abbrev pub IsDueAt : Core → Subject → Transaction → Type 0
 IsDueAt c s (made.Claim item who) = (person_test c who ≡ None) × (claim_test (person_of c who) s ≡ None)
 IsDueAt c s (made.Release item who) = (person_test c who ≡ None) × (release_test who s ≡ None)
-IsDueAt c s (made.Transfer item who to) = (person_test c who ≡ None) × (person_test c to ≡ None) × (transfer_test who (person_of c to) s ≡ None)
+IsDueAt c s (made.Transfer item who to) =
+    (person_test c who ≡ None) × (person_test c to ≡ None) × (transfer_test who (person_of c to) s ≡ None)
 IsDueAt c s (made.Take item take) = (taking_test s ≡ None) × (next_take s.item.state ≡ take)
-IsDueAt c s (made.Done item by settings) = (who_test c by ≡ None) × (completing_test by s ≡ None) × IsTrue (all_fit s.item.activity.output.leaves settings)
-IsDueAt c s (made.Force item settings) = (forcing_test s ≡ None) × IsTrue (all_fit s.item.activity.output.leaves settings)
+IsDueAt c s (made.Done item by settings) =
+    (who_test c by ≡ None) × (completing_test by s ≡ None) × IsTrue (all_fit s.item.activity.output.leaves settings)
+IsDueAt c s (made.Force item settings) =
+    (forcing_test s ≡ None) × IsTrue (all_fit s.item.activity.output.leaves settings)
 IsDueAt c s (made.Restart item) = restart_test s ≡ None
 IsDueAt c s t = ⊥
 
@@ -99,7 +106,8 @@ IsTold c t allowed = IsTrue allowed ↔ IsDue c t
 abbrev pub IsKeptNumber : Core → ℕ → Type 0
 IsKeptNumber c number = (number ≤ c.kept) × (c.kept_number < number) × (c.number ≡ c.kept)
 
--- such a record is no Delete, and a root that it starts is behind the kept ones before, and one of those that are counted
+-- such a record is no Delete, and a root that it starts is behind the kept ones before, and one of those that are
+-- counted
 abbrev pub IsKeptKind : Core → Transaction → Type 0
 IsKeptKind c t = (deleted t ≡ None) × IfSome (started t) (λ root. (c.kept_root < root) × (root ≤ c.roots))
 
@@ -122,5 +130,6 @@ pub record IsAdmitted (c : Core) (number : ℕ) (t : Transaction) : Type 0 where
 
 -- a record that isn't admitted; an Import has no place, or its text breaks a rule
 abbrev pub IsRefused : Core → ℕ → Transaction → Type 0
-IsRefused c number (made.Import text) = (IsPlace c number (made.Import text) → ⊥) ⊎ ((rule : Refusal) × IsRuleOf c text (Some rule))
+IsRefused c number (made.Import text) =
+    (IsPlace c number (made.Import text) → ⊥) ⊎ ((rule : Refusal) × IsRuleOf c text (Some rule))
 IsRefused c number t = IsAdmitted c number t → ⊥

@@ -1,5 +1,6 @@
 -- What a state asks of a transaction before it may be, and how the numbers of roots are counted.
-use Rattle.std.specs.Prelude.{◌≡◌, ◌⊎◌, ℕ, ◌<◌, ◌≤◌, ◌==◌, ◌&&◌, false, Result, Ok, Err, Option, Some, None, List, [], option_map, IfSome, IsTrue}
+use Rattle.std.specs.Prelude.{◌≡◌, ◌⊎◌, ℕ, ◌<◌, ◌≤◌, ◌==◌, ◌&&◌, false, Result, Ok, Err, Option, Some, None, List, []}
+use Rattle.std.specs.Prelude.{option_map, IfSome, IsTrue}
 use Rattle.activity_states.specs.States.{fate_of}
 use Rattle.flow_model.specs.declared.graphs.DoneBy.{DoneBy}
 use Rattle.flow_model.specs.declared.graphs.DoneBy.TheVariants as by
@@ -30,7 +31,8 @@ use Rattle.flow_core.specs.declared.state.Core.{Core}
 
 -- the mode that the state of a root tells
 abbrev pub mode_in : Instance → Mode
-mode_in i = mode_of i.terminated ((out-ScopeState i.scope).begun && ((out-ScopeState i.scope).unsettled == 0)) i.suspended
+mode_in i =
+    mode_of i.terminated ((out-ScopeState i.scope).begun && ((out-ScopeState i.scope).unsettled == 0)) i.suspended
 
 -- a root of this mode is active or suspended
 abbrev pub IsRunning : Mode → Type 0
@@ -53,7 +55,13 @@ pub record Subject : Type 0 where
   pub performer : Option Name
 
 abbrev pub subject_of : Known → Subject
-subject_of k = record { item = known_entry k; program = k.program.now; mode = k.mode; starter = k.starter.now; performer = option_map (λ name. name.now) k.performer }
+subject_of k = record {
+  item = known_entry k;
+  program = k.program.now;
+  mode = k.mode;
+  starter = k.starter.now;
+  performer = option_map (λ name. name.now) k.performer;
+}
 
 -- the person whose DONE gave the final output of the activity that PERFORMER OF names, in the scope of the item
 abbrev pub performer_by : Entry → DoneBy → Option Name
@@ -92,7 +100,8 @@ IsPassed (Err stop) = ⊥
 
 -- ---- numbers of roots
 
--- no root has had a number that is free: it is above those so far, or above the last kept one while kept records are taken up
+-- no root has had a number that is free: it is above those so far, or above the last kept one while kept records are
+-- taken up
 abbrev pub IsFree : Core → ℕ → Type 0
 IsFree c root = (c.roots < root) ⊎ ((c.number ≤ c.kept) × (c.kept_root < root))
 
@@ -124,11 +133,15 @@ pub record IsAllowed (c : Core) (t : Transaction) : Type 0 where
 
 -- ---- a state before any transaction
 
--- no root and no transaction is live, no message is queued, nothing was imported, and so names lead to nothing; no item is listed
+-- no root and no transaction is live, no message is queued, no template and no person was imported, and so names lead
+-- to nothing; no item is listed, no key is in use, and the clock stands at 0
 pub record IsBlank (c : Core) : Type 0 where
   pub roots : (root : ℕ) → instance_of c root ≡ None
   pub queues : IsTrue (is_quiet c.queues)
   pub library : templates c ≡ []
+  pub people : c.store.catalog.library.people ≡ []
+  pub clock : c.clock ≡ 0
+  pub keys : c.keys.entries ≡ []
   pub indexed : IsIndexed c.store.catalog
   pub live : c.live.items ≡ []
   pub unlisted : (name rank : List ℕ) → item_in c.worklists.shelves name rank ≡ None

@@ -1,5 +1,7 @@
--- What is replied to the queries that list what is kept: a view, a queue, a root's audited transactions, the templates, a worklist.
-use Rattle.std.specs.Prelude.{◌≡◌, ℕ, ℤ, pos, ◌==◌, ◌&&◌, nat_le, Bool, true, false, not, count_by, if◌then◌else◌, Option, Some, None, is_some, option_map, List, [], ◌∷◌, ◌++◌, length, slice_get, codes}
+-- What is replied to the queries that list what is kept: a view, a queue, a root's audited transactions, the templates,
+-- a worklist.
+use Rattle.std.specs.Prelude.{◌≡◌, ℕ, ℤ, pos, ◌==◌, ◌&&◌, nat_le, Bool, true, false, not, count_by, if◌then◌else◌}
+use Rattle.std.specs.Prelude.{Option, Some, None, is_some, option_map, List, [], ◌∷◌, ◌++◌, length, slice_get, codes}
 use Rattle.std.specs.List.{filter, flat_map, list_any}
 use Rattle.std.specs.Fmt.{decimal}
 use Rattle.std.specs.Ordering.{nat_cmp}
@@ -22,7 +24,9 @@ use Rattle.flow_model.specs.declared.instances.WorkLine.{WorkLine}
 use Rattle.flow_model.specs.declared.transactions.Numbered.{Numbered}
 use Rattle.flow_model.specs.declared.transactions.Setting.{Setting}
 use Rattle.flow_model.specs.declared.transactions.Transaction.{Transaction}
-use Rattle.flow_model.specs.declared.transactions.Transaction.TheVariants.{Import, Start, Turn, Claim, Release, Transfer, Take, Done, Force, Restart, Suspend, Resume, Terminate, Delete, Clock}
+use Rattle.flow_model.specs.declared.transactions.Transaction.TheVariants.{Import, Start, Turn, Claim, Release}
+use Rattle.flow_model.specs.declared.transactions.Transaction.TheVariants.{Transfer, Take, Done, Force, Restart}
+use Rattle.flow_model.specs.declared.transactions.Transaction.TheVariants.{Suspend, Resume, Terminate, Delete, Clock}
 use Rattle.flow_text.specs.Spelling.{name_in_quotes}
 use Rattle.reply_text.specs.Replies.{path_in_quotes, mode_text, row_text}
 use Rattle.audit_trail.specs.Lines.{message_text, audit_line}
@@ -40,7 +44,9 @@ use Rattle.flow_core.specs.declared.state.Core.{Core}
 
 -- SHOW: the root, its mode and the number of rows, then each row
 abbrev pub view_text : ℕ → Mode → List FateRow → List ℕ
-view_text root mode rows = codes "ok SHOW " ++ decimal root ++ 32 ∷ [] ++ mode_text mode ++ 32 ∷ [] ++ decimal (length rows) ++ 10 ∷ [] ++ flat_map row_text rows
+view_text root mode rows =
+    codes "ok SHOW " ++ decimal root ++ 32 ∷ [] ++ mode_text mode ++ 32 ∷ [] ++ decimal (length rows) ++ 10 ∷ []
+    ++ flat_map row_text rows
 
 -- a message as a line
 abbrev pub message_line : Message → List ℕ
@@ -48,7 +54,9 @@ message_line message = message_text message ++ 10 ∷ []
 
 -- QUEUE: the number of the queue and of its messages, then each message, the front first
 abbrev pub queue_text : ℕ → List Message → List ℕ
-queue_text number messages = codes "ok QUEUE " ++ decimal number ++ 32 ∷ [] ++ decimal (length messages) ++ 10 ∷ [] ++ flat_map message_line messages
+queue_text number messages =
+    codes "ok QUEUE " ++ decimal number ++ 32 ∷ [] ++ decimal (length messages) ++ 10 ∷ []
+    ++ flat_map message_line messages
 
 -- a template as a line: its name and its version
 abbrev pub template_line : Template → List ℕ
@@ -56,7 +64,8 @@ template_line template = name_in_quotes template.name ++ 32 ∷ [] ++ decimal te
 
 -- TEMPLATES: their number, then each template in the order of the imports
 abbrev pub templates_text : List Template → List ℕ
-templates_text templates = codes "ok TEMPLATES " ++ decimal (length templates) ++ 10 ∷ [] ++ flat_map template_line templates
+templates_text templates =
+    codes "ok TEMPLATES " ++ decimal (length templates) ++ 10 ∷ [] ++ flat_map template_line templates
 
 -- a line of a worklist: the item's path, and whether the person holds it
 abbrev pub work_line : WorkLine → List ℕ
@@ -64,7 +73,9 @@ work_line line = path_in_quotes line.item ++ (if line.held then codes " HELD\n" 
 
 -- WORKLIST: the person and the number of lines, then each line
 abbrev pub worklist_text : List ℕ → List WorkLine → List ℕ
-worklist_text name lines = codes "ok WORKLIST " ++ name_in_quotes name ++ 32 ∷ [] ++ decimal (length lines) ++ 10 ∷ [] ++ flat_map work_line lines
+worklist_text name lines =
+    codes "ok WORKLIST " ++ name_in_quotes name ++ 32 ∷ [] ++ decimal (length lines) ++ 10 ∷ []
+    ++ flat_map work_line lines
 
 -- the return code after one more setting: a whole number for the first leaf is the new one
 abbrev pub code_by : ℤ → ℕ → Value → ℤ
@@ -107,7 +118,9 @@ about root live = filter (λ n. is_root root (root_about n.transaction)) live
 
 -- AUDIT: the root and the number of live transactions about it, then each of them, the oldest first
 abbrev pub audit_text : ℕ → List Numbered → List ℕ
-audit_text root live = codes "ok AUDIT " ++ decimal root ++ 32 ∷ [] ++ decimal (length (about root live)) ++ 10 ∷ [] ++ flat_map numbered_line (about root live)
+audit_text root live =
+    codes "ok AUDIT " ++ decimal root ++ 32 ∷ [] ++ decimal (length (about root live)) ++ 10 ∷ []
+    ++ flat_map numbered_line (about root live)
 
 -- the instance of a live root
 abbrev pub instance_of : Core → ℕ → Option Instance
@@ -115,11 +128,13 @@ instance_of c root = option_map (λ r. r.instance) (tree.get_by (nat_cmp root) c
 
 -- the mode of a root
 abbrev pub mode_now : Instance → Mode
-mode_now i = mode_of i.terminated ((out-ScopeState i.scope).begun && ((out-ScopeState i.scope).unsettled == 0)) i.suspended
+mode_now i =
+    mode_of i.terminated ((out-ScopeState i.scope).begun && ((out-ScopeState i.scope).unsettled == 0)) i.suspended
 
 -- there is a queue of this number, and a message stands at its front
 abbrev pub has_message : Core → ℕ → Bool
-has_message c number = nat_le 1 number && nat_le number (length c.queues) && is_some (slice_get (messages_of c.queues number) 0)
+has_message c number =
+    nat_le 1 number && nat_le number (length c.queues) && is_some (slice_get (messages_of c.queues number) 0)
 
 -- QUEUE shows the queue of a number from 1 to the number of queues, and else is refused
 abbrev pub queue_answer : Core → ℕ → List ℕ
@@ -130,7 +145,8 @@ queue_answer c number =
 
 -- AUDIT shows a live root, and else is refused
 abbrev pub audit_answer : Core → ℕ → List ℕ
-audit_answer c root = if is_some (instance_of c root) then audit_text root c.live.items else refusal_text (refused.Root root)
+audit_answer c root =
+    if is_some (instance_of c root) then audit_text root c.live.items else refusal_text (refused.Root root)
 
 -- the rows are those of the view of what the instance shows
 abbrev pub AreRowsOf : Library → Instance → List FateRow → Type 0
@@ -166,9 +182,11 @@ done_roots c = count_by (λ r. is_done (mode_now r.1.instance)) c.live_roots.ent
 -- SHOW shows the rows of a live root, and else is refused
 abbrev pub IsShown : Library → ℕ → Option Instance → List ℕ → Type 0
 IsShown library root None text = text ≡ refusal_text (refused.Root root)
-IsShown library root (Some i) text = (rows : List FateRow) × AreRowsOf library i rows × (text ≡ view_text root (mode_now i) rows)
+IsShown library root (Some i) text =
+    (rows : List FateRow) × AreRowsOf library i rows × (text ≡ view_text root (mode_now i) rows)
 
 -- WORKLIST shows the worklist of a person who is declared, and else is refused
 abbrev pub IsListed : Core → List ℕ → Option PersonDef → List ℕ → Type 0
 IsListed c name None text = text ≡ refusal_text (refused.Person name)
-IsListed c name (Some person) text = (lines : List WorkLine) × IsWorklist c.worklists.shelves person lines × (text ≡ worklist_text name lines)
+IsListed c name (Some person) text =
+    (lines : List WorkLine) × IsWorklist c.worklists.shelves person lines × (text ≡ worklist_text name lines)

@@ -29,16 +29,19 @@ use Rattle.flow_core.specs.declared.state.Core.{Core}
 
 -- the root and the number of values, then a line for each leaf
 abbrev pub output_text : ℕ → Leaves → Container → List ℕ
-output_text root leaves c = codes "ok OUTPUT " ++ decimal root ++ 32 ∷ [] ++ decimal (length c.values) ++ 10 ∷ [] ++ container_text leaves c
+output_text root leaves c =
+    codes "ok OUTPUT " ++ decimal root ++ 32 ∷ [] ++ decimal (length c.values) ++ 10 ∷ [] ++ container_text leaves c
 
 -- the container is the output of the root, by whatever view its scopes show, where that is complete
 abbrev pub IsOutputOf : List Template → Graph → Instance → Container → Type 0
 IsOutputOf ts g i out =
-    IsSinking g → (depth : ℕ) → (k : Known) → (input : Container) → Shows ts depth k g input i.scope → is_complete g (tree_ends ts depth k g input) ≡ true
+    IsSinking g → (depth : ℕ) → (k : Known) → (input : Container) → Shows ts depth k g input i.scope
+    → is_complete g (tree_ends ts depth k g input) ≡ true
     → output ts (depth + 1) k g input ≡ Some out
 
 abbrev pub IsOutputShown : List Template → ℕ → Graph → Instance → List ℕ → Type 0
-IsOutputShown ts root g i text = (out : Container) × IsOutputOf ts g i out × (text ≡ output_text root (out-Graph g).output out)
+IsOutputShown ts root g i text =
+    (out : Container) × IsOutputOf ts g i out × (text ≡ output_text root (out-Graph g).output out)
 
 -- it is shown of a root that is done, and else refused by the mode
 abbrev pub IsOutputBy : List Template → ℕ → Graph → Instance → Mode → List ℕ → Type 0
@@ -61,13 +64,17 @@ IsOutputAnswer c root (Some i) text = IsOutputWith (templates c) root i (graph_o
 
 -- the item and the number of values, then a line for each leaf
 abbrev pub input_text : Path → Leaves → Container → List ℕ
-input_text path leaves c = codes "ok INPUT " ++ path_in_quotes path ++ 32 ∷ [] ++ decimal (length c.values) ++ 10 ∷ [] ++ container_text leaves c
+input_text path leaves c =
+    codes "ok INPUT " ++ path_in_quotes path ++ 32 ∷ [] ++ decimal (length c.values) ++ 10 ∷ []
+    ++ container_text leaves c
 
--- the container is what the item reads: the base input, with the LOOP maps from the output of the attempt before, as in whatever view its scope shows
+-- the container is what the item reads: the base input, with the LOOP maps from the output of the attempt before, as in
+-- whatever view its scope shows
 abbrev pub IsInputOf : Entry → Container → Type 0
 IsInputOf e read =
     e.number < 2 ^ 32 → IsFeeding e.graph → IsLooping e.graph
-    → (read ≡ item_input e.graph e.scope e.number e.state e.attempt) × ReadsAttempt e.graph e.scope e.number e.state e.attempt read
+    → (read ≡ item_input e.graph e.scope e.number e.state e.attempt)
+    × ReadsAttempt e.graph e.scope e.number e.state e.attempt read
 
 abbrev pub IsInputShown : Path → Entry → List ℕ → Type 0
 IsInputShown path e text = (read : Container) × IsInputOf e read × (text ≡ input_text path e.activity.input read)

@@ -1,5 +1,6 @@
 -- What a transaction does to the roots of a state, which messages it gives, and in which queues they stand.
-use Rattle.std.specs.Prelude.{◌≡◌, ◌⊎◌, ℕ, ◌+◌, ◌-◌, ◌^◌, ◌%◌, ◌≤◌, min, max, Bool, true, false, Option, Some, None, option_and_then, IfSome, List, [], ◌∷◌, ◌++◌, take, drop, length, slice_get}
+use Rattle.std.specs.Prelude.{◌≡◌, ◌⊎◌, ℕ, ◌+◌, ◌-◌, ◌^◌, ◌%◌, ◌≤◌, min, max, Bool, true, false, Option, Some, None}
+use Rattle.std.specs.Prelude.{option_and_then, IfSome, List, [], ◌∷◌, ◌++◌, take, drop, length, slice_get}
 use Rattle.flow_model.specs.Containers.{fresh}
 use Rattle.flow_model.specs.ScopeContainers.{graph_in, graph_of}
 use Rattle.flow_model.specs.declared.graphs.Activity.{Activity}
@@ -15,7 +16,9 @@ use Rattle.flow_model.specs.declared.instances.Path.{Path}
 use Rattle.flow_model.specs.declared.names.Name.{Name}
 use Rattle.flow_model.specs.declared.transactions.Setting.{Setting}
 use Rattle.flow_model.specs.declared.transactions.Transaction.{Transaction}
-use Rattle.flow_model.specs.declared.transactions.Transaction.TheVariants.{Import, Start, Turn, Claim, Release, Transfer, Take, Done, Force, Restart, Suspend, Resume, Terminate, Delete, Clock}
+use Rattle.flow_model.specs.declared.transactions.Transaction.TheVariants.{Import, Start, Turn, Claim, Release}
+use Rattle.flow_model.specs.declared.transactions.Transaction.TheVariants.{Transfer, Take, Done, Force, Restart}
+use Rattle.flow_model.specs.declared.transactions.Transaction.TheVariants.{Suspend, Resume, Terminate, Delete, Clock}
 use Rattle.containers.specs.Settings.{filled}
 use Rattle.navigator.specs.Instances.{IsStarted}
 use Rattle.navigator.specs.Items.{Entry, entry_at, stand}
@@ -25,8 +28,13 @@ use Rattle.navigator.specs.declared.instance.HoldChange.TheVariants as hold
 use Rattle.navigator.specs.declared.instance.Instance.{Instance}
 use Rattle.recover_queue.specs.Queues.{root_of as root_of_message, queue, with_queue}
 use Rattle.root_laws.specs.Becoming.{TakesIn, CompletesIn, HoldsIn}
+use Rattle.flow_model.specs.declared.graphs.Library.{Library}
+use Rattle.process_rules.specs.declared.catalog.Catalog.{Catalog}
 use Rattle.template_check.specs.Built.{AreSound}
-use Rattle.process_rules.specs.Imports.{IsIndexed}
+use Rattle.template_check.specs.Compiling.{IsNamedBy, IsMeantBy}
+use Rattle.template_check.specs.declared.compiling.Compiled.{Compiled}
+use Rattle.template_store.specs.Store.{with_compiled}
+use Rattle.process_rules.specs.Imports.{IsIndexed, newest_place}
 use Rattle.flow_core.specs.Answers.{instance_of}
 use Rattle.flow_core.specs.Summaries.{root_about}
 use Rattle.flow_core.specs.declared.state.Core.{Core}
@@ -49,7 +57,8 @@ abbrev pub HasNoVersion : List Template → Name → ℕ → Type 0
 HasNoVersion ts process version = length ts ≤ 2 ^ 32 → (place : ℕ) → IsVersionAt ts process version place → ⊥
 
 -- it is started by this version of a process, with these settings in its input
-pub record StartsIn (ts : List Template) (root : ℕ) (process : Name) (version : ℕ) (starter : Name) (settings : List Setting) (i : Instance) : Type 0 where
+pub record StartsIn (ts : List Template) (root : ℕ) (process : Name) (version : ℕ) (starter : Name)
+    (settings : List Setting) (i : Instance) : Type 0 where
   pub template : ℕ
   pub version_at : IsVersionAt ts process version template
   pub graph : Graph
@@ -67,6 +76,21 @@ IsMade ts root process version starter settings (Some i) = StartsIn ts root proc
 abbrev pub IsVersionPlace : List Template → Name → ℕ → Option ℕ → Type 0
 IsVersionPlace ts process version None = HasNoVersion ts process version
 IsVersionPlace ts process version (Some place) = IsVersionAt ts process version place
+
+-- the newest template of a name has this version and stands at this place
+pub record IsNewestVersion (library : Library) (process : Name) (version place : ℕ) : Type 0 where
+  pub newest : newest_place library process ≡ Some place
+  pub version_at : IsVersionAt library.templates process version place
+
+-- this is so of the place of the newest template, where a Start has its version
+abbrev pub IfNewest : Catalog → Name → ℕ → (ℕ → Type 0) → Type 0
+IfNewest catalog process version fact =
+    IsIndexed catalog → (place : ℕ) → IsNewestVersion catalog.library process version place → fact place
+
+-- a root that was started is there and runs the template at this place
+abbrev pub RunsAt : ℕ → Option Instance → Type 0
+RunsAt place None = ⊥
+RunsAt place (Some i) = i.template ≡ place
 
 -- ---- which item
 
@@ -109,14 +133,17 @@ abbrev pub BecomesQuietly : (Instance → Instance → Type 0) → List Message 
 BecomesQuietly becomes given before after = IfLive becomes given before after × (given ≡ [])
 
 -- a START starts it, and gives the BEGIN of its scope; where the version isn't there it stays as it is
-abbrev pub BecomesStarted : List Template → ℕ → Name → ℕ → Name → List Setting → List Message → Option Instance → Option Instance → Type 0
-BecomesStarted ts root process version starter settings given before None = Stays given before None × HasNoVersion ts process version
+abbrev pub BecomesStarted : List Template → ℕ → Name → ℕ → Name → List Setting → List Message → Option Instance
+    → Option Instance → Type 0
+BecomesStarted ts root process version starter settings given before None =
+    Stays given before None × HasNoVersion ts process version
 BecomesStarted ts root process version starter settings given before (Some i) =
     (Stays given before (Some i) × HasNoVersion ts process version)
     ⊎ (StartsIn ts root process version starter settings i × (given ≡ Begin (record { root = root; parts = [] }) ∷ []))
 
 -- an item is completed, with these settings in the output; where it isn't there nothing happens
-abbrev pub BecomesCompleted : List Template → Path → List Setting → Option Entry → List Message → Option Instance → Option Instance → Type 0
+abbrev pub BecomesCompleted : List Template → Path → List Setting → Option Entry → List Message → Option Instance
+    → Option Instance → Type 0
 BecomesCompleted ts item settings None given before after = Stays given before after
 BecomesCompleted ts item settings (Some e) given before after =
     IfLive (CompletesIn ts item (filled settings (fresh e.activity.output)) given) given before after
@@ -127,17 +154,24 @@ IsSuspended suspended i i' = i' ≡ record i { suspended = suspended }
 abbrev pub IsTerminated : Instance → Instance → Type 0
 IsTerminated i i' = i' ≡ record i { terminated = true }
 
--- what becomes of the root that a transaction is about, and what it gives, by the templates and the items that are there
-abbrev pub Becomes : List Template → (Path → Option Entry) → Transaction → List Message → Option Instance → Option Instance → Type 0
+-- what becomes of the root that a transaction is about, and what it gives, by the templates and the items that are
+-- there
+abbrev pub Becomes : List Template → (Path → Option Entry) → Transaction → List Message → Option Instance
+    → Option Instance → Type 0
 Becomes ts found (Import text) given before after = Stays given before after
-Becomes ts found (Start root process version starter key settings) given before after = BecomesStarted ts root process version starter settings given before after
+Becomes ts found (Start root process version starter key settings) given before after =
+    BecomesStarted ts root process version starter settings given before after
 Becomes ts found (Turn queue message) given before after = IfLive (TakesIn ts message given) given before after
-Becomes ts found (Claim item who) given before after = BecomesQuietly (HoldsIn ts item (hold.Person who)) given before after
+Becomes ts found (Claim item who) given before after =
+    BecomesQuietly (HoldsIn ts item (hold.Person who)) given before after
 Becomes ts found (Release item who) given before after = BecomesQuietly (HoldsIn ts item hold.Nobody) given before after
-Becomes ts found (Transfer item who to) given before after = BecomesQuietly (HoldsIn ts item (hold.Person to)) given before after
+Becomes ts found (Transfer item who to) given before after =
+    BecomesQuietly (HoldsIn ts item (hold.Person to)) given before after
 Becomes ts found (Take item take) given before after = BecomesQuietly (HoldsIn ts item hold.Agent) given before after
-Becomes ts found (Done item who settings) given before after = BecomesCompleted ts item settings (found item) given before after
-Becomes ts found (Force item settings) given before after = BecomesCompleted ts item settings (found item) given before after
+Becomes ts found (Done item who settings) given before after =
+    BecomesCompleted ts item settings (found item) given before after
+Becomes ts found (Force item settings) given before after =
+    BecomesCompleted ts item settings (found item) given before after
 Becomes ts found (Restart item) given before after = BecomesQuietly (HoldsIn ts item hold.Nobody) given before after
 Becomes ts found (Suspend root) given before after = BecomesQuietly (IsSuspended true) given before after
 Becomes ts found (Resume root) given before after = BecomesQuietly (IsSuspended false) given before after
@@ -187,9 +221,11 @@ activity_named g name = option_and_then (slice_get (out-Graph g).activities) (pl
 
 abbrev pub processes_along : List Template → List Part → Graph → ℕ
 processes_along ts [] g = 0
-processes_along ts (q ∷ p) g = processes_from (λ work. processes_below (processes_along ts p) (graph_in ts work)) (activity_named g q.name)
+processes_along ts (q ∷ p) g =
+    processes_from (λ work. processes_below (processes_along ts p) (graph_in ts work)) (activity_named g q.name)
 
--- the queue of a scope: 1 and the remainder of the root's number and the process activities on the way, by the number of queues
+-- the queue of a scope: 1 and the remainder of the root's number and the process activities on the way, by the number
+-- of queues
 abbrev pub queue_by : List Template → ℕ → Option Graph → ℕ → List Part → ℕ
 queue_by ts count None root parts = 1
 queue_by ts count (Some g) root parts = (root + min (processes_along ts parts g) (2 ^ 64 - 1)) % max count 1 + 1
@@ -226,6 +262,26 @@ abbrev pub LibraryAfter : Transaction → List Template → List Template → Ty
 LibraryAfter (Import text) ts ts' = ((more : List Template) × (ts' ≡ ts ++ more)) × (AreSound ts → AreSound ts')
 LibraryAfter t ts ts' = ts' ≡ ts
 
+-- what an import puts behind the library: the templates and the people that its text compiles to
+pub record AddsText (text : List ℕ) (old : Catalog) (new : Library) : Type 0 where
+  pub added : Compiled
+  pub named : IsNamedBy text added.templates
+  pub meant : IsMeantBy text old added.templates
+  pub behind : new ≡ with_compiled old.library added
+
+-- the library and its names after a transaction: an Import adds what its text compiles to; every other transaction
+-- leaves the templates, the people and where their names lead as they were
+abbrev pub StoreAfter : Transaction → Catalog → Catalog → Type 0
+StoreAfter (Import text) old new = AddsText text old new.library
+StoreAfter t old new = new ≡ old
+
+-- ---- the clock
+
+-- the clock after a transaction: a Clock sets it, every other one leaves it
+abbrev pub clock_after : Transaction → ℕ → ℕ
+clock_after (Clock minutes) clock = minutes
+clock_after t clock = clock
+
 -- ---- a transaction
 
 -- the hold of an item is changed so, and nothing is put
@@ -243,7 +299,8 @@ pub record CompletesItem (c : Core) (item : Path) (settings : List Setting) (c' 
   pub library : templates c' ≡ templates c
   pub indexed : IsIndexed c.store.catalog → IsIndexed c'.store.catalog
 
--- it changes its root alone, what it gives is put into the queues, behind what it has left there, the library is the one after
+-- it changes its root alone, what it gives is put into the queues, behind what it has left there, the library is the
+-- one after
 -- it, and names go on to lead to the newest of it
 pub record Drives (c : Core) (t : Transaction) (c' : Core) : Type 0 where
   pub given : List Message

@@ -1,4 +1,5 @@
--- What the fates of a live root follow from, as the live transactions say it: its template, its input and its accepted completions.
+-- What the fates of a live root follow from, as the live transactions say it: its template, its input and its accepted
+-- completions.
 use Rattle.std.specs.Prelude.{◌≡◌, ℕ, if◌then◌else◌, Option, Some, None, option_map, option_and_then, List, [], ◌∷◌}
 use Rattle.std.specs.List.{filter_map}
 use Rattle.containers.specs.Settings.{filled}
@@ -13,7 +14,9 @@ use Rattle.flow_model.specs.declared.instances.Path.{Path}
 use Rattle.flow_model.specs.declared.transactions.Numbered.{Numbered}
 use Rattle.flow_model.specs.declared.transactions.Setting.{Setting}
 use Rattle.flow_model.specs.declared.transactions.Transaction.{Transaction}
-use Rattle.flow_model.specs.declared.transactions.Transaction.TheVariants.{Import, Start, Turn, Claim, Release, Transfer, Take, Done, Force, Restart, Suspend, Resume, Terminate, Delete, Clock}
+use Rattle.flow_model.specs.declared.transactions.Transaction.TheVariants.{Import, Start, Turn, Claim, Release}
+use Rattle.flow_model.specs.declared.transactions.Transaction.TheVariants.{Transfer, Take, Done, Force, Restart}
+use Rattle.flow_model.specs.declared.transactions.Transaction.TheVariants.{Suspend, Resume, Terminate, Delete, Clock}
 use Rattle.navigator.specs.declared.instance.Instance.{Instance}
 use Rattle.flow_core.specs.Answers.{instance_of}
 use Rattle.flow_core.specs.Driving.{templates, activity_named, graph_now}
@@ -25,7 +28,9 @@ use Rattle.flow_core.specs.declared.views.RootFacts.{RootFacts}
 abbrev pub activity_on : List Template → List Part → Graph → Option Activity
 activity_on ts [] g = None
 activity_on ts (q ∷ []) g = activity_named g q.name
-activity_on ts (q ∷ (r ∷ qs)) g = option_and_then (λ activity. option_and_then (activity_on ts (r ∷ qs)) (graph_in ts activity.work)) (activity_named g q.name)
+activity_on ts (q ∷ (r ∷ qs)) g =
+    option_and_then (λ activity. option_and_then (activity_on ts (r ∷ qs)) (graph_in ts activity.work))
+    (activity_named g q.name)
 
 -- the activity of an item of a live root
 abbrev pub activity_now : Core → Path → Option Activity
@@ -72,7 +77,8 @@ settings_in t = []
 -- the settings of the first Start of a root
 abbrev pub start_settings : ℕ → List Numbered → List Setting
 start_settings root [] = []
-start_settings root (n ∷ ns) = if is_root root (started n.transaction) then settings_in n.transaction else start_settings root ns
+start_settings root (n ∷ ns) =
+    if is_root root (started n.transaction) then settings_in n.transaction else start_settings root ns
 
 -- these are what the fates of a root follow from
 pub record AreFactsOf (c : Core) (root : ℕ) (f : RootFacts) : Type 0 where

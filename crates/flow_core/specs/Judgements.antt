@@ -8,8 +8,10 @@ use Rattle.flow_core.specs.declared.judging.Verdict.{Verdict}
 use Rattle.flow_core.specs.declared.judging.Verdict.TheVariants.{Do, Same, Refused}
 use Rattle.flow_core.specs.declared.state.Core.{Core}
 
--- it is the START of a live root, by its key; else it has a first refusal; else it comes to its transaction, below the limit, where it may be
+-- it is the START of a live root, by its key; else it has a first refusal; else it comes to its transaction, below the
+-- limit, where it may be
 abbrev pub IsVerdict : Core → Command → Verdict → Type 0
-IsVerdict c command (Do t) = (c.number < c.limit) × IsFor c command t × IsAllowed c t × (same_root c command ≡ None) × IsRefusal c command None
+IsVerdict c command (Do t) =
+    (c.number < c.limit) × IsFor c command t × IsAllowed c t × (same_root c command ≡ None) × IsRefusal c command None
 IsVerdict c command (Same root) = same_root c command ≡ Some root
 IsVerdict c command (Refused refusal) = (same_root c command ≡ None) × IsRefusal c command (Some refusal)

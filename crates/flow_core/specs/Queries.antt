@@ -12,7 +12,8 @@ abbrev pub IsAnswer : Core → Query → List ℕ → Type 0
 IsAnswer c (ask.Show root) text = IsShown c.store.catalog.library root (instance_of c root) text
 IsAnswer c (ask.Output root) text = IsOutputAnswer c root (instance_of c root) text
 IsAnswer c (ask.Input token) text = IsInputAnswer c token text
-IsAnswer c (ask.Worklist name) text = IsIndexed c.store.catalog → IsListed c name (latest_person c.store.catalog.library name) text
+IsAnswer c (ask.Worklist name) text =
+    IsIndexed c.store.catalog → IsListed c name (latest_person c.store.catalog.library name) text
 IsAnswer c (ask.Queue number) text = text ≡ queue_answer c number
 IsAnswer c (ask.Audit root) text = text ≡ audit_answer c root
 IsAnswer c ask.Templates text = text ≡ templates_text c.store.catalog.library.templates

@@ -1,5 +1,7 @@
 -- Why a command is refused: its tests in their order, each a refusal or none, and the first refusal of them.
-use Rattle.std.specs.Prelude.{◌≡◌, ◌⊎◌, ℕ, ◌+◌, ◌-◌, ◌^◌, ◌==◌, ◌&&◌, min, nat_lt, nat_le, Bool, true, false, if◌then◌else◌, Result, Ok, Err, Option, Some, None, is_some, option_map, option_and_then, List, [], ◌∷◌, length, take, drop, slice_get, bytes_eq}
+use Rattle.std.specs.Prelude.{◌≡◌, ◌⊎◌, ℕ, ◌+◌, ◌-◌, ◌^◌, ◌==◌, ◌&&◌, min, nat_lt, nat_le, Bool, true, false}
+use Rattle.std.specs.Prelude.{if◌then◌else◌, Result, Ok, Err, Option, Some, None, is_some, option_map, option_and_then}
+use Rattle.std.specs.Prelude.{List, [], ◌∷◌, length, take, drop, slice_get, bytes_eq}
 use Rattle.std.specs.HashMap as hash
 use Rattle.std.specs.Option.{option_or}
 use Rattle.activity_states.specs.States.{fate_of, hold_of}
@@ -26,7 +28,8 @@ use Rattle.flow_model.specs.declared.transactions.Setting.{Setting}
 use Rattle.flow_model.specs.declared.trees.NumberAt.{NumberAt}
 use Rattle.navigator.specs.Items.{phase_of}
 use Rattle.recover_queue.specs.Queues.{queue as messages_of, count_of_root}
-use Rattle.staff_worklists.specs.Rights.{is_eligible, is_running, claim_answer, release_answer, transfer_answer, taking_answer, done_answer}
+use Rattle.staff_worklists.specs.Rights.{is_eligible, is_running, claim_answer, release_answer, transfer_answer}
+use Rattle.staff_worklists.specs.Rights.{taking_answer, done_answer}
 use Rattle.staff_worklists.specs.declared.rights.StaffFault.{StaffFault}
 use Rattle.staff_worklists.specs.declared.rights.StaffFault.TheVariants as fault
 use Rattle.process_rules.specs.Imports.{IsIndexed, newest_place, latest_person}
@@ -64,7 +67,8 @@ between token = if nat_lt (length token) 2 then token else take (length token - 
 
 -- the item that a token names; none where what is between its quotes spells no path, or one that has no item
 abbrev pub IsNamed : Core → List ℕ → Option Subject → Type 0
-IsNamed c token None = SpellsNoPath (between token) ⊎ ((path : Path) × Spells (between token) path × (item_of c path ≡ None))
+IsNamed c token None =
+    SpellsNoPath (between token) ⊎ ((path : Path) × Spells (between token) path × (item_of c path ≡ None))
 IsNamed c token (Some s) = (path : Path) × Spells (between token) path × IsThere c path s
 
 -- ---- tests of a state
@@ -92,7 +96,8 @@ who_test c (who.Agent take) = None
 
 -- what a process name means: its newest template
 abbrev pub newest_of : Core → Name → Option Template
-newest_of c process = option_and_then (λ place. slice_get (templates c) place) (newest_place c.store.catalog.library process)
+newest_of c process =
+    option_and_then (λ place. slice_get (templates c) place) (newest_place c.store.catalog.library process)
 
 -- the process is there, else PROCESS
 abbrev pub process_test : Core → Name → Option Refusal
@@ -229,15 +234,19 @@ open_test phase.Ended = Some (refused.State phase.Ended)
 
 -- CLAIM: MODE, then STATE, ELIGIBLE
 abbrev pub claim_test : Option PersonDef → Subject → Option Refusal
-claim_test person s = first_of (mode_test is_active s.mode ∷ staff_test s (claim_answer (phase_in s) (is_able person s)) ∷ [])
+claim_test person s =
+    first_of (mode_test is_active s.mode ∷ staff_test s (claim_answer (phase_in s) (is_able person s)) ∷ [])
 
 -- RELEASE: MODE, then STATE, OWNER
 abbrev pub release_test : Name → Subject → Option Refusal
-release_test name s = first_of (mode_test is_going s.mode ∷ staff_test s (release_answer (phase_in s) (hold_in s) name) ∷ [])
+release_test name s =
+    first_of (mode_test is_going s.mode ∷ staff_test s (release_answer (phase_in s) (hold_in s) name) ∷ [])
 
 -- TRANSFER: MODE, then STATE, OWNER, ELIGIBLE of the receiver
 abbrev pub transfer_test : Name → Option PersonDef → Subject → Option Refusal
-transfer_test name to s = first_of (mode_test is_going s.mode ∷ staff_test s (transfer_answer (phase_in s) (hold_in s) name (is_able to s)) ∷ [])
+transfer_test name to s =
+    first_of (mode_test is_going s.mode ∷ staff_test s (transfer_answer (phase_in s) (hold_in s) name (is_able to s))
+    ∷ [])
 
 -- TAKE: MODE, then STATE, ELIGIBLE
 abbrev pub taking_test : Subject → Option Refusal
@@ -245,7 +254,8 @@ taking_test s = first_of (mode_test is_active s.mode ∷ staff_test s (taking_an
 
 -- DONE: MODE, then STATE, OWNER or TAKE
 abbrev pub completing_test : Who → Subject → Option Refusal
-completing_test by s = first_of (mode_test is_active s.mode ∷ staff_test s (done_answer (phase_in s) (hold_in s) by) ∷ [])
+completing_test by s =
+    first_of (mode_test is_active s.mode ∷ staff_test s (done_answer (phase_in s) (hold_in s) by) ∷ [])
 
 -- FORCE: MODE, then STATE
 abbrev pub forcing_test : Subject → Option Refusal
@@ -253,7 +263,8 @@ forcing_test s = first_of (mode_test is_going s.mode ∷ open_test (phase_in s) 
 
 -- RESTART: MODE, then STATE
 abbrev pub restart_test : Subject → Option Refusal
-restart_test s = first_of (mode_test is_going s.mode ∷ unless (is_running (phase_in s)) (refused.State (phase_in s)) ∷ [])
+restart_test s =
+    first_of (mode_test is_going s.mode ∷ unless (is_running (phase_in s)) (refused.State (phase_in s)) ∷ [])
 
 -- ---- the tests of a command, in order
 
@@ -263,34 +274,46 @@ tests_on_item c people token test o = first_of (people ∷ item_test token o ∷
 
 -- the item is the one that the token names
 abbrev pub RefusesOnItem : Core → Option Refusal → List ℕ → (Subject → Option Refusal) → Option Refusal → Type 0
-RefusesOnItem c people token test refusal = (o : Option Subject) × IsNamed c token o × (refusal ≡ tests_on_item c people token test o)
+RefusesOnItem c people token test refusal =
+    (o : Option Subject) × IsNamed c token o × (refusal ≡ tests_on_item c people token test o)
 
 -- the first rule that a text breaks, with the line of its least place; it has none exactly where it is accepted
 abbrev pub IsRuleOf : Core → List ℕ → Option Refusal → Type 0
 IsRuleOf c text None = IsFaultless c.store.catalog.library text
-IsRuleOf c text (Some refusal) = (rule : ℕ) × (place : ℕ) × IsTextRefused c.store.catalog.library text rule place × (refusal ≡ refused.Rule rule (line_at text place))
+IsRuleOf c text (Some refusal) =
+    (rule : ℕ) × (place : ℕ) × IsTextRefused c.store.catalog.library text rule place
+    × (refusal ≡ refused.Rule rule (line_at text place))
 
 -- the first refusal of a command, or that it has none; of what makes no transaction nothing is told
 abbrev pub IsFirstRefusal : Core → Command → Option Refusal → Type 0
-IsFirstRefusal c (asked.Import text) refusal = (rule : Option Refusal) × IsRuleOf c text rule × (refusal ≡ first_of (rule ∷ full_test c ∷ []))
+IsFirstRefusal c (asked.Import text) refusal =
+    (rule : Option Refusal) × IsRuleOf c text rule × (refusal ≡ first_of (rule ∷ full_test c ∷ []))
 IsFirstRefusal c (asked.Start process starter key written) refusal =
-    refusal ≡ first_of (person_test c starter ∷ process_test c process ∷ input_test written (newest_of c process) ∷ full_test c ∷ number_test c ∷ [])
-IsFirstRefusal c (asked.Turn queue) refusal = refusal ≡ first_of (queue_test c queue ∷ message_test c queue ∷ full_test c ∷ [])
+    refusal ≡ first_of (person_test c starter ∷ process_test c process ∷ input_test written (newest_of c process)
+    ∷ full_test c ∷ number_test c ∷ [])
+IsFirstRefusal c (asked.Turn queue) refusal =
+    refusal ≡ first_of (queue_test c queue ∷ message_test c queue ∷ full_test c ∷ [])
 IsFirstRefusal c asked.Drain refusal = ⊥
-IsFirstRefusal c (asked.Claim token name) refusal = RefusesOnItem c (person_test c name) token (claim_test (person_of c name)) refusal
-IsFirstRefusal c (asked.Release token name) refusal = RefusesOnItem c (person_test c name) token (release_test name) refusal
+IsFirstRefusal c (asked.Claim token name) refusal =
+    RefusesOnItem c (person_test c name) token (claim_test (person_of c name)) refusal
+IsFirstRefusal c (asked.Release token name) refusal =
+    RefusesOnItem c (person_test c name) token (release_test name) refusal
 IsFirstRefusal c (asked.Transfer token from to) refusal =
-    RefusesOnItem c (first_of (person_test c from ∷ person_test c to ∷ [])) token (transfer_test from (person_of c to)) refusal
+    RefusesOnItem c (first_of (person_test c from ∷ person_test c to ∷ [])) token
+    (transfer_test from (person_of c to)) refusal
 IsFirstRefusal c (asked.Take token) refusal = RefusesOnItem c None token taking_test refusal
 IsFirstRefusal c (asked.Done token by outcome) refusal =
     RefusesOnItem c (who_test c by) token (λ s. first_of (completing_test by s ∷ outcome_test outcome s ∷ [])) refusal
-IsFirstRefusal c (asked.Force token outcome) refusal = RefusesOnItem c None token (λ s. first_of (forcing_test s ∷ outcome_test outcome s ∷ [])) refusal
+IsFirstRefusal c (asked.Force token outcome) refusal =
+    RefusesOnItem c None token (λ s. first_of (forcing_test s ∷ outcome_test outcome s ∷ [])) refusal
 IsFirstRefusal c (asked.Restart token) refusal = RefusesOnItem c None token restart_test refusal
 IsFirstRefusal c (asked.Suspend root) refusal = refusal ≡ first_of (root_test c is_active root ∷ full_test c ∷ [])
 IsFirstRefusal c (asked.Resume root) refusal = refusal ≡ first_of (root_test c is_suspended root ∷ full_test c ∷ [])
 IsFirstRefusal c (asked.Terminate root) refusal = refusal ≡ first_of (root_test c is_going root ∷ full_test c ∷ [])
-IsFirstRefusal c (asked.Delete root) refusal = refusal ≡ first_of (root_test c is_over root ∷ queued_test c root ∷ full_test c ∷ [])
-IsFirstRefusal c (asked.Clock number) refusal = refusal ≡ first_of (minutes_test number ∷ clock_test c number.size ∷ full_test c ∷ [])
+IsFirstRefusal c (asked.Delete root) refusal =
+    refusal ≡ first_of (root_test c is_over root ∷ queued_test c root ∷ full_test c ∷ [])
+IsFirstRefusal c (asked.Clock number) refusal =
+    refusal ≡ first_of (minutes_test number ∷ clock_test c number.size ∷ full_test c ∷ [])
 IsFirstRefusal c asked.Checkpoint refusal = ⊥
 IsFirstRefusal c (asked.Ask query) refusal = ⊥
 

@@ -8,9 +8,12 @@ use Rattle.reply_text.specs.Replies.{fate_text, phase_text, mode_text}
 use Rattle.audit_trail.specs.Lines.{message_text}
 use Rattle.flow_core.specs.declared.applying.Applied.{Applied}
 use Rattle.flow_core.specs.declared.applying.Note.{Note}
-use Rattle.flow_core.specs.declared.applying.Note.TheVariants.{Imported, Rooted, Turned, Fated, Taken, Moded, Deleted, Clocked}
+use Rattle.flow_core.specs.declared.applying.Note.TheVariants.{Imported, Rooted, Turned, Fated, Taken, Moded, Deleted}
+use Rattle.flow_core.specs.declared.applying.Note.TheVariants.{Clocked}
 use Rattle.flow_core.specs.declared.refusals.Refusal.{Refusal}
-use Rattle.flow_core.specs.declared.refusals.Refusal.TheVariants.{Rule, Person, Process, Root, Item, Queue, Mode, State, Owner, Take, Eligible, Value, Empty, Queued, Clock, Full}
+use Rattle.flow_core.specs.declared.refusals.Refusal.TheVariants.{Rule, Person, Process, Root, Item, Queue, Mode, State}
+use Rattle.flow_core.specs.declared.refusals.Refusal.TheVariants.{Owner, Take, Eligible, Value, Empty, Queued, Clock}
+use Rattle.flow_core.specs.declared.refusals.Refusal.TheVariants.{Full}
 
 -- what the reply of a transaction says behind its number
 abbrev pub note_text : Note → List ℕ

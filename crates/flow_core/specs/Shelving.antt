@@ -1,5 +1,7 @@
--- What the worklists list: manual items as they stand, where each stands in show order, and what each transaction lists anew or takes off.
-use Rattle.std.specs.Prelude.{◌≡◌, ℕ, true, false, if◌then◌else◌, Option, Some, None, option_map, option_and_then, unwrap_or, List, [], ◌∷◌, ◌++◌, bytes_eq, fold}
+-- What the worklists list: manual items as they stand, where each stands in show order, and what each transaction lists
+-- anew or takes off.
+use Rattle.std.specs.Prelude.{◌≡◌, ℕ, true, false, if◌then◌else◌, Option, Some, None, option_map, option_and_then}
+use Rattle.std.specs.Prelude.{unwrap_or, List, [], ◌∷◌, ◌++◌, bytes_eq, fold}
 use Rattle.activity_states.specs.States.{hold_of}
 use Rattle.activity_states.specs.declared.states.Completed.{Completed}
 use Rattle.containers.specs.Settings.{filled}
@@ -17,7 +19,9 @@ use Rattle.flow_model.specs.declared.instances.Who.TheVariants as who
 use Rattle.flow_model.specs.declared.names.Name.{Name}
 use Rattle.flow_model.specs.declared.transactions.Setting.{Setting}
 use Rattle.flow_model.specs.declared.transactions.Transaction.{Transaction}
-use Rattle.flow_model.specs.declared.transactions.Transaction.TheVariants.{Import, Start, Turn, Claim, Release, Transfer, Take, Done, Force, Restart, Suspend, Resume, Terminate, Delete, Clock}
+use Rattle.flow_model.specs.declared.transactions.Transaction.TheVariants.{Import, Start, Turn, Claim, Release}
+use Rattle.flow_model.specs.declared.transactions.Transaction.TheVariants.{Transfer, Take, Done, Force, Restart}
+use Rattle.flow_model.specs.declared.transactions.Transaction.TheVariants.{Suspend, Resume, Terminate, Delete, Clock}
 use Rattle.navigator.specs.Events.{Happens, Takes, Completes}
 use Rattle.navigator.specs.Items.{Entry}
 use Rattle.navigator.specs.Reading.{place_of}
@@ -29,7 +33,9 @@ use Rattle.staff_worklists.specs.Standing.{item_in, listed_at, begins_with}
 use Rattle.staff_worklists.specs.declared.worklists.Listed.{Listed}
 use Rattle.flow_core.specs.Allowing.{performer_for}
 use Rattle.flow_core.specs.Answers.{instance_of}
-use Rattle.flow_core.specs.Driving.{templates, graph_now, item_of, program_in}
+use Rattle.flow_core.specs.Driving.{templates, graph_now, item_of, program_in, ChangesRoot, IfLive, put_in, queue_now}
+use Rattle.flow_core.specs.Driving.{taken_by, IfNewest, RunsAt}
+use Rattle.root_laws.specs.Becoming.{TakesIn, CompletesIn}
 use Rattle.flow_core.specs.OpenItems.{starter_of}
 use Rattle.flow_core.specs.declared.state.Core.{Core}
 
@@ -46,7 +52,8 @@ if_manual line = if line.program.manual then Some line else None
 -- the item of a path as a line, where it is there and manual
 abbrev pub line_now : Core → Path → Option ItemLine
 line_now c path =
-    option_and_then (λ e. option_and_then (λ p. option_and_then (λ starter. if_manual (line_by e p starter)) (starter_of c path.root)) (program_in e.activity.work)) (item_of c path)
+    option_and_then (λ e. option_and_then (λ p. option_and_then (λ starter. if_manual (line_by e p starter))
+    (starter_of c path.root)) (program_in e.activity.work)) (item_of c path)
 
 -- ---- where it stands in show order
 
@@ -58,7 +65,8 @@ ranked attempt behind (Some a) = a ∷ attempt ∷ behind a
 -- the place and the attempt of each part, as far as their names lead
 abbrev pub rank_on : List Template → List Part → Graph → List ℕ
 rank_on ts [] g = []
-rank_on ts (q ∷ p) g = ranked q.attempt (λ a. rank_on ts p (unwrap_or (graph_under ts g (Some a)) g)) (place_of g q.name)
+rank_on ts (q ∷ p) g =
+    ranked q.attempt (λ a. rank_on ts p (unwrap_or (graph_under ts g (Some a)) g)) (place_of g q.name)
 
 -- the rank of a path: its root, then that of its parts
 abbrev pub rank_now : Core → Path → Option (List ℕ)
@@ -78,7 +86,9 @@ SameStanding v w = (name rank : List ℕ) → v name rank ≡ w name rank
 
 -- a line of this rank stands on the shelf that it asks for, and on no other
 abbrev pub with_line : Path → ItemLine → List ℕ → Standing → Standing
-with_line path line own w name rank = if bytes_eq own rank then listed_at (shelf_for line) name (record { item = path; held = is_held line.hold }) else w name rank
+with_line path line own w name rank =
+    if bytes_eq own rank then listed_at (shelf_for line) name
+    (record { item = path; held = is_held line.hold }) else w name rank
 
 -- nothing of this rank stands on any shelf
 abbrev pub without_rank : List ℕ → Standing → Standing
@@ -112,40 +122,92 @@ unlisted c path w = unlisted_at (rank_now c path) w
 -- ---- which items a transaction makes ready
 
 -- a root takes a message: these items came to be ready; a root that is terminated stays as it is
-pub record MakesReady (ts : List Template) (clock : ℕ) (message : Message) (items : List Path) (i i' : Instance) : Type 0 where
+pub record MakesReady (ts : List Template) (clock : ℕ) (message : Message) (items : List Path)
+    (i i' : Instance) : Type 0 where
   pub idle : i.terminated ≡ true → (i' ≡ i) × (items ≡ [])
-  pub takes : i.terminated ≡ false → (given : List Message) × ((g : Graph) → graph_of ts i.template ≡ Some g → Takes ts clock message g i.scope i'.scope given items)
+  pub takes : i.terminated ≡ false → (given : List Message)
+      × ((g : Graph) → graph_of ts i.template ≡ Some g → Takes ts clock message g i.scope i'.scope given items)
 
 -- an item of it is completed so: these items came to be ready
-pub record CompletesReady (ts : List Template) (clock : ℕ) (item : Path) (completed : Completed) (items : List Path) (i i' : Instance) : Type 0 where
+pub record CompletesReady (ts : List Template) (clock : ℕ) (item : Path) (completed : Completed) (items : List Path)
+    (i i' : Instance) : Type 0 where
   pub given : List Message
-  pub completes : (g : Graph) → graph_of ts i.template ≡ Some g → (parts : List Part) (q : Part) → item.parts ≡ parts ++ q ∷ []
-      → Happens ts (record { root = item.root; parts = parts }) clock (Completes q.name completed) g i.scope i'.scope given items
+  pub completes : (g : Graph) → graph_of ts i.template ≡ Some g
+      → (parts : List Part) (q : Part) → item.parts ≡ parts ++ q ∷ []
+      → Happens ts (record { root = item.root; parts = parts }) clock (Completes q.name completed)
+      g i.scope i'.scope given items
 
 -- where the root is live; where it isn't, none did
-abbrev pub IfRootLive : (List Path → Instance → Instance → Type 0) → List Path → Option Instance → Option Instance → Type 0
+abbrev pub IfRootLive : (List Path → Instance → Instance → Type 0) → List Path → Option Instance → Option Instance
+    → Type 0
 IfRootLive becomes items None after = (after ≡ None) × (items ≡ [])
 IfRootLive becomes items (Some i) None = ⊥
 IfRootLive becomes items (Some i) (Some i') = becomes items i i'
+
+-- ---- what a turn and a completion do, with one list of the messages that follow
+--
+-- Driving says what a turn puts on the queues, and the clauses above say which items came to be ready, each with a list
+-- of its own. Here both speak of the same messages and the same items, so that they determine the next state.
+
+-- a root that isn't terminated takes a message: these messages follow, and these items come to be ready
+pub record TakesGiving (ts : List Template) (clock : ℕ) (message : Message) (given : List Message) (items : List Path)
+    (i i' : Instance) : Type 0 where
+  pub takes : i.terminated ≡ false → (g : Graph) → graph_of ts i.template ≡ Some g
+      → Takes ts clock message g i.scope i'.scope given items
+
+-- an item of a root is completed: these messages follow, and these items come to be ready
+pub record CompletesGiving (ts : List Template) (clock : ℕ) (item : Path) (completed : Completed)
+    (given : List Message) (items : List Path) (i i' : Instance) : Type 0 where
+  pub completes : (g : Graph) → graph_of ts i.template ≡ Some g
+      → (parts : List Part) (q : Part) → item.parts ≡ parts ++ q ∷ []
+      → Happens ts (record { root = item.root; parts = parts }) clock (Completes q.name completed)
+      g i.scope i'.scope given items
+
+-- a root that is live before and after has changed so
+abbrev pub WhereLive : (Instance → Instance → Type 0) → Option Instance → Option Instance → Type 0
+WhereLive becomes None after = Unit {0}
+WhereLive becomes (Some i) None = Unit {0}
+WhereLive becomes (Some i) (Some i') = becomes i i'
+
+-- a turn of a queue: the messages that follow from it are the ones that are put
+pub record ExactTurn (c : Core) (number : ℕ) (message : Message) (c' : Core) : Type 0 where
+  pub given : List Message
+  pub items : List Path
+  pub roots : ChangesRoot (root_of message) (IfLive (TakesIn (templates c) message given) given) c c'
+  pub takes : WhereLive (TakesGiving (templates c) c.clock message given items) (instance_of c (root_of message))
+      (instance_of c' (root_of message))
+  pub queues : c'.queues ≡ put_in (queue_now c') given (taken_by (Turn number message) c.queues)
+
+-- a completion of an item that is there: the messages that follow from it are the ones that are put
+pub record ExactCompletion (c : Core) (item : Path) (completed : Completed) (c' : Core) : Type 0 where
+  pub given : List Message
+  pub items : List Path
+  pub roots : ChangesRoot item.root (IfLive (CompletesIn (templates c) item completed.output given) given) c c'
+  pub completes : WhereLive (CompletesGiving (templates c) c.clock item completed given items)
+      (instance_of c item.root) (instance_of c' item.root)
+  pub queues : c'.queues ≡ put_in (queue_now c') given c.queues
 
 -- ---- what a transaction does to the shelves
 
 -- a turn lists the items that it made ready, as they stand after it
 pub record TurnShelves (c : Core) (message : Message) (c' : Core) : Type 0 where
   pub items : List Path
-  pub ready : IfRootLive (MakesReady (templates c) c.clock message) items (instance_of c (root_of message)) (instance_of c' (root_of message))
+  pub ready : IfRootLive (MakesReady (templates c) c.clock message) items (instance_of c (root_of message))
+      (instance_of c' (root_of message))
   pub stand : SameStanding (stands c') (all_listed c' items (stands c))
 
 -- a completion takes its item off, and lists those that it made ready
 pub record CompletionShelves (c : Core) (item : Path) (completed : Completed) (c' : Core) : Type 0 where
   pub items : List Path
-  pub ready : IfRootLive (CompletesReady (templates c) c.clock item completed) items (instance_of c item.root) (instance_of c' item.root)
+  pub ready : IfRootLive (CompletesReady (templates c) c.clock item completed) items (instance_of c item.root)
+      (instance_of c' item.root)
   pub stand : SameStanding (stands c') (all_listed c' items (unlisted c item (stands c)))
 
 -- so where the item is there; else nothing changes
 abbrev pub CompletesShelves : Core → Path → Option Name → List Setting → Option Entry → Core → Type 0
 CompletesShelves c item performer settings None c' = SameStanding (stands c') (stands c)
-CompletesShelves c item performer settings (Some e) c' = CompletionShelves c item (record { output = filled settings (fresh e.activity.output); performer = performer }) c'
+CompletesShelves c item performer settings (Some e) c' =
+    CompletionShelves c item (record { output = filled settings (fresh e.activity.output); performer = performer }) c'
 
 -- a change of a hold lists its item anew
 abbrev pub HoldShelves : Core → Path → Core → Type 0
@@ -173,3 +235,25 @@ Shelves c (Suspend root) c' = SameStanding (stands c') (stands c)
 Shelves c (Resume root) c' = SameStanding (stands c') (stands c)
 Shelves c (Delete root) c' = SameStanding (stands c') (stands c)
 Shelves c (Clock minutes) c' = SameStanding (stands c') (stands c)
+
+-- ---- a transaction, exactly
+
+-- a completion changes its root so where the item is there
+abbrev pub CompletesExactly : Core → Path → Option Name → List Setting → Option Entry → Core → Type 0
+CompletesExactly c item performer settings None c' = Unit {0}
+CompletesExactly c item performer settings (Some e) c' =
+    ExactCompletion c item (record { output = filled settings (fresh e.activity.output); performer = performer }) c'
+
+-- a Start runs the newest template of its name, where that has the version of the Start
+abbrev pub StartsNewest : Core → ℕ → Name → ℕ → Core → Type 0
+StartsNewest c root process version c' =
+    IfNewest c.store.catalog process version (λ place. RunsAt place (instance_of c' root))
+
+-- the transactions whose next state needs more than Drives and Shelves: what follows from a Turn or a completion is
+-- what is put, and a Start takes the newest template
+abbrev pub IsExact : Core → Transaction → Core → Type 0
+IsExact c (Start root process version starter key settings) c' = StartsNewest c root process version c'
+IsExact c (Turn number message) c' = ExactTurn c number message c'
+IsExact c (Done item who settings) c' = CompletesExactly c item (performer_named who) settings (item_of c item) c'
+IsExact c (Force item settings) c' = CompletesExactly c item None settings (item_of c item) c'
+IsExact c t c' = Unit {0}

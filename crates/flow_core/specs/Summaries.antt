@@ -1,13 +1,17 @@
 -- What a history comes to, as far as a store keeps it: its counts, and its live transactions under their numbers.
-use Rattle.std.specs.Prelude.{◌≡◌, ◌⊎◌, ℕ, ◌+◌, ◌<◌, ◌≤◌, ◌==◌, max, nat_le, Bool, false, not, if◌then◌else◌, Option, Some, None, List, [], ◌∷◌, ◌++◌, length, unwrap_or}
+use Rattle.std.specs.Prelude.{◌≡◌, ◌⊎◌, ℕ, ◌+◌, ◌<◌, ◌≤◌, ◌==◌, max, nat_le, Bool, false, not, if◌then◌else◌, Option}
+use Rattle.std.specs.Prelude.{Some, None, List, [], ◌∷◌, ◌++◌, length, unwrap_or}
 use Rattle.std.specs.List.{filter}
 use Rattle.flow_model.specs.declared.transactions.Transaction.{Transaction}
-use Rattle.flow_model.specs.declared.transactions.Transaction.TheVariants.{Import, Start, Turn, Claim, Release, Transfer, Take, Done, Force, Restart, Suspend, Resume, Terminate, Delete, Clock}
+use Rattle.flow_model.specs.declared.transactions.Transaction.TheVariants.{Import, Start, Turn, Claim, Release}
+use Rattle.flow_model.specs.declared.transactions.Transaction.TheVariants.{Transfer, Take, Done, Force, Restart}
+use Rattle.flow_model.specs.declared.transactions.Transaction.TheVariants.{Suspend, Resume, Terminate, Delete, Clock}
 use Rattle.flow_model.specs.declared.transactions.Numbered.{Numbered}
 use Rattle.recover_queue.specs.Queues.{root_of as root_of_message}
 use Rattle.flow_core.specs.declared.state.Core.{Core}
 
--- how many queues there are, how many transactions there may be, how many there and how many roots there were so far, and the transactions that are live
+-- how many queues there are, how many transactions there may be, how many there and how many roots there were so far,
+-- and the transactions that are live
 pub record Summary : Type 0 where
   pub queues : ℕ
   pub limit : ℕ
@@ -17,7 +21,13 @@ pub record Summary : Type 0 where
 
 -- the summary that a state keeps
 abbrev pub summary : Core → Summary
-summary c = record { queues = length c.queues; limit = c.limit; transactions = c.number; roots = c.roots; live = c.live.items }
+summary c = record {
+  queues = length c.queues;
+  limit = c.limit;
+  transactions = c.number;
+  roots = c.roots;
+  live = c.live.items;
+}
 
 -- the same, with the number up to which records are kept ones, and the last root of those
 abbrev pub noted : Core → ℕ × ℕ × Summary
@@ -59,7 +69,8 @@ started t = None
 abbrev pub without_root : ℕ → List Numbered → List Numbered
 without_root root live = filter (λ n. not (is_root root (root_about n.transaction))) live
 
--- the live transactions after one more: a Delete takes those about its root away and isn't live itself, every other one stays
+-- the live transactions after one more: a Delete takes those about its root away and isn't live itself, every other one
+-- stays
 abbrev pub live_by : Option ℕ → ℕ → Transaction → List Numbered → List Numbered
 live_by None number t live = live ++ record { number = number; transaction = t } ∷ []
 live_by (Some root) number t live = without_root root live
@@ -77,11 +88,23 @@ roots_after t roots = roots_by (started t) roots
 
 -- a summary that counts the root of a transaction
 abbrev pub with_root_of : Transaction → Summary → Summary
-with_root_of t s = record { queues = s.queues; limit = s.limit; transactions = s.transactions; roots = roots_after t s.roots; live = s.live }
+with_root_of t s = record {
+  queues = s.queues;
+  limit = s.limit;
+  transactions = s.transactions;
+  roots = roots_after t s.roots;
+  live = s.live;
+}
 
 -- a summary with these live transactions
 abbrev pub with_live : List Numbered → Summary → Summary
-with_live live s = record { queues = s.queues; limit = s.limit; transactions = s.transactions; roots = s.roots; live = live }
+with_live live s = record {
+  queues = s.queues;
+  limit = s.limit;
+  transactions = s.transactions;
+  roots = s.roots;
+  live = live;
+}
 
 -- a summary without the transactions about a root
 abbrev pub without : ℕ → Summary → Summary
@@ -107,7 +130,13 @@ next t s = with_transaction (s.transactions + 1) (s.transactions + 1) t s
 
 -- a summary that counts the number of a record, where it isn't one that was kept
 abbrev pub counted : ℕ → ℕ → Summary → Summary
-counted kept number s = record { queues = s.queues; limit = s.limit; transactions = if nat_le number kept then s.transactions else number; roots = s.roots; live = s.live }
+counted kept number s = record {
+  queues = s.queues;
+  limit = s.limit;
+  transactions = if nat_le number kept then s.transactions else number;
+  roots = s.roots;
+  live = s.live;
+}
 
 -- the last root of the kept records after one more record
 abbrev pub last_kept : ℕ → Numbered → ℕ → ℕ
@@ -120,7 +149,8 @@ taken_up kept n s = with_transaction (counted kept n.number s).transactions n.nu
 -- a record may stand there: one that was kept is no Delete and counts no root, each other one is the next transaction
 abbrev pub Follows : ℕ → Summary → Numbered → Type 0
 Follows kept s n =
-    ((n.number ≤ kept) × (kept ≡ s.transactions) × (deleted n.transaction ≡ None) × (roots_after n.transaction s.roots ≡ s.roots))
+    ((n.number ≤ kept) × (kept ≡ s.transactions) × (deleted n.transaction ≡ None)
+    × (roots_after n.transaction s.roots ≡ s.roots))
     ⊎ ((kept < n.number) × (n.number ≡ s.transactions + 1))
 
 -- the summary after these records, in order

@@ -5,7 +5,9 @@ use Rattle.activity_states.specs.States.{next_take, fate_of}
 use Rattle.containers.specs.Settings.{outcome_by}
 use Rattle.flow_model.specs.Paths.{Spells}
 use Rattle.flow_model.specs.declared.commands.Command.{Command}
-use Rattle.flow_model.specs.declared.commands.Command.TheVariants.{Import, Start, Turn, Drain, Claim, Release, Transfer, Take, Done, Force, Restart, Suspend, Resume, Terminate, Delete, Clock, Checkpoint, Ask}
+use Rattle.flow_model.specs.declared.commands.Command.TheVariants.{Import, Start, Turn, Drain, Claim, Release, Transfer}
+use Rattle.flow_model.specs.declared.commands.Command.TheVariants.{Take, Done, Force, Restart, Suspend, Resume}
+use Rattle.flow_model.specs.declared.commands.Command.TheVariants.{Terminate, Delete, Clock, Checkpoint, Ask}
 use Rattle.flow_model.specs.declared.commands.Outcome.{Outcome}
 use Rattle.flow_model.specs.declared.commands.RawSetting.{RawSetting}
 use Rattle.flow_model.specs.declared.graphs.Graph.{out-Graph}
@@ -31,8 +33,10 @@ use Rattle.flow_core.specs.declared.state.Core.{Core}
 abbrev pub next_root : Core → ℕ
 next_root c = c.roots + 1
 
--- what a START takes from the library: the newest version of its process, and the settings that are written for its input
-pub record IsNewestFor (c : Core) (process : Name) (written : List RawSetting) (version : ℕ) (settings : List Setting) : Type 0 where
+-- what a START takes from the library: the newest version of its process, and the settings that are written for its
+-- input
+pub record IsNewestFor (c : Core) (process : Name) (written : List RawSetting) (version : ℕ)
+    (settings : List Setting) : Type 0 where
   pub template : Template
   pub newest : newest_of c process ≡ Some template
   pub number : template.version ≡ version
@@ -54,17 +58,21 @@ pub record IsNextTake (c : Core) (path : Path) (take : ℕ) : Type 0 where
 abbrev pub IsFor : Core → Command → Transaction → Type 0
 IsFor c (Import text) t = t ≡ made.Import text
 IsFor c (Start process starter key written) t =
-    (version : ℕ) × (settings : List Setting) × (IsInOrder c → IsNewestFor c process written version settings) × (t ≡ made.Start (next_root c) process version starter key settings)
+    (version : ℕ) × (settings : List Setting) × (IsInOrder c → IsNewestFor c process written version settings)
+    × (t ≡ made.Start (next_root c) process version starter key settings)
 IsFor c (Turn queue) t = (message : Message) × IsFront c queue message × (t ≡ made.Turn queue message)
 IsFor c Drain t = ⊥
 IsFor c (Claim token who) t = (path : Path) × Spells (between token) path × (t ≡ made.Claim path who)
 IsFor c (Release token who) t = (path : Path) × Spells (between token) path × (t ≡ made.Release path who)
 IsFor c (Transfer token who to) t = (path : Path) × Spells (between token) path × (t ≡ made.Transfer path who to)
-IsFor c (Take token) t = (path : Path) × (take : ℕ) × Spells (between token) path × IsNextTake c path take × (t ≡ made.Take path take)
+IsFor c (Take token) t =
+    (path : Path) × (take : ℕ) × Spells (between token) path × IsNextTake c path take × (t ≡ made.Take path take)
 IsFor c (Done token who outcome) t =
-    (path : Path) × (settings : List Setting) × Spells (between token) path × IsSetFor c path outcome settings × (t ≡ made.Done path who settings)
+    (path : Path) × (settings : List Setting) × Spells (between token) path × IsSetFor c path outcome settings
+    × (t ≡ made.Done path who settings)
 IsFor c (Force token outcome) t =
-    (path : Path) × (settings : List Setting) × Spells (between token) path × IsSetFor c path outcome settings × (t ≡ made.Force path settings)
+    (path : Path) × (settings : List Setting) × Spells (between token) path × IsSetFor c path outcome settings
+    × (t ≡ made.Force path settings)
 IsFor c (Restart token) t = (path : Path) × Spells (between token) path × (t ≡ made.Restart path)
 IsFor c (Suspend root) t = t ≡ made.Suspend root
 IsFor c (Resume root) t = t ≡ made.Resume root
@@ -78,7 +86,8 @@ IsFor c (Ask query) t = ⊥
 abbrev pub fate_now : Core → Path → Fate
 fate_now c item = option_map_or (λ e. fate_of e.state) (item_of c item) fate.Waiting
 
--- what a reply names, by the states before and after its transaction: the number of processes that an Import adds, the message
+-- what a reply names, by the states before and after its transaction: the number of processes that an Import adds, the
+-- message
 -- that a Turn takes, the take number of a Take, the fate that the activity of an item has then, the mode
 abbrev pub IsNoteOf : Core → Transaction → Core → Note → Type 0
 IsNoteOf c (made.Import text) c' n = n ≡ note.Imported (min (length (templates c') - length (templates c)) (2 ^ 32 - 1))

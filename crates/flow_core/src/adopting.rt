@@ -1,14 +1,19 @@
 //! Records of a store: which are allowed, and the state after them.
-ghost use Rattle.std.specs.Prelude.{◌≡◌, ◌⊎◌, ◌↔◌, None, Option, OnOk, IfOk, IfErr, IfSome, IsTrue, IsFalse, is_none, option_copied};
-ghost use Rattle.flow_core.specs.Admitting.{IsAdmitted, IsRefused, IsTold, IsDue, IsDueAt, IsItemDue, IsStartDue, IsKeptNumber, IsNextNumber, IsKeptKind, IsNextKind, IsPlace, root_with as keyed_root};
-ghost use Rattle.flow_core.specs.Allowing.{subject_of, IsKnown, IsOpen, IsFree, CountsRoot, IsAsked, IsAskedAt, IsAllowed, IsPassed};
+ghost use Rattle.std.specs.Prelude.{◌≡◌, ◌⊎◌, ◌↔◌, None, Option, OnOk, IfOk, IfErr, IfSome, IsTrue, IsFalse, is_none};
+ghost use Rattle.std.specs.Prelude.{option_copied};
+ghost use Rattle.flow_core.specs.Admitting.{IsAdmitted, IsRefused, IsTold, IsDue, IsDueAt, IsItemDue, IsStartDue};
+ghost use Rattle.flow_core.specs.Admitting.{IsKeptNumber, IsNextNumber, IsKeptKind, IsNextKind, IsPlace};
+ghost use Rattle.flow_core.specs.Admitting.{root_with as keyed_root};
+ghost use Rattle.flow_core.specs.Allowing.{subject_of, IsKnown, IsOpen, IsFree, CountsRoot, IsAsked, IsAskedAt};
+ghost use Rattle.flow_core.specs.Allowing.{IsAllowed, IsPassed};
 ghost use Rattle.flow_core.specs.Refusals.{person_test, who_test, IsInOrder, IsRuleOf, StopsBy};
 ghost use Rattle.flow_core.specs.declared.refusals.Refusal.{Refusal as RefusalOf};
 ghost use Rattle.flow_model.specs.declared.transactions.Transaction.TheVariants as made;
 ghost use Rattle.flow_model.specs.declared.instances.Path.{Path as PathOf};
-ghost use Rattle.flow_core.specs.Driving.{Drives};
-ghost use Rattle.flow_core.specs.Shelving.{Shelves};
-ghost use Rattle.flow_core.specs.Summaries.{summary, taken_up, counted, last_kept, Follows, deleted, started, roots_after};
+ghost use Rattle.flow_core.specs.Driving.{StoreAfter, clock_after, Drives};
+ghost use Rattle.flow_core.specs.Shelving.{IsExact, Shelves};
+ghost use Rattle.flow_core.specs.Summaries.{summary, taken_up, counted, last_kept, Follows, deleted, started};
+ghost use Rattle.flow_core.specs.Summaries.{roots_after};
 ghost use Rattle.flow_core.specs.Verdicts.{IsFront};
 ghost use Rattle.flow_core.specs.declared.adopting.AdoptFault.TheVariants.{NoMemory, NotAllowed};
 
@@ -45,7 +50,8 @@ impl From<AllocError> for AdoptFault {
 /// A test of a command, as a test of its record.
 fn passes(test: Result<(), Stop>) -> Result<bool, AllocError>
     ensures passed { IfOk result (λ passed. IsTrue passed → IsPassed test) }
-    ensures told { (refusal : Option RefusalOf) → StopsBy refusal test → IfOk result (λ passed. IsTrue passed ↔ (refusal ≡ None)) }
+    ensures told { (refusal : Option RefusalOf) → StopsBy refusal test
+        → IfOk result (λ passed. IsTrue passed ↔ (refusal ≡ None)) }
 {
     match test {
         Ok(()) => Ok(true),
@@ -56,7 +62,8 @@ fn passes(test: Result<(), Stop>) -> Result<bool, AllocError>
 
 impl Core {
     fn allows_import(&self, text: &[u8]) -> Result<bool, AllocError>
-        ensures { IsInOrder self.now → IfOk result (λ allowed. (rule : Option RefusalOf) × IsRuleOf self.now text.now rule × (allowed ≡ is_none rule)) }
+        ensures { IsInOrder self.now → IfOk result (λ allowed. (rule : Option RefusalOf)
+            × IsRuleOf self.now text.now rule × (allowed ≡ is_none rule)) }
     {
         match self.store.check(self.alloc, text) {
             Ok(_) => Ok(true),
@@ -74,7 +81,8 @@ impl Core {
         key: Option<&Name>,
         settings: &[Setting],
     ) -> bool
-        ensures { IsInOrder self.now → IsTrue result ↔ IsStartDue self.now process.now version starter.now (option_copied key.entry) settings.now }
+        ensures { IsInOrder self.now → IsTrue result ↔ IsStartDue self.now process.now version starter.now
+            (option_copied key.entry) settings.now }
     {
         let Some(template) = self.newest(process) else {
             return false;
@@ -128,7 +136,9 @@ impl Core {
     }
 
     fn allows_claim(&self, known: &Known<'_>, who: &Name) -> Result<bool, AllocError>
-        ensures { (item : PathOf) → IsInOrder self.now → IfOk result (λ allowed. IsTrue allowed ↔ IsDueAt self.now (subject_of known.now) (made.Claim item who.now)) }
+        ensures { (item : PathOf) → IsInOrder self.now
+            → IfOk result (λ allowed. IsTrue allowed ↔ IsDueAt self.now (subject_of known.now)
+            (made.Claim item who.now)) }
     {
         match self.store.person(who) {
             None => Ok(false),
@@ -137,7 +147,9 @@ impl Core {
     }
 
     fn allows_transfer(&self, known: &Known<'_>, from: &Name, to: &Name) -> Result<bool, AllocError>
-        ensures { (item : PathOf) → IsInOrder self.now → IfOk result (λ allowed. IsTrue allowed ↔ IsDueAt self.now (subject_of known.now) (made.Transfer item from.now to.now)) }
+        ensures { (item : PathOf) → IsInOrder self.now
+            → IfOk result (λ allowed. IsTrue allowed ↔ IsDueAt self.now (subject_of known.now)
+            (made.Transfer item from.now to.now)) }
     {
         if !self.is_person(from) {
             return Ok(false);
@@ -149,7 +161,9 @@ impl Core {
     }
 
     fn allows_release(&self, known: &Known<'_>, who: &Name) -> Result<bool, AllocError>
-        ensures { (item : PathOf) → IsInOrder self.now → IfOk result (λ allowed. IsTrue allowed ↔ IsDueAt self.now (subject_of known.now) (made.Release item who.now)) }
+        ensures { (item : PathOf) → IsInOrder self.now
+            → IfOk result (λ allowed. IsTrue allowed ↔ IsDueAt self.now (subject_of known.now)
+            (made.Release item who.now)) }
     {
         if !self.is_person(who) {
             return Ok(false);
@@ -158,7 +172,8 @@ impl Core {
     }
 
     fn allows_take(&self, known: &Known<'_>, take: u64) -> Result<bool, AllocError>
-        ensures { (item : PathOf) → IfOk result (λ allowed. IsTrue allowed ↔ IsDueAt self.now (subject_of known.now) (made.Take item take)) }
+        ensures { (item : PathOf) → IfOk result (λ allowed. IsTrue allowed ↔ IsDueAt self.now (subject_of known.now)
+            (made.Take item take)) }
     {
         if known.item.state.next_take() != take {
             return Ok(false);
@@ -182,8 +197,11 @@ impl Core {
         who: &Who,
         settings: &[Setting],
     ) -> Result<bool, AllocError>
-        ensures opened { (item : PathOf) → IsKnown self.now item known.now → IfOk result (λ allowed. IsTrue allowed → IsOpen self.now item) }
-        ensures due { (item : PathOf) → IsInOrder self.now → IfOk result (λ allowed. IsTrue allowed ↔ IsDueAt self.now (subject_of known.now) (made.Done item who.now settings.now)) }
+        ensures opened { (item : PathOf) → IsKnown self.now item known.now
+            → IfOk result (λ allowed. IsTrue allowed → IsOpen self.now item) }
+        ensures due { (item : PathOf) → IsInOrder self.now
+            → IfOk result (λ allowed. IsTrue allowed ↔ IsDueAt self.now (subject_of known.now)
+            (made.Done item who.now settings.now)) }
     {
         if !self.is_declared(who) {
             return Ok(false);
@@ -195,8 +213,10 @@ impl Core {
     }
 
     fn allows_force(&self, known: &Known<'_>, settings: &[Setting]) -> Result<bool, AllocError>
-        ensures opened { (item : PathOf) → IsKnown self.now item known.now → IfOk result (λ allowed. IsTrue allowed → IsOpen self.now item) }
-        ensures due { (item : PathOf) → IfOk result (λ allowed. IsTrue allowed ↔ IsDueAt self.now (subject_of known.now) (made.Force item settings.now)) }
+        ensures opened { (item : PathOf) → IsKnown self.now item known.now
+            → IfOk result (λ allowed. IsTrue allowed → IsOpen self.now item) }
+        ensures due { (item : PathOf) → IfOk result (λ allowed. IsTrue allowed ↔ IsDueAt self.now
+            (subject_of known.now) (made.Force item settings.now)) }
     {
         if !settings_fit(&known.item.activity.output, settings) {
             return Ok(false);
@@ -206,8 +226,10 @@ impl Core {
 
     /// Whether a record on an item is allowed, where its item is there.
     fn allows_on(&self, known: &Known<'_>, t: &Transaction) -> Result<bool, AllocError>
-        ensures asked { (item : PathOf) → IsKnown self.now item known.now → IfOk result (λ allowed. IsTrue allowed → IsAskedAt self.now item t.now) }
-        ensures due { IsInOrder self.now → IfOk result (λ allowed. IsTrue allowed ↔ IsDueAt self.now (subject_of known.now) t.now) }
+        ensures asked { (item : PathOf) → IsKnown self.now item known.now
+            → IfOk result (λ allowed. IsTrue allowed → IsAskedAt self.now item t.now) }
+        ensures due { IsInOrder self.now → IfOk result (λ allowed. IsTrue allowed ↔ IsDueAt self.now
+            (subject_of known.now) t.now) }
     {
         match t {
             Transaction::Claim(_, who) => self.allows_claim(known, who),
@@ -311,7 +333,10 @@ impl Core {
 
     /// Whether a record may stand under its number.
     fn allows_place(&self, number: u64, t: &Transaction) -> bool
-        ensures follows { IsTrue result → Follows self.now.kept (summary self.now) (record { number = number; transaction = t.now }) }
+        ensures follows { IsTrue result → Follows self.now.kept (summary self.now) (record {
+          number = number;
+          transaction = t.now;
+        }) }
         ensures free { IsTrue result → IfSome (started t.now) (IsFree self.now) }
         ensures exact { IsTrue result ↔ IsPlace self.now number t.now }
     {
@@ -327,11 +352,14 @@ impl Core {
 
     /// Whether a record may stand under its number, and the tests of its command give it now.
     fn admits(&self, number: u64, t: &Transaction) -> Result<bool, AllocError>
-        ensures follows { IfOk result (λ allowed. IsTrue allowed → Follows self.now.kept (summary self.now) (record { number = number; transaction = t.now })) }
+        ensures follows { IfOk result (λ allowed. IsTrue allowed
+            → Follows self.now.kept (summary self.now) (record { number = number; transaction = t.now })) }
         ensures free { IfOk result (λ allowed. IsTrue allowed → IfSome (started t.now) (IsFree self.now)) }
         ensures asked { IfOk result (λ allowed. IsTrue allowed → IsAsked self.now t.now) }
-        ensures admitted { IsInOrder self.now → IfOk result (λ allowed. IsTrue allowed → IsAdmitted self.now number t.now) }
-        ensures refused { IsInOrder self.now → IfOk result (λ allowed. IsFalse allowed → IsRefused self.now number t.now) }
+        ensures admitted { IsInOrder self.now
+            → IfOk result (λ allowed. IsTrue allowed → IsAdmitted self.now number t.now) }
+        ensures refused { IsInOrder self.now
+            → IfOk result (λ allowed. IsFalse allowed → IsRefused self.now number t.now) }
     {
         if !self.allows_place(number, t) {
             return Ok(false);
@@ -343,8 +371,14 @@ impl Core {
     fn count(&mut self, number: u64, t: &Transaction)
         ensures counted { summary self.new ≡ counted self.old.kept number (summary self.old) }
         ensures kept { self.new.kept ≡ self.old.kept }
-        ensures kept_root { self.new.kept_root ≡ last_kept self.old.kept (record { number = number; transaction = t.now }) self.old.kept_root }
-        ensures rest { self.new ≡ record self.old { number = self.new.number; roots = self.new.roots; kept_number = self.new.kept_number; kept_root = self.new.kept_root } }
+        ensures kept_root { self.new.kept_root
+            ≡ last_kept self.old.kept (record { number = number; transaction = t.now }) self.old.kept_root }
+        ensures rest { self.new ≡ record self.old {
+          number = self.new.number;
+          roots = self.new.roots;
+          kept_number = self.new.kept_number;
+          kept_root = self.new.kept_root;
+        } }
     {
         if number > self.kept {
             self.number = number;
@@ -356,19 +390,25 @@ impl Core {
         }
     }
 
-    /// Adopts a record of a store, in the order of the records. `NotAllowed` comes exactly where it may not stand under its
-    /// number there, or the tests of its command don't give it; then the state is unchanged.
+    /// Adopts a record of a store, in the order of the records. `NotAllowed` comes exactly where it may not stand under
+    /// its number there, or the tests of its command don't give it; then the state is unchanged.
     pub fn adopt(&mut self, number: u64, t: Transaction) -> Result<(), AdoptFault>
-        ensures follows { OnOk result (Follows self.old.kept (summary self.old) (record { number = number; transaction = t })) }
-        ensures taken { OnOk result (summary self.new ≡ taken_up self.old.kept (record { number = number; transaction = t }) (summary self.old)) }
+        ensures follows { OnOk result (Follows self.old.kept (summary self.old)
+            (record { number = number; transaction = t })) }
+        ensures taken { OnOk result (summary self.new
+            ≡ taken_up self.old.kept (record { number = number; transaction = t }) (summary self.old)) }
         ensures kept { OnOk result (self.new.kept ≡ self.old.kept) }
         ensures allowed { OnOk result (IsAllowed self.old t) }
         ensures drives { OnOk result (Drives self.old t self.new) }
         ensures shelves { OnOk result (Shelves self.old t self.new) }
         ensures counts { OnOk result (CountsRoot self.old t self.new) }
         ensures admitted { IsInOrder self.old → OnOk result (IsAdmitted self.old number t) }
-        ensures refused { IsInOrder self.old → IfErr result (λ fault. fault ≡ NotAllowed → IsRefused self.old number t) }
+        ensures refused { IsInOrder self.old
+            → IfErr result (λ fault. fault ≡ NotAllowed → IsRefused self.old number t) }
         ensures unchanged { IfErr result (λ fault. fault ≡ NotAllowed → self.new ≡ self.old) }
+        ensures clock { OnOk result (self.new.clock ≡ clock_after t self.old.clock) }
+        ensures store { OnOk result (StoreAfter t self.old.store.catalog self.new.store.catalog) }
+        ensures exact { OnOk result (IsExact self.old t self.new) }
     {
         if !self.admits(number, &t)? {
             return Err(AdoptFault::NotAllowed);

@@ -2,9 +2,11 @@
 ghost use Rattle.std.specs.Prelude.{◌≡◌, ◌++◌, Some, OnOk, IfOk};
 ghost use Rattle.process_rules.specs.Imports.{IsIndexed, latest_person};
 ghost use Rattle.flow_core.specs.Replies.{note_text, applied_text, refusal_text};
-ghost use Rattle.flow_core.specs.Answers.{templates_text as text_of_templates, queue_answer, audit_answer, instance_of, mode_now, IsShown, IsListed};
+ghost use Rattle.flow_core.specs.Answers.{templates_text as text_of_templates, queue_answer, audit_answer, instance_of};
+ghost use Rattle.flow_core.specs.Answers.{mode_now, IsShown, IsListed};
 ghost use Rattle.flow_core.specs.Allowing.{seen_entry, known_entry};
-ghost use Rattle.flow_core.specs.Containing.{IsOutputOf, IsInputOf, IsOutputShown, IsOutputBy, IsOutputAnswer, IsInputShown, IsInputAnswer};
+ghost use Rattle.flow_core.specs.Containing.{IsOutputOf, IsInputOf, IsOutputShown, IsOutputBy, IsOutputAnswer};
+ghost use Rattle.flow_core.specs.Containing.{IsInputShown, IsInputAnswer};
 ghost use Rattle.flow_core.specs.Queries.{IsAnswer};
 ghost use Rattle.flow_core.specs.Driving.{templates};
 ghost use Rattle.flow_model.specs.ScopeContainers.{graph_of};
@@ -74,7 +76,8 @@ impl Core {
     }
 
     fn show(&self, root: u64) -> Result<Vec<u8>, AllocError>
-        ensures { IfOk result (λ out. IsShown self.now.store.catalog.library root (instance_of self.now root) out.items) }
+        ensures { IfOk result (λ out. IsShown self.now.store.catalog.library root
+            (instance_of self.now root) out.items) }
     {
         match self.instance(root) {
             None => self.refused(&Refusal::Root(root)),
@@ -114,7 +117,8 @@ impl Core {
         graph: &Graph,
     ) -> Result<Vec<u8>, AllocError>
         requires { graph_of (templates self.now) instance.now.template ≡ Some graph.now }
-        ensures { IfOk result (λ out. IsOutputBy (templates self.now) root graph.now instance.now (mode_now instance.now) out.items) }
+        ensures { IfOk result (λ out. IsOutputBy (templates self.now) root graph.now instance.now
+            (mode_now instance.now) out.items) }
     {
         match instance.mode() {
             Mode::Done => self.output_of(root, instance, graph),
@@ -177,7 +181,8 @@ impl Core {
     }
 
     fn worklist_text(&self, name: &Name) -> Result<Vec<u8>, AllocError>
-        ensures { IfOk result (λ out. IsIndexed self.now.store.catalog → IsListed self.now name.now (latest_person self.now.store.catalog.library name.now) out.items) }
+        ensures { IfOk result (λ out. IsIndexed self.now.store.catalog
+            → IsListed self.now name.now (latest_person self.now.store.catalog.library name.now) out.items) }
     {
         match self.store.person(name) {
             None => self.refused(&Refusal::Person(name.copy(self.alloc)?)),

@@ -1,5 +1,6 @@
 //! The state after a transaction that is allowed.
-ghost use Rattle.std.specs.Prelude.{◌≡◌, ℕ, ◌<◌, ◌+◌, [], ◌∷◌, Some, None, option_copied, option_map, OnOk, IfOk, IsTrue};
+ghost use Rattle.std.specs.Prelude.{◌≡◌, ℕ, ◌<◌, ◌+◌, [], ◌∷◌, Some, None, option_copied, option_map, OnOk, IfOk};
+ghost use Rattle.std.specs.Prelude.{IsTrue};
 ghost use Rattle.flow_model.specs.declared.instances.Message.{Message as MessageOf};
 ghost use Rattle.flow_model.specs.declared.instances.Mode.TheVariants as modes;
 ghost use Rattle.flow_core.specs.Verdicts.{fate_now, IsNoteOf, IsFront};
@@ -9,13 +10,20 @@ ghost use Rattle.containers.specs.Settings.{filled};
 ghost use Rattle.flow_model.specs.Containers.{fresh as fresh_of};
 ghost use Rattle.flow_model.specs.declared.transactions.Transaction.TheVariants as made;
 ghost use Rattle.flow_core.specs.Allowing.{CountsRoot};
-ghost use Rattle.flow_core.specs.Driving.{templates, IsVersionAt, IsVersionPlace, IsMade, IsSuspended, IsTerminated, IfLive, ChangesRoot, LibraryAfter, Drives, IsFrontOf, HoldsItem, CompletesItem, item_of, put_in, queue_now};
+ghost use Rattle.flow_core.specs.Driving.{templates, IsVersionAt, IfNewest, RunsAt, IsVersionPlace, IsMade};
+ghost use Rattle.flow_core.specs.Driving.{IsSuspended, IsTerminated, IfLive, ChangesRoot, LibraryAfter, StoreAfter};
+ghost use Rattle.flow_core.specs.Driving.{clock_after, Drives, IsFrontOf, HoldsItem, CompletesItem, item_of, put_in};
+ghost use Rattle.flow_core.specs.Driving.{queue_now};
 ghost use Rattle.navigator.specs.declared.instance.HoldChange.TheVariants as holds;
 ghost use Rattle.recover_queue.specs.Queues.{root_of as root_of_message};
 ghost use Rattle.root_laws.specs.Becoming.{TakesIn, CompletesIn, HoldsIn};
 ghost use Rattle.flow_core.specs.Answers.{instance_of};
-ghost use Rattle.flow_core.specs.Shelving.{line_now, stands, SameStanding, without_root, listed, all_listed, unlisted, MakesReady, CompletesReady, IfRootLive, TurnShelves, CompletesShelves, HoldShelves, performer_named, Shelves};
-ghost use Rattle.flow_core.specs.Summaries.{summary, noted, next, with_transaction, with_root_of, without, kept_by, root_about, is_root, deleted, started};
+ghost use Rattle.flow_core.specs.Shelving.{line_now, stands, SameStanding, without_root, listed, all_listed, unlisted};
+ghost use Rattle.flow_core.specs.Shelving.{MakesReady, CompletesReady, IfRootLive, TurnShelves, TakesGiving};
+ghost use Rattle.flow_core.specs.Shelving.{CompletesGiving, WhereLive, ExactTurn, CompletesExactly, IsExact};
+ghost use Rattle.flow_core.specs.Shelving.{CompletesShelves, HoldShelves, performer_named, Shelves};
+ghost use Rattle.flow_core.specs.Summaries.{summary, noted, next, with_transaction, with_root_of, without, kept_by};
+ghost use Rattle.flow_core.specs.Summaries.{root_about, is_root, deleted, started};
 
 use crate::paths::{queue_of, rank_of, root_of};
 use crate::refusals::copy_hold;
@@ -155,8 +163,12 @@ impl Root {
         message: &Message,
     ) -> Result<(List<Message>, Vec<Path>), AllocError>
         ensures rest { self.new ≡ record self.old { instance = self.new.instance } }
-        ensures taken { IfOk result (λ given. TakesIn library.now.templates message.now given.0 self.old.instance self.new.instance) }
-        ensures ready { IfOk result (λ given. MakesReady library.now.templates clock message.now given.1.items self.old.instance self.new.instance) }
+        ensures taken { IfOk result (λ given. TakesIn library.now.templates message.now given.0 self.old.instance
+            self.new.instance) }
+        ensures ready { IfOk result (λ given. MakesReady library.now.templates clock message.now given.1.items
+            self.old.instance self.new.instance) }
+        ensures exact { IfOk result (λ given. TakesGiving library.now.templates clock message.now given.0 given.1.items
+            self.old.instance self.new.instance) }
     {
         self.instance.take_message(alloc, library, clock, message)
     }
@@ -172,8 +184,13 @@ impl Root {
         performer: Option<Name>,
     ) -> Result<(List<Message>, Vec<Path>), AllocError>
         ensures rest { self.new ≡ record self.old { instance = self.new.instance } }
-        ensures completed { IfOk result (λ given. CompletesIn library.now.templates item.now output given.0 self.old.instance self.new.instance) }
-        ensures ready { IfOk result (λ given. CompletesReady library.now.templates clock item.now (record { output = output; performer = performer }) given.1.items self.old.instance self.new.instance) }
+        ensures completed { IfOk result (λ given. CompletesIn library.now.templates item.now output given.0
+            self.old.instance self.new.instance) }
+        ensures ready { IfOk result (λ given. CompletesReady library.now.templates clock item.now
+            (record { output = output; performer = performer }) given.1.items self.old.instance self.new.instance) }
+        ensures exact { IfOk result (λ given. CompletesGiving library.now.templates clock item.now
+            (record { output = output; performer = performer }) given.0 given.1.items
+            self.old.instance self.new.instance) }
     {
         self.instance
             .complete_item(alloc, library, clock, item, output, performer)
@@ -245,7 +262,8 @@ impl Core {
     /// Lists manual items as they stand now, one after the other.
     fn list_all(&mut self, items: Vec<Path>) -> Result<(), AllocError>
         ensures rest { self.new ≡ record self.old { worklists = self.new.worklists } }
-        ensures shelves { OnOk result (SameStanding (stands self.new) (all_listed self.old items.items (stands self.old))) }
+        ensures shelves { OnOk result (SameStanding (stands self.new)
+            (all_listed self.old items.items (stands self.old))) }
     {
         for item in items {
             self.list_item(&item)?;
@@ -272,17 +290,22 @@ impl Core {
         ensures indexed { OnOk result (IsIndexed self.old.store.catalog → IsIndexed self.new.store.catalog) }
         ensures shelves { SameStanding (stands self.new) (stands self.old) }
         ensures note { IfOk result (IsNoteOf self.old (made.Import text.now) self.new) }
+        ensures clock { OnOk result (self.new.clock ≡ self.old.clock) }
+        ensures store { OnOk result (StoreAfter (made.Import text.now) self.old.store.catalog self.new.store.catalog) }
     {
         match self.store.import(self.alloc, text.as_slice()) {
             Ok(count) => Ok(Note::Imported(count)),
-            Err(ImportFault::Rule(_)) => Ok(Note::Imported(0)),
+            // `judge` admits only a text that breaks no rule, so this doesn't happen; an answer of success
+            // would say that the text was added.
+            Err(ImportFault::Rule(_)) => Err(AllocError),
             Err(ImportFault::NoMemory) => Err(AllocError),
         }
     }
 
     /// Whether the template at a place is this version of a process.
     fn is_version(&self, place: u32, process: &Name, version: u32) -> bool
-        ensures { IsTrue result → IsVersionAt (templates self.now) process.now version place }
+        ensures version { IsTrue result → IsVersionAt (templates self.now) process.now version place }
+        ensures there { IsVersionAt (templates self.now) process.now version place → IsTrue result }
     {
         match self.store.template(place) {
             None => false,
@@ -294,7 +317,8 @@ impl Core {
 
     /// The place of this version of a process; it is mostly the newest.
     fn version_place(&self, process: &Name, version: u32) -> Option<u32>
-        ensures { IsVersionPlace (templates self.now) process.now version result }
+        ensures version { IsVersionPlace (templates self.now) process.now version result }
+        ensures newest { IfNewest self.now.store.catalog process.now version (λ place. result ≡ Some place) }
     {
         match self.store.newest(process) {
             Some(place) if self.is_version(place, process, version) => Some(place),
@@ -311,7 +335,9 @@ impl Core {
         starter: &Name,
         settings: &[Setting],
     ) -> Result<Option<Instance>, AllocError>
-        ensures { IfOk result (λ made. IsMade (templates self.now) root process.now version starter.now settings.now made) }
+        ensures made { IfOk result
+            (λ made. IsMade (templates self.now) root process.now version starter.now settings.now made) }
+        ensures placed { IfNewest self.now.store.catalog process.now version (λ place. IfOk result (RunsAt place)) }
     {
         let Some(place) = self.version_place(process, version) else {
             return Ok(None);
@@ -357,9 +383,14 @@ impl Core {
         settings: &[Setting],
     ) -> Result<Note, AllocError>
         ensures kept { noted self.new ≡ noted self.old }
-        ensures drives { OnOk result (Drives self.old (made.Start root process.now version starter.now (option_copied key.entry) settings.now) self.new) }
+        ensures drives { OnOk result (Drives self.old
+            (made.Start root process.now version starter.now (option_copied key.entry) settings.now) self.new) }
         ensures shelves { OnOk result (SameStanding (stands self.new) (stands self.old)) }
         ensures note { IfOk result (λ n. n ≡ notes.Rooted root) }
+        ensures clock { OnOk result (self.new.clock ≡ self.old.clock) }
+        ensures store { OnOk result (self.new.store.catalog ≡ self.old.store.catalog) }
+        ensures placed { IfNewest self.old.store.catalog process.now version
+            (λ place. OnOk result (RunsAt place (instance_of self.new root))) }
     {
         let made = self.new_instance(root, process, version, starter, settings)?;
         let Some(instance) = made else {
@@ -390,7 +421,8 @@ impl Core {
         ensures kept { noted self.new ≡ noted self.old }
         ensures rest { self.new ≡ record self.old { queues = self.new.queues; worklists = self.new.worklists } }
         ensures queues { OnOk result (self.new.queues ≡ put_in (queue_now self.old) messages self.old.queues) }
-        ensures shelves { OnOk result (SameStanding (stands self.new) (all_listed self.old ready.items (stands self.old))) }
+        ensures shelves { OnOk result (SameStanding (stands self.new)
+            (all_listed self.old ready.items (stands self.old))) }
     {
         self.put_all(messages)?;
         self.list_all(ready)
@@ -400,8 +432,14 @@ impl Core {
     /// came to be ready.
     fn take_in_root(&mut self, message: &Message) -> Result<(List<Message>, Vec<Path>), AllocError>
         ensures rest { self.new ≡ record self.old { live_roots = self.new.live_roots } }
-        ensures roots { IfOk result (λ given. ChangesRoot (root_of_message message.now) (IfLive (TakesIn (templates self.old) message.now given.0) given.0) self.old self.new) }
-        ensures ready { IfOk result (λ given. IfRootLive (MakesReady (templates self.old) self.old.clock message.now) given.1.items (instance_of self.old (root_of_message message.now)) (instance_of self.new (root_of_message message.now))) }
+        ensures roots { IfOk result (λ given. ChangesRoot (root_of_message message.now)
+            (IfLive (TakesIn (templates self.old) message.now given.0) given.0) self.old self.new) }
+        ensures ready { IfOk result (λ given. IfRootLive
+            (MakesReady (templates self.old) self.old.clock message.now) given.1.items
+            (instance_of self.old (root_of_message message.now)) (instance_of self.new (root_of_message message.now))) }
+        ensures exact { IfOk result (λ given.
+            WhereLive (TakesGiving (templates self.old) self.old.clock message.now given.0 given.1.items)
+            (instance_of self.old (root_of_message message.now)) (instance_of self.new (root_of_message message.now))) }
     {
         match self.live_roots.get_mut(&root_of(message)) {
             None => Ok((List::new(self.alloc), Vec::new(self.alloc))),
@@ -414,9 +452,16 @@ impl Core {
     /// Takes the front message of a queue. Of an empty queue, which `judge` refuses, nothing is taken.
     fn turn(&mut self, queue: u8) -> Result<Note, AllocError>
         ensures kept { noted self.new ≡ noted self.old }
-        ensures note { IfOk result (λ n. (message : MessageOf) → IsFront self.old queue message → n ≡ notes.Turned queue message) }
-        ensures drives { OnOk result ((message : MessageOf) → IsFront self.old queue message → Drives self.old (made.Turn queue message) self.new) }
-        ensures shelves { OnOk result ((message : MessageOf) → IsFront self.old queue message → TurnShelves self.old message self.new) }
+        ensures note { IfOk result (λ n. (message : MessageOf) → IsFront self.old queue message
+            → n ≡ notes.Turned queue message) }
+        ensures drives { OnOk result ((message : MessageOf) → IsFront self.old queue message
+            → Drives self.old (made.Turn queue message) self.new) }
+        ensures shelves { OnOk result ((message : MessageOf) → IsFront self.old queue message
+            → TurnShelves self.old message self.new) }
+        ensures clock { OnOk result (self.new.clock ≡ self.old.clock) }
+        ensures store { OnOk result (self.new.store.catalog ≡ self.old.store.catalog) }
+        ensures exact { OnOk result ((message : MessageOf) → IsFront self.old queue message
+            → ExactTurn self.old queue message self.new) }
     {
         if queue < 1 || queue > self.queues.count() {
             return Ok(Note::Deleted);
@@ -431,7 +476,8 @@ impl Core {
 
     /// The output of a completion.
     fn output(&self, item: &Path, settings: &[Setting]) -> Result<Option<Container>, AllocError>
-        ensures { IfOk result (λ out. out ≡ option_map (λ e. filled settings.now (fresh_of e.activity.output)) (item_of self.now item.now)) }
+        ensures { IfOk result (λ out. out ≡ option_map (λ e. filled settings.now
+            (fresh_of e.activity.output)) (item_of self.now item.now)) }
     {
         let Some(known) = self.known(item) else {
             return Ok(None);
@@ -448,8 +494,15 @@ impl Core {
         performer: Option<Name>,
     ) -> Result<(List<Message>, Vec<Path>), AllocError>
         ensures rest { self.new ≡ record self.old { live_roots = self.new.live_roots } }
-        ensures roots { IfOk result (λ given. ChangesRoot item.now.root (IfLive (CompletesIn (templates self.old) item.now output given.0) given.0) self.old self.new) }
-        ensures ready { IfOk result (λ given. IfRootLive (CompletesReady (templates self.old) self.old.clock item.now (record { output = output; performer = performer })) given.1.items (instance_of self.old item.now.root) (instance_of self.new item.now.root)) }
+        ensures roots { IfOk result (λ given. ChangesRoot item.now.root
+            (IfLive (CompletesIn (templates self.old) item.now output given.0) given.0) self.old self.new) }
+        ensures ready { IfOk result (λ given. IfRootLive
+            (CompletesReady (templates self.old) self.old.clock item.now
+            (record { output = output; performer = performer })) given.1.items (instance_of self.old item.now.root)
+            (instance_of self.new item.now.root)) }
+        ensures exact { IfOk result (λ given. WhereLive (CompletesGiving (templates self.old) self.old.clock item.now
+            (record { output = output; performer = performer }) given.0 given.1.items)
+            (instance_of self.old item.now.root) (instance_of self.new item.now.root)) }
     {
         match self.live_roots.get_mut(&item.root) {
             None => Ok((List::new(self.alloc), Vec::new(self.alloc))),
@@ -472,8 +525,13 @@ impl Core {
     ) -> Result<Note, AllocError>
         ensures kept { noted self.new ≡ noted self.old }
         ensures completes { OnOk result (CompletesItem self.old item.now settings.now self.new) }
-        ensures shelves { OnOk result (CompletesShelves self.old item.now performer settings.now (item_of self.old item.now) self.new) }
+        ensures shelves { OnOk result (CompletesShelves self.old item.now performer settings.now
+            (item_of self.old item.now) self.new) }
         ensures note { IfOk result (λ n. n ≡ notes.Fated (fate_now self.new item.now)) }
+        ensures clock { OnOk result (self.new.clock ≡ self.old.clock) }
+        ensures store { OnOk result (self.new.store.catalog ≡ self.old.store.catalog) }
+        ensures exact { OnOk result
+            (CompletesExactly self.old item.now performer settings.now (item_of self.old item.now) self.new) }
     {
         let Some(output) = self.output(item, settings)? else {
             return Ok(Note::Fated(self.fate_of(item)));
@@ -497,7 +555,8 @@ impl Core {
     /// What a change of a hold does to its root, where that is live.
     fn hold_in_root(&mut self, item: &Path, change: HoldChange)
         ensures rest { self.new ≡ record self.old { live_roots = self.new.live_roots } }
-        ensures roots { ChangesRoot item.now.root (IfLive (HoldsIn (templates self.old) item.now change) []) self.old self.new }
+        ensures roots { ChangesRoot item.now.root
+            (IfLive (HoldsIn (templates self.old) item.now change) []) self.old self.new }
     {
         if let Some(root) = self.live_roots.get_mut(&item.root) {
             root.change_hold(self.store.library(), item, change);
@@ -507,7 +566,8 @@ impl Core {
     /// Changes who holds an item.
     fn change_hold(&mut self, item: &Path, change: HoldChange) -> Result<(), AllocError>
         ensures rest { self.new ≡ record self.old { live_roots = self.new.live_roots; worklists = self.new.worklists } }
-        ensures roots { OnOk result (ChangesRoot item.now.root (IfLive (HoldsIn (templates self.old) item.now change) []) self.old self.new) }
+        ensures roots { OnOk result (ChangesRoot item.now.root
+            (IfLive (HoldsIn (templates self.old) item.now change) []) self.old self.new) }
         ensures shelves { OnOk result (HoldShelves self.old item.now self.new) }
     {
         self.hold_in_root(item, change);
@@ -519,6 +579,8 @@ impl Core {
         ensures held { OnOk result (HoldsItem self.old item.now (holds.Person who.now) self.new) }
         ensures shelves { OnOk result (HoldShelves self.old item.now self.new) }
         ensures note { IfOk result (λ n. n ≡ notes.Fated (fate_now self.new item.now)) }
+        ensures clock { OnOk result (self.new.clock ≡ self.old.clock) }
+        ensures store { OnOk result (self.new.store.catalog ≡ self.old.store.catalog) }
     {
         let who = who.copy(self.alloc)?;
         self.change_hold(item, HoldChange::Person(who))?;
@@ -530,6 +592,8 @@ impl Core {
         ensures held { OnOk result (HoldsItem self.old item.now holds.Agent self.new) }
         ensures shelves { OnOk result (HoldShelves self.old item.now self.new) }
         ensures note { IfOk result (λ n. n ≡ notes.Taken take) }
+        ensures clock { OnOk result (self.new.clock ≡ self.old.clock) }
+        ensures store { OnOk result (self.new.store.catalog ≡ self.old.store.catalog) }
     {
         self.change_hold(item, HoldChange::Agent)?;
         Ok(Note::Taken(take))
@@ -540,6 +604,8 @@ impl Core {
         ensures held { OnOk result (HoldsItem self.old item.now holds.Nobody self.new) }
         ensures shelves { OnOk result (HoldShelves self.old item.now self.new) }
         ensures note { IfOk result (λ n. n ≡ notes.Fated (fate_now self.new item.now)) }
+        ensures clock { OnOk result (self.new.clock ≡ self.old.clock) }
+        ensures store { OnOk result (self.new.store.catalog ≡ self.old.store.catalog) }
     {
         self.change_hold(item, HoldChange::Nobody)?;
         Ok(Note::Fated(self.fate_of(item)))
@@ -574,6 +640,8 @@ impl Core {
         ensures drives { OnOk result (Drives self.old (made.Terminate root) self.new) }
         ensures shelves { OnOk result (SameStanding (stands self.new) (without_root root (stands self.old))) }
         ensures note { IfOk result (λ n. n ≡ notes.Moded modes.Terminated) }
+        ensures clock { OnOk result (self.new.clock ≡ self.old.clock) }
+        ensures store { OnOk result (self.new.store.catalog ≡ self.old.store.catalog) }
     {
         self.terminate_root(root);
         self.worklists.drop_root(root)?;
@@ -585,6 +653,8 @@ impl Core {
         ensures drives { Drives self.old (made.Suspend root) self.new }
         ensures shelves { SameStanding (stands self.new) (stands self.old) }
         ensures note { result ≡ notes.Moded modes.Suspended }
+        ensures clock { self.new.clock ≡ self.old.clock }
+        ensures store { self.new.store.catalog ≡ self.old.store.catalog }
     {
         self.set_suspended(root, true);
         Note::Moded(Mode::Suspended)
@@ -595,6 +665,8 @@ impl Core {
         ensures drives { Drives self.old (made.Resume root) self.new }
         ensures shelves { SameStanding (stands self.new) (stands self.old) }
         ensures note { result ≡ notes.Moded modes.Active }
+        ensures clock { self.new.clock ≡ self.old.clock }
+        ensures store { self.new.store.catalog ≡ self.old.store.catalog }
     {
         self.set_suspended(root, false);
         Note::Moded(Mode::Active)
@@ -617,6 +689,8 @@ impl Core {
         ensures drives { Drives self.old (made.Delete root) self.new }
         ensures shelves { SameStanding (stands self.new) (stands self.old) }
         ensures note { result ≡ notes.Deleted }
+        ensures clock { self.new.clock ≡ self.old.clock }
+        ensures store { self.new.store.catalog ≡ self.old.store.catalog }
     {
         self.remove_root(root);
         Note::Deleted
@@ -626,8 +700,13 @@ impl Core {
     fn done(&mut self, item: &Path, who: &Who, settings: &[Setting]) -> Result<Note, AllocError>
         ensures kept { noted self.new ≡ noted self.old }
         ensures completes { OnOk result (CompletesItem self.old item.now settings.now self.new) }
-        ensures shelves { OnOk result (CompletesShelves self.old item.now (performer_named who.now) settings.now (item_of self.old item.now) self.new) }
+        ensures shelves { OnOk result (CompletesShelves self.old item.now (performer_named who.now) settings.now
+            (item_of self.old item.now) self.new) }
         ensures note { IfOk result (λ n. n ≡ notes.Fated (fate_now self.new item.now)) }
+        ensures clock { OnOk result (self.new.clock ≡ self.old.clock) }
+        ensures store { OnOk result (self.new.store.catalog ≡ self.old.store.catalog) }
+        ensures exact { OnOk result (CompletesExactly self.old item.now (performer_named who.now) settings.now
+            (item_of self.old item.now) self.new) }
     {
         let performer = match who {
             Who::Person(name) => Some(name.copy(self.alloc)?),
@@ -641,6 +720,8 @@ impl Core {
         ensures drives { Drives self.old (made.Clock minutes) self.new }
         ensures shelves { SameStanding (stands self.new) (stands self.old) }
         ensures note { result ≡ notes.Clocked minutes }
+        ensures clock { self.new.clock ≡ minutes }
+        ensures store { self.new.store.catalog ≡ self.old.store.catalog }
     {
         self.clock = minutes;
         Note::Clocked(minutes)
@@ -651,6 +732,9 @@ impl Core {
         ensures note { IfOk result (IsNoteOf self.old t.now self.new) }
         ensures drives { IsFrontOf self.old t.now → OnOk result (Drives self.old t.now self.new) }
         ensures shelves { IsFrontOf self.old t.now → OnOk result (Shelves self.old t.now self.new) }
+        ensures clock { OnOk result (self.new.clock ≡ clock_after t.now self.old.clock) }
+        ensures store { OnOk result (StoreAfter t.now self.old.store.catalog self.new.store.catalog) }
+        ensures exact { IsFrontOf self.old t.now → OnOk result (IsExact self.old t.now self.new) }
     {
         match t {
             Transaction::Import(text) => self.import(text),
@@ -698,7 +782,8 @@ impl Core {
 
     /// Keeps a transaction where it is live; a Delete takes those of its root away.
     fn keep(&mut self, number: u64, t: Transaction) -> Result<(), AllocError>
-        ensures keeps { OnOk result (noted self.new ≡ (self.old.kept, self.old.kept_root, kept_by number t (summary self.old))) }
+        ensures keeps { OnOk result (noted self.new
+            ≡ (self.old.kept, self.old.kept_root, kept_by number t (summary self.old))) }
         ensures rest { self.new ≡ record self.old { live = self.new.live } }
     {
         match deleted_root(&t) {
@@ -715,9 +800,13 @@ impl Core {
     pub(crate) fn apply_as(&mut self, number: u64, t: Transaction) -> Result<Applied, AllocError>
         ensures numbered { IfOk result (λ applied. applied.number ≡ number) }
         ensures note { IfOk result (λ applied. IsNoteOf self.old t self.new applied.note) }
-        ensures applied { OnOk result (noted self.new ≡ (self.old.kept, self.old.kept_root, with_transaction self.old.number number t (summary self.old))) }
+        ensures applied { OnOk result (noted self.new
+            ≡ (self.old.kept, self.old.kept_root, with_transaction self.old.number number t (summary self.old))) }
         ensures drives { IsFrontOf self.old t → OnOk result (Drives self.old t self.new) }
         ensures shelves { IsFrontOf self.old t → OnOk result (Shelves self.old t self.new) }
+        ensures clock { OnOk result (self.new.clock ≡ clock_after t self.old.clock) }
+        ensures store { OnOk result (StoreAfter t self.old.store.catalog self.new.store.catalog) }
+        ensures exact { IsFrontOf self.old t → OnOk result (IsExact self.old t self.new) }
     {
         self.count_root(&t);
         let note = self.change_by(&t)?;
@@ -734,6 +823,9 @@ impl Core {
         ensures drives { IsFrontOf self.old t → OnOk result (Drives self.old t self.new) }
         ensures shelves { IsFrontOf self.old t → OnOk result (Shelves self.old t self.new) }
         ensures counts { OnOk result (CountsRoot self.old t self.new) }
+        ensures clock { OnOk result (self.new.clock ≡ clock_after t self.old.clock) }
+        ensures store { OnOk result (StoreAfter t self.old.store.catalog self.new.store.catalog) }
+        ensures exact { IsFrontOf self.old t → OnOk result (IsExact self.old t self.new) }
     {
         self.number += 1;
         self.apply_as(self.number, t)

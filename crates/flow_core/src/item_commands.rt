@@ -6,7 +6,9 @@ ghost use Rattle.flow_model.specs.declared.commands.Command.TheVariants as asked
 ghost use Rattle.flow_model.specs.declared.transactions.Setting.{Setting as SettingOf};
 ghost use Rattle.flow_model.specs.declared.transactions.Transaction.TheVariants as made;
 ghost use Rattle.flow_core.specs.Allowing.{subject_of, IsKnown, IsOpen, IsAllowed};
-ghost use Rattle.flow_core.specs.Refusals.{first_of, full_test, who_test, claim_test, release_test, transfer_test, taking_test, completing_test, outcome_test, forcing_test, restart_test, IsInOrder, IsFirstRefusal, StopsBy, StopsAs};
+ghost use Rattle.flow_core.specs.Refusals.{first_of, full_test, who_test, claim_test, release_test, transfer_test};
+ghost use Rattle.flow_core.specs.Refusals.{taking_test, completing_test, outcome_test, forcing_test, restart_test};
+ghost use Rattle.flow_core.specs.Refusals.{IsInOrder, IsFirstRefusal, StopsBy, StopsAs};
 ghost use Rattle.flow_core.specs.Verdicts.{IsFor};
 
 use crate::items::Found;
@@ -25,7 +27,8 @@ impl Core {
     ) -> Result<Transaction, Stop>
         ensures room { OnOk result (self.now.number < self.now.limit) }
         ensures made { IfOk result (λ t. t ≡ made.Claim found.entry.path name.now) }
-        ensures stops { StopsBy (first_of (claim_test (Some person.now) (subject_of found.entry.known) ∷ full_test self.now ∷ [])) result }
+        ensures stops { StopsBy (first_of (claim_test (Some person.now) (subject_of found.entry.known)
+            ∷ full_test self.now ∷ [])) result }
     {
         let Found { path, known } = found;
         self.may_claim(&known, person)?;
@@ -49,7 +52,8 @@ impl Core {
     fn release_item(&self, found: Found<'_>, name: &Name) -> Result<Transaction, Stop>
         ensures room { OnOk result (self.now.number < self.now.limit) }
         ensures made { IfOk result (λ t. t ≡ made.Release found.entry.path name.now) }
-        ensures stops { StopsBy (first_of (release_test name.now (subject_of found.entry.known) ∷ full_test self.now ∷ [])) result }
+        ensures stops { StopsBy (first_of (release_test name.now (subject_of found.entry.known) ∷ full_test self.now
+            ∷ [])) result }
     {
         let Found { path, known } = found;
         self.may_release(&known, name)?;
@@ -61,7 +65,8 @@ impl Core {
         ensures room { OnOk result (self.now.number < self.now.limit) }
         ensures made { IfOk result (IsFor self.now (asked.Release token.now name.now)) }
         ensures allowed { IfOk result (IsAllowed self.now) }
-        ensures stops { IsInOrder self.now → StopsAs (IsFirstRefusal self.now (asked.Release token.now name.now)) result }
+        ensures stops { IsInOrder self.now → StopsAs (IsFirstRefusal self.now
+            (asked.Release token.now name.now)) result }
     {
         let found = self.found(token)?;
         self.needs_person(name)?;
@@ -79,7 +84,8 @@ impl Core {
     ) -> Result<Transaction, Stop>
         ensures room { OnOk result (self.now.number < self.now.limit) }
         ensures made { IfOk result (λ t. t ≡ made.Transfer found.entry.path from.now to.now) }
-        ensures stops { StopsBy (first_of (transfer_test from.now (Some person.now) (subject_of found.entry.known) ∷ full_test self.now ∷ [])) result }
+        ensures stops { StopsBy (first_of (transfer_test from.now (Some person.now) (subject_of found.entry.known)
+            ∷ full_test self.now ∷ [])) result }
     {
         let Found { path, known } = found;
         self.may_transfer(&known, from, person)?;
@@ -96,7 +102,8 @@ impl Core {
         ensures room { OnOk result (self.now.number < self.now.limit) }
         ensures made { IfOk result (IsFor self.now (asked.Transfer token.now from.now to.now)) }
         ensures allowed { IfOk result (IsAllowed self.now) }
-        ensures stops { IsInOrder self.now → StopsAs (IsFirstRefusal self.now (asked.Transfer token.now from.now to.now)) result }
+        ensures stops { IsInOrder self.now → StopsAs (IsFirstRefusal self.now
+            (asked.Transfer token.now from.now to.now)) result }
     {
         let found = self.found(token)?;
         self.needs_person(from)?;
@@ -109,7 +116,8 @@ impl Core {
     fn take_item(&self, found: Found<'_>) -> Result<Transaction, Stop>
         ensures room { OnOk result (self.now.number < self.now.limit) }
         ensures made { IfOk result (λ t. t ≡ made.Take found.entry.path (next_take found.entry.known.item.state.now)) }
-        ensures stops { StopsBy (first_of (taking_test (subject_of found.entry.known) ∷ full_test self.now ∷ [])) result }
+        ensures stops { StopsBy (first_of (taking_test (subject_of found.entry.known) ∷ full_test self.now
+            ∷ [])) result }
     {
         let Found { path, known } = found;
         self.may_take(&known)?;
@@ -155,9 +163,13 @@ impl Core {
     fn done_item(&self, found: Found<'_>, who: &Who, outcome: &Outcome) -> Result<Transaction, Stop>
         requires { IsKnown self.now found.path found.known }
         ensures room { OnOk result (self.now.number < self.now.limit) }
-        ensures made { IfOk result (λ t. (settings : ListOf SettingOf) × (outcome_by found.entry.known.item.activity.now.output outcome.now.rc outcome.now.settings ≡ Ok settings) × (t ≡ made.Done found.entry.path who.now settings)) }
+        ensures made { IfOk result (λ t. (settings : ListOf SettingOf)
+            × (outcome_by found.entry.known.item.activity.now.output outcome.now.rc outcome.now.settings ≡ Ok settings)
+            × (t ≡ made.Done found.entry.path who.now settings)) }
         ensures opened { OnOk result (IsOpen self.now found.entry.path) }
-        ensures stops { StopsBy (first_of (first_of (completing_test who.now (subject_of found.entry.known) ∷ outcome_test outcome.now (subject_of found.entry.known) ∷ []) ∷ full_test self.now ∷ [])) result }
+        ensures stops { StopsBy (first_of (first_of
+            (completing_test who.now (subject_of found.entry.known)
+            ∷ outcome_test outcome.now (subject_of found.entry.known) ∷ []) ∷ full_test self.now ∷ [])) result }
     {
         let Found { path, known } = found;
         self.may_complete(&known, who)?;
@@ -175,7 +187,8 @@ impl Core {
         ensures room { OnOk result (self.now.number < self.now.limit) }
         ensures made { IfOk result (IsFor self.now (asked.Done token.now who.now outcome.now)) }
         ensures allowed { IfOk result (IsAllowed self.now) }
-        ensures stops { IsInOrder self.now → StopsAs (IsFirstRefusal self.now (asked.Done token.now who.now outcome.now)) result }
+        ensures stops { IsInOrder self.now → StopsAs (IsFirstRefusal self.now
+            (asked.Done token.now who.now outcome.now)) result }
     {
         let found = self.found(token)?;
         self.needs_who(who)?;
@@ -187,9 +200,13 @@ impl Core {
     fn force_item(&self, found: Found<'_>, outcome: &Outcome) -> Result<Transaction, Stop>
         requires { IsKnown self.now found.path found.known }
         ensures room { OnOk result (self.now.number < self.now.limit) }
-        ensures made { IfOk result (λ t. (settings : ListOf SettingOf) × (outcome_by found.entry.known.item.activity.now.output outcome.now.rc outcome.now.settings ≡ Ok settings) × (t ≡ made.Force found.entry.path settings)) }
+        ensures made { IfOk result (λ t. (settings : ListOf SettingOf)
+            × (outcome_by found.entry.known.item.activity.now.output outcome.now.rc outcome.now.settings ≡ Ok settings)
+            × (t ≡ made.Force found.entry.path settings)) }
         ensures opened { OnOk result (IsOpen self.now found.entry.path) }
-        ensures stops { StopsBy (first_of (first_of (forcing_test (subject_of found.entry.known) ∷ outcome_test outcome.now (subject_of found.entry.known) ∷ []) ∷ full_test self.now ∷ [])) result }
+        ensures stops { StopsBy (first_of (first_of
+            (forcing_test (subject_of found.entry.known) ∷ outcome_test outcome.now (subject_of found.entry.known)
+            ∷ []) ∷ full_test self.now ∷ [])) result }
     {
         let Found { path, known } = found;
         self.may_force(&known)?;
@@ -213,7 +230,8 @@ impl Core {
     fn restart_item(&self, found: Found<'_>) -> Result<Transaction, Stop>
         ensures room { OnOk result (self.now.number < self.now.limit) }
         ensures made { IfOk result (λ t. t ≡ made.Restart found.entry.path) }
-        ensures stops { StopsBy (first_of (restart_test (subject_of found.entry.known) ∷ full_test self.now ∷ [])) result }
+        ensures stops { StopsBy (first_of (restart_test (subject_of found.entry.known) ∷ full_test self.now
+            ∷ [])) result }
     {
         let Found { path, known } = found;
         self.may_restart(&known)?;

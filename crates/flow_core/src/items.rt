@@ -1,8 +1,13 @@
 //! Items that a token or a path names, and the tests of commands on them.
 ghost use Rattle.std.specs.Prelude.{◌≡◌, None, Some, Err, option_copied, option_map, IfOk, IfSome, IfNone, OnOk};
 ghost use Rattle.flow_core.specs.Admitting.{is_of as value_is_of, fits, all_fit};
-ghost use Rattle.flow_core.specs.Allowing.{seen_entry, known_entry, subject_of, performer_for, IsKnown, IsOpen, IsRunning};
-ghost use Rattle.flow_core.specs.Refusals.{StopsBy, IsStop, is_active as active_mode, is_able as able, is_going, mode_test, staff_refusal, claim_test as claiming_test, release_test as releasing_test, transfer_test as transferring_test, taking_test, completing_test, forcing_test, restart_test, item_test, subject_in, IsFound};
+ghost use Rattle.flow_core.specs.Allowing.{seen_entry, known_entry, subject_of, performer_for, IsKnown, IsOpen};
+ghost use Rattle.flow_core.specs.Allowing.{IsRunning};
+ghost use Rattle.flow_core.specs.Refusals.{StopsBy, IsStop, is_active as active_mode, is_able as able, is_going};
+ghost use Rattle.flow_core.specs.Refusals.{mode_test, staff_refusal, claim_test as claiming_test};
+ghost use Rattle.flow_core.specs.Refusals.{release_test as releasing_test, transfer_test as transferring_test};
+ghost use Rattle.flow_core.specs.Refusals.{taking_test, completing_test, forcing_test, restart_test, item_test};
+ghost use Rattle.flow_core.specs.Refusals.{subject_in, IsFound};
 ghost use Rattle.flow_core.specs.declared.refusals.Refusal.TheVariants.{Item as NoItem};
 ghost use Rattle.flow_core.specs.Driving.{item_of, program_in};
 ghost use Rattle.flow_model.specs.declared.instances.Path.{Path as PathOf};

@@ -1,5 +1,6 @@
 //! Whether a command is allowed now: the first refusal in the order of its tests, or its transaction.
-ghost use Rattle.std.specs.Prelude.{◌≡◌, ◌≤◌, ◌<◌, [], ◌∷◌, None, Some, Ok, length, List as ListOf, option_copied, option_map, IfOk, IfErr, IfSome, OnOk};
+ghost use Rattle.std.specs.Prelude.{◌≡◌, ◌≤◌, ◌<◌, [], ◌∷◌, None, Some, Ok, length, List as ListOf, option_copied};
+ghost use Rattle.std.specs.Prelude.{option_map, IfOk, IfErr, IfSome, OnOk};
 ghost use Rattle.flow_model.specs.declared.commands.Command.TheVariants as asked;
 ghost use Rattle.flow_model.specs.declared.transactions.Setting.{Setting as SettingOf};
 ghost use Rattle.flow_model.specs.declared.transactions.Transaction.TheVariants as made;
@@ -7,7 +8,11 @@ ghost use Rattle.containers.specs.Settings.{outcome_by};
 ghost use Rattle.flow_model.specs.declared.graphs.Graph.{out-Graph};
 ghost use Rattle.flow_core.specs.Allowing.{subject_of, mode_in, IsAllowed};
 ghost use Rattle.flow_core.specs.Answers.{instance_of};
-ghost use Rattle.flow_core.specs.Refusals.{first_of, full_test, number_test, person_of, person_test, newest_of, process_test, value_test, input_test, outcome_test, minutes_test, clock_test, queue_test, message_test, is_active, is_suspended, is_going, is_over, root_test, queued_test, IsInOrder, IsRuleOf, IsFirstRefusal, IsOrderFor, same_root as root_with_key, StopsBy, StopsAs, IsStop};
+ghost use Rattle.flow_core.specs.Refusals.{first_of, full_test, number_test, person_of, person_test, newest_of};
+ghost use Rattle.flow_core.specs.Refusals.{process_test, value_test, input_test, outcome_test, minutes_test};
+ghost use Rattle.flow_core.specs.Refusals.{clock_test, queue_test, message_test, is_active, is_suspended, is_going};
+ghost use Rattle.flow_core.specs.Refusals.{is_over, root_test, queued_test, IsInOrder, IsRuleOf, IsFirstRefusal};
+ghost use Rattle.flow_core.specs.Refusals.{IsOrderFor, same_root as root_with_key, StopsBy, StopsAs, IsStop};
 ghost use Rattle.flow_core.specs.declared.refusals.Refusal.TheVariants as refused;
 ghost use Rattle.flow_core.specs.Judgements.{IsVerdict};
 ghost use Rattle.flow_core.specs.Verdicts.{IsFor, IsFront, next_root};
@@ -114,7 +119,8 @@ impl Core {
         rc: Option<&NumberAt>,
         written: &[RawSetting],
     ) -> Result<List<Setting>, Stop>
-        ensures set { IfOk result (λ settings. outcome_by leaves.now (option_copied rc.entry) written.now ≡ Ok settings) }
+        ensures set { IfOk result (λ settings. outcome_by leaves.now (option_copied rc.entry) written.now
+            ≡ Ok settings) }
         ensures stops { StopsBy (value_test leaves.now (option_copied rc.entry) written.now) result }
     {
         match settings_of(self.alloc, leaves, rc, written)? {
@@ -129,7 +135,8 @@ impl Core {
         known: &Known<'_>,
         outcome: &Outcome,
     ) -> Result<List<Setting>, Stop>
-        ensures set { IfOk result (λ settings. outcome_by known.now.item.activity.now.output outcome.now.rc outcome.now.settings ≡ Ok settings) }
+        ensures set { IfOk result (λ settings. outcome_by known.now.item.activity.now.output outcome.now.rc
+            outcome.now.settings ≡ Ok settings) }
         ensures stops { StopsBy (outcome_test outcome.now (subject_of known.now)) result }
     {
         let leaves = &known.item.activity.output;
@@ -179,9 +186,13 @@ impl Core {
         written: &[RawSetting],
     ) -> Result<Transaction, Stop>
         ensures room { OnOk result (self.now.number < self.now.limit) }
-        ensures made { IfOk result (λ t. (settings : ListOf SettingOf) × (outcome_by (out-Graph template.now.graph).input None written.now ≡ Ok settings) × (t ≡ made.Start (next_root self.now) process.now template.now.version starter.now (option_copied key.entry) settings)) }
+        ensures made { IfOk result (λ t. (settings : ListOf SettingOf)
+            × (outcome_by (out-Graph template.now.graph).input None written.now ≡ Ok settings)
+            × (t ≡ made.Start (next_root self.now) process.now template.now.version starter.now
+            (option_copied key.entry) settings)) }
         ensures allowed { IfOk result (IsAllowed self.now) }
-        ensures stops { StopsBy (first_of (input_test written.now (Some template.now) ∷ full_test self.now ∷ number_test self.now ∷ [])) result }
+        ensures stops { StopsBy (first_of (input_test written.now (Some template.now) ∷ full_test self.now
+            ∷ number_test self.now ∷ [])) result }
     {
         let settings = self.needs_settings(&template.graph.input, None, written)?;
         self.needs_room()?;
@@ -203,9 +214,11 @@ impl Core {
         written: &[RawSetting],
     ) -> Result<Transaction, Stop>
         ensures room { OnOk result (self.now.number < self.now.limit) }
-        ensures made { IfOk result (IsFor self.now (asked.Start process.now starter.now (option_copied key.entry) written.now)) }
+        ensures made { IfOk result (IsFor self.now
+            (asked.Start process.now starter.now (option_copied key.entry) written.now)) }
         ensures allowed { IfOk result (IsAllowed self.now) }
-        ensures stops { IsInOrder self.now → StopsAs (IsFirstRefusal self.now (asked.Start process.now starter.now (option_copied key.entry) written.now)) result }
+        ensures stops { IsInOrder self.now → StopsAs (IsFirstRefusal self.now
+            (asked.Start process.now starter.now (option_copied key.entry) written.now)) result }
     {
         self.needs_person(starter)?;
         let template = self.needs_process(process)?;
@@ -252,7 +265,8 @@ impl Core {
     /// The mode of a live root, or ROOT.
     fn needs_root(&self, root: u64) -> Result<Mode, Stop>
         ensures mode { IfOk result (λ mode. option_map mode_in (instance_of self.now root) ≡ Some mode) }
-        ensures stops { IfErr result (λ stop. (option_map mode_in (instance_of self.now root) ≡ None) × IsStop (Some (refused.Root root)) stop) }
+        ensures stops { IfErr result (λ stop. (option_map mode_in (instance_of self.now root) ≡ None)
+            × IsStop (Some (refused.Root root)) stop) }
     {
         match self.instance(root) {
             Some(instance) => Ok(instance.mode()),

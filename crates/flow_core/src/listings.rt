@@ -2,7 +2,9 @@
 ghost use Rattle.std.specs.Prelude.{◌≡◌, ◌≤◌, ◌++◌, length, OnOk};
 ghost use Rattle.std.specs.List.{flat_map};
 ghost use Rattle.recover_queue.specs.Queues.{queue as messages_of};
-ghost use Rattle.flow_core.specs.Answers.{view_text, message_line, queue_text, template_line, templates_text, work_line, worklist_text, code_by as code_with, return_code as code_given, code_of as code_in, about, numbered_line, audit_text};
+ghost use Rattle.flow_core.specs.Answers.{view_text, message_line, queue_text, template_line, templates_text};
+ghost use Rattle.flow_core.specs.Answers.{work_line, worklist_text, code_by as code_with, return_code as code_given};
+ghost use Rattle.flow_core.specs.Answers.{code_of as code_in, about, numbered_line, audit_text};
 ghost use Rattle.flow_core.specs.Containing.{output_text, input_text};
 
 use crate::applying::is_about;

@@ -2,7 +2,8 @@
 ghost use Rattle.std.specs.Prelude.{◌≡◌, ◌++◌, map, option_map, IfOk, OnOk};
 ghost use Rattle.std.specs.List.{filter_map};
 ghost use Rattle.flow_core.specs.Answers.{AreRowsOf};
-ghost use Rattle.flow_core.specs.OpenItems.{told_of, open_at as opened_at, attempt_left, attempt_of, open_in, AreOpen, AddsOpen};
+ghost use Rattle.flow_core.specs.OpenItems.{told_of, open_at as opened_at, attempt_left, attempt_of, open_in, AreOpen};
+ghost use Rattle.flow_core.specs.OpenItems.{AddsOpen};
 ghost use Rattle.flow_core.specs.Refusals.{is_going};
 
 use crate::state::{Core, Root};
@@ -104,7 +105,8 @@ impl Core {
         rows: List<FateRow>,
         found: &mut Vec<OpenItem<'a>>,
     ) -> Result<(), AllocError>
-        ensures { OnOk result (map told_of found.new.items ≡ map told_of found.old.items ++ filter_map (open_in self.now) rows) }
+        ensures { OnOk result (map told_of found.new.items ≡ map told_of found.old.items
+            ++ filter_map (open_in self.now) rows) }
     {
         for row in rows.into_vec() {
             if let Some(open) = self.open_item(row)? {
@@ -132,7 +134,8 @@ impl Core {
         root: &'a Root,
         found: &mut Vec<OpenItem<'a>>,
     ) -> Result<(), AllocError>
-        ensures { OnOk result (AddsOpen self.now root.now.instance (map told_of found.old.items) (map told_of found.new.items)) }
+        ensures { OnOk result (AddsOpen self.now root.now.instance (map told_of found.old.items)
+            (map told_of found.new.items)) }
     {
         if !has_open_items(root.instance.mode()) {
             return Ok(());

@@ -1,9 +1,11 @@
 //! Paths: the queue of a message, the rank of an item, and equal messages.
-ghost use Rattle.std.specs.Prelude.{◌≡◌, ◌↔◌, ◌-◌, ◌^◌, ◌∷◌, ◌++◌, min, Some, option_copied, unwrap_or, IfOk, OnOk, IsTrue};
+ghost use Rattle.std.specs.Prelude.{◌≡◌, ◌↔◌, ◌-◌, ◌^◌, ◌∷◌, ◌++◌, min, Some, option_copied, unwrap_or, IfOk, OnOk};
+ghost use Rattle.std.specs.Prelude.{IsTrue};
 ghost use Rattle.flow_core.specs.Facts.{activity_on};
 ghost use Rattle.flow_core.specs.Shelving.{rank_on};
 ghost use Rattle.navigator.specs.Showing.{graph_under};
-ghost use Rattle.flow_core.specs.Driving.{activity_named as named_activity, is_process as processes_of, processes_along, receiver as receiver_of, queue_in};
+ghost use Rattle.flow_core.specs.Driving.{activity_named as named_activity, is_process as processes_of};
+ghost use Rattle.flow_core.specs.Driving.{processes_along, receiver as receiver_of, queue_in};
 ghost use Rattle.flow_core.specs.Refusals.{between};
 ghost use Rattle.recover_queue.specs.Queues.{root_of as root_in};
 
@@ -135,7 +137,8 @@ pub fn rank_of(
     graph: &Graph,
     item: &Path,
 ) -> Result<Rank, AllocError>
-    ensures { IfOk result (λ rank. rank.items ≡ item.now.root ∷ rank_on library.now.templates item.now.parts graph.now) }
+    ensures { IfOk result (λ rank. rank.items ≡ item.now.root
+        ∷ rank_on library.now.templates item.now.parts graph.now) }
 {
     let mut rank = Vec::new(alloc);
     rank.push(item.root)?;

@@ -55,7 +55,13 @@ impl Core {
         transactions: u64,
         roots: u64,
     ) -> Result<Core, AllocError>
-        ensures begins { IfOk result (λ core. summary core ≡ record { queues = queues; limit = limit; transactions = transactions; roots = roots; live = [] }) }
+        ensures begins { IfOk result (λ core. summary core ≡ record {
+          queues = queues;
+          limit = limit;
+          transactions = transactions;
+          roots = roots;
+          live = [];
+        }) }
         ensures kept { IfOk result (λ core. core.kept ≡ transactions) }
         ensures blank { IfOk result IsBlank }
     {
@@ -79,7 +85,13 @@ impl Core {
 
     /// The state before any transaction.
     pub fn new(alloc: Global, queues: u8, limit: u64) -> Result<Core, AllocError>
-        ensures begins { IfOk result (λ core. summary core ≡ record { queues = queues; limit = limit; transactions = 0; roots = 0; live = [] }) }
+        ensures begins { IfOk result (λ core. summary core ≡ record {
+          queues = queues;
+          limit = limit;
+          transactions = 0;
+          roots = 0;
+          live = [];
+        }) }
         ensures kept { IfOk result (λ core. core.kept ≡ 0) }
         ensures blank { IfOk result IsBlank }
     {

@@ -6,7 +6,8 @@ ghost use Rattle.flow_model.specs.declared.graphs.Graph.{out-Graph};
 ghost use Rattle.std.specs.List.{list_any};
 ghost use Rattle.flow_core.specs.Answers.{instance_of, is_at_work as at_work, AreBegun};
 ghost use Rattle.flow_core.specs.Driving.{graph_now};
-ghost use Rattle.flow_core.specs.Facts.{activity_now, fact_at, fact_of as fact_in, fact_about as fact_told, accepted, settings_in, start_settings as settings_of_start, AreFactsOf};
+ghost use Rattle.flow_core.specs.Facts.{activity_now, fact_at, fact_of as fact_in, fact_about as fact_told, accepted};
+ghost use Rattle.flow_core.specs.Facts.{settings_in, start_settings as settings_of_start, AreFactsOf};
 
 use crate::applying::{is_about, started_root};
 use crate::paths::{activity_along, same_path};
@@ -183,7 +184,8 @@ impl Core {
 
     /// The input with which a root was started.
     fn start_input(&self, alloc: Global, root: u64, graph: &Graph) -> Result<Container, AllocError>
-        ensures { IfOk result (λ input. input ≡ filled (settings_of_start root self.now.live.items) (fresh_of (out-Graph graph.now).input)) }
+        ensures { IfOk result (λ input. input
+            ≡ filled (settings_of_start root self.now.live.items) (fresh_of (out-Graph graph.now).input)) }
     {
         let input = fresh(alloc, &graph.input)?;
         with_settings(alloc, input, self.start_settings(root))

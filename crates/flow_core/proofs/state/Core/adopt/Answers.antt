@@ -3,10 +3,11 @@ use Rattle.flow_core.specs.Driving.{Drives}
 use Rattle.flow_core.specs.Summaries.{Summary, roots_after}
 use Rattle.flow_core.specs.declared.state.Core.{Core}
 use Rattle.flow_core.proofs.Counting.{counts_taken}
+use Rattle.flow_core.proofs.Exact.{exact_earlier}
 use Rattle.flow_core.proofs.Moved.{drives_earlier, front_of, front_within}
 use Rattle.flow_core.proofs.Shelved.{shelves_earlier}
 use Rattle.flow_core.proofs.state.Core.adopt.Goals as goal
-use Rattle.flow_core.specs.Shelving.{Shelves}
+use Rattle.flow_core.specs.Shelving.{Shelves, IsExact}
 
 pub returns-clause-drives : goal.returns-clause-drives
 returns-clause-drives c =
@@ -35,3 +36,13 @@ returns-clause-counts c =
     (ap (λ (n : ℕ × ℕ × Summary). n.2.transactions) taken ∙ ap (λ (s : Summary). s.transactions) c.count.ensures.counted)
     (ap (λ (n : ℕ × ℕ × Summary). n.1) taken ∙ c.count.ensures.kept_root)
     (c.in_ok-admits.ensures.follows c.if-not-branch.false) (c.in_ok-admits.ensures.free c.if-not-branch.false)
+
+pub returns-clause-exact : goal.returns-clause-exact
+returns-clause-exact c =
+    let before = c.args.self.now in
+    let counted = c.count.new.self in
+    let after = c.apply_as.new.self in
+    let front = front_of before c.args.t (c.in_ok-admits.ensures.asked c.if-not-branch.false) in
+    exact_earlier before counted after c.args.t
+    (subst (λ (k : Core). IsExact k c.args.t after) c.count.ensures.rest
+    (c.in_ok-apply_as.ensures.exact (front_within before counted c.args.t c.count.ensures.rest front)))

@@ -1,5 +1,6 @@
 use Rattle.std.proofs.Common.{◌+◌}
 use Rattle.flow_core.proofs.Counting.{counts_next}
+use Rattle.flow_core.proofs.Exact.{exact_numbered}
 use Rattle.flow_core.proofs.Moved.{drives_numbered}
 use Rattle.flow_core.proofs.Shelved.{shelves_numbered}
 use Rattle.flow_core.proofs.state.Core.apply.Goals as goal
@@ -14,3 +15,8 @@ returns-clause-counts c = counts_next c.apply_as.result c.args.self.now c.apply_
 pub returns-clause-shelves : goal.returns-clause-shelves
 returns-clause-shelves c = λ front.
     shelves_numbered c.apply_as.result c.args.self.now (c.args.self.now.number + 1) c.apply_as.new.self c.args.t (c.apply_as.ensures.shelves front)
+
+pub returns-clause-exact : goal.returns-clause-exact
+returns-clause-exact c = λ front.
+    exact_numbered c.apply_as.result c.args.self.now (c.args.self.now.number + 1) c.apply_as.new.self c.args.t
+    (c.apply_as.ensures.exact front)

@@ -1,3 +1,4 @@
+use Rattle.flow_core.proofs.Exact.{exact_around}
 use Rattle.flow_core.proofs.Moved.{drives_around, front_counted}
 use Rattle.flow_core.proofs.Shelved.{shelves_around}
 use Rattle.flow_core.proofs.state.Core.apply_as.Goals as goal
@@ -15,3 +16,11 @@ returns-clause-shelves c = λ front.
     let counted = c.count_root.new.self in
     shelves_around before counted c.change_by.new.self c.keep.new.self c.args.t c.count_root.ensures.rest c.in_ok-keep.ensures.rest
     (c.in_ok-note.ensures.shelves (front_counted before counted c.args.t c.count_root.ensures.rest front))
+
+pub returns-clause-exact : goal.returns-clause-exact
+returns-clause-exact c = λ front.
+    let before = c.args.self.now in
+    let counted = c.count_root.new.self in
+    exact_around before counted c.change_by.new.self c.keep.new.self c.args.t c.count_root.ensures.rest
+    c.in_ok-keep.ensures.rest
+    (c.in_ok-note.ensures.exact (front_counted before counted c.args.t c.count_root.ensures.rest front))

@@ -1,3 +1,4 @@
+use Rattle.flow_core.proofs.Exact.{started_newest}
 use Rattle.flow_core.proofs.Moved.{released, transferred}
 use Rattle.flow_core.proofs.state.Core.change_by.Goals as goal
 
@@ -19,3 +20,9 @@ returns-in-Transfer-clause-note c = rw c.in-Transfer.is c.hold_by-in-Transfer.en
 
 pub returns-in-Transfer-clause-shelves : goal.returns-in-Transfer-clause-shelves
 returns-in-Transfer-clause-shelves c = rw c.in-Transfer.is (λ front. c.hold_by-in-Transfer.ensures.shelves)
+
+pub returns-in-Start-clause-exact : goal.returns-in-Start-clause-exact
+returns-in-Start-clause-exact c =
+    rw c.in-Start.is
+    (λ front. started_newest c.start.result c.args.self.now c.start.new.self c.in-Start.root c.in-Start.process
+    c.in-Start.version c.start.ensures.placed)

@@ -1,12 +1,11 @@
-use Rattle.std.proofs.Common.{[], refl, sym, subst}
-use Rattle.std.proofs.lemmas.List.{append-nil}
-use Rattle.flow_model.specs.declared.transactions.Transaction.TheVariants as made
-use Rattle.template_store.specs.declared.store.TemplateStore.{TemplateStore}
-use Rattle.flow_core.specs.Driving.{templates, LibraryAfter}
+use Rattle.std.proofs.Common.{subst}
+use Rattle.flow_core.specs.Driving.{AddsText}
+use Rattle.flow_core.proofs.Texts.{adds_text}
 use Rattle.flow_core.proofs.state.Core.import.Goals as goal
 
-pub returns-in-Err-Rule-clause-library : goal.returns-in-Err-Rule-clause-library
-returns-in-Err-Rule-clause-library c =
-    let before = templates c.args.self.now in
-    let unchanged = c.in-Err-Rule.ensures.refused (rw c.in-Err-Rule.field-0-is refl) in
-    subst (λ (s : TemplateStore). LibraryAfter (made.Import c.args.text.now) before s.catalog.library.templates) (sym unchanged) (([], sym (append-nil before)), λ sound. sound)
+pub returns-in-Ok-clause-store : goal.returns-in-Ok-clause-store
+returns-in-Ok-clause-store c =
+    let added = c.in-Ok.ensures.added in
+    subst (λ text. AddsText text c.args.self.now.store.catalog c.import.new.self.catalog.library) c.as_slice.ensures
+    (adds_text c.as_slice.result.now c.args.self.now.store.catalog c.import.new.self.catalog.library added.0 added.2
+    c.in-Ok.ensures.of_text)

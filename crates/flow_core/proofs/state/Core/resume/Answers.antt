@@ -1,4 +1,4 @@
-use Rattle.std.proofs.Common.{ap, rules, ◌∙◌}
+use Rattle.std.proofs.Common.{ap, refl, rules, ◌∙◌}
 use Rattle.flow_model.specs.declared.graphs.Library.{Library}
 use Rattle.recover_queue.specs.Queues.{is_quiet}
 use Rattle.flow_core.proofs.Putting.{none_quiet}
@@ -9,6 +9,9 @@ returns-clause-blank c = record {
   roots = λ root. search rules;
   queues = ap is_quiet c.in_ok-new.ensures ∙ none_quiet c.args.queues;
   library = ap (λ (l : Library). l.templates) c.new-2.ensures.empty;
+  people = ap (λ (l : Library). l.people) c.new-2.ensures.empty;
+  clock = refl;
+  keys = c.new-4.ensures.empty;
   indexed = c.new-2.ensures.indexed;
   live = c.new-6.ensures.items;
   unlisted = c.new-5.ensures;
