@@ -9,6 +9,6 @@ rt ci || exit
 for script in tests/promises.py tests/widths.py tests/words.py; do
     python3 "$script" || exit
 done
-for script in tests/pages.py tests/files/run.py; do
+for script in tests/pages.py tests/clients.py tests/files/run.py; do
     python3 "$script" crates/flow_cli/out/flow_cli || exit
 done
