@@ -1,129 +1,124 @@
 #!/usr/bin/env python3
-"""Proves and compiles the program: each crate that `flow_cli` stands on, those that others wait for first.
+"""Proves and compiles the program: the crates that `flow_cli` stands on, by `rt ci` in a copy without the must-fail edits.
 
-Prints a line as each crate begins and ends, with how many are done and the time so far. Crates that don't
-stand on one another are proved side by side. Usage: build.py [JOBS]
+Prints a line as each crate is proved, and every half minute which ones are being proved, with how many are done and the
+time so far. What is proved is kept on this machine, so a second build, and the whole gate, prove only what is new.
+Usage: build.py
 """
 import os
+import re
 import shutil
 import subprocess
 import sys
 import tempfile
+import threading
 import time
 
 TOP = os.path.dirname(os.path.dirname(os.path.abspath(__file__)))
 PROGRAM = "flow_cli"
-GIGABYTES_A_CHECK = 5
+BUILT = os.path.join("crates", PROGRAM, "out", PROGRAM)
+HALF_A_MINUTE = 30
 
 
 def crates_below(program):
-    """The crates that a program stands on, itself among them, each with those that it stands on directly."""
-    stands_on = {}
-    with open(os.path.join(TOP, "crates.txt"), encoding="utf-8") as lines:
-        for line in lines:
-            name, colon, below = line.split("#")[0].partition(":")
+    """The crates that a program stands on, itself among them, each with its line of crates.txt."""
+    lines = {}
+    with open(os.path.join(TOP, "crates.txt"), encoding="utf-8") as file:
+        for line in file:
+            name, colon, _ = line.split("#")[0].partition(":")
             if colon:
-                stands_on[name.strip()] = below.split()
+                lines[name.strip()] = line.strip()
     wanted = {}
     waiting = [program]
     while waiting:
         name = waiting.pop()
-        if name not in wanted:
-            wanted[name] = [below for below in stands_on[name] if below in stands_on]
-            waiting += wanted[name]
+        if name in lines and name not in wanted:
+            wanted[name] = lines[name]
+            waiting += lines[name].partition(":")[2].split()
     return wanted
 
 
-def heights(stands_on):
-    """How long the longest chain of crates is that waits for each crate."""
-    above = {name: [] for name in stands_on}
-    for name, below in stands_on.items():
-        for one in below:
-            above[one].append(name)
-    known = {}
-
-    def height(name):
-        if name not in known:
-            known[name] = 1 + max((height(one) for one in above[name]), default=0)
-        return known[name]
-
-    return {name: height(name) for name in stands_on}
+def copy_crates(crates, copy):
+    """Makes a repository of these crates alone."""
+    os.mkdir(os.path.join(copy, ".git"))
+    shutil.copy(os.path.join(TOP, "HANDLES"), copy)
+    with open(os.path.join(copy, "crates.txt"), "w", encoding="utf-8") as file:
+        file.writelines(line + "\n" for line in crates.values())
+    for name in crates:
+        shutil.copytree(os.path.join(TOP, "crates", name), os.path.join(copy, "crates", name),
+                        ignore=shutil.ignore_patterns("out", "must-fail"))
 
 
-def usual_jobs():
-    """As many checks at once as there are processors, and memory for them."""
-    gigabytes = os.sysconf("SC_PAGE_SIZE") * os.sysconf("SC_PHYS_PAGES") // 2**30
-    return max(1, min(os.cpu_count() or 1, gigabytes // GIGABYTES_A_CHECK))
+def under_way(copy):
+    """The crates below a copy that are being proved now."""
+    found = set()
+    for process in filter(str.isdigit, os.listdir("/proc")):
+        try:
+            folder = os.readlink(f"/proc/{process}/cwd")
+        except OSError:
+            continue
+        if folder.startswith(os.path.join(copy, "crates") + os.sep):
+            found.add(os.path.basename(folder))
+    return sorted(found)
 
 
-class Build:
-    """The crates that are proved, those under way, and those that wait."""
+class Progress:
+    """How many crates are proved, and the time so far."""
 
-    def __init__(self, stands_on):
-        self.stands_on = stands_on
-        self.heights = heights(stands_on)
+    def __init__(self, total):
+        self.total = total
         self.done = set()
-        self.running = {}
         self.begin = time.monotonic()
 
     def say(self, text):
         minutes, seconds = divmod(int(time.monotonic() - self.begin), 60)
-        print(f"flow: [{len(self.done)} of {len(self.stands_on)}, {minutes}:{seconds:02}] {text}", flush=True)
+        print(f"flow: [{len(self.done)} of {self.total}, {minutes}:{seconds:02}] {text}", flush=True)
 
-    def ready(self):
-        """The crates that may begin, those that most others wait for first."""
-        names = (name for name, below in self.stands_on.items()
-                 if name not in self.done and name not in self.running and self.done.issuperset(below))
-        return sorted(names, key=lambda name: -self.heights[name])
+    def read(self, line):
+        """Takes a line of rt's, and tells where a crate is done."""
+        found = re.match(r"rt: (\w+) (proved|is kept)", line)
+        if found and found.group(1) not in self.done:
+            self.done.add(found.group(1))
+            self.say(f"proved {found.group(1)}" + (", by an earlier run" if found.group(2) == "is kept" else ""))
 
-    def start(self, name):
-        """Begins to prove a crate, or to prove and compile the program."""
-        words = ["rt", "run", "--", "load", "0", "1"] if name == PROGRAM else ["rt", "lib"]
-        log = tempfile.TemporaryFile()
-        folder = os.path.join(TOP, "crates", name)
-        child = subprocess.Popen(words, cwd=folder, stdin=subprocess.DEVNULL, stdout=log, stderr=subprocess.STDOUT)
-        self.running[name] = (child, log)
-        self.say(f"proving {name}")
+    def tell_what_is_under_way(self, copy, ended):
+        while not ended.wait(HALF_A_MINUTE):
+            crates = under_way(copy)
+            if crates:
+                self.say("being proved: " + ", ".join(crates))
 
-    def finish(self):
-        """Takes the crates that have ended; False where one of them isn't proved."""
-        for name, (child, log) in list(self.running.items()):
-            if child.poll() is None:
-                continue
-            del self.running[name]
-            if child.returncode != 0:
-                log.seek(0)
-                sys.stdout.buffer.write(log.read())
-                self.say(f"{name} was not proved")
-                return False
-            self.done.add(name)
-            self.say(f"proved {name}")
-        return True
 
-    def run(self, jobs):
-        """Proves all of them; False at the first that isn't proved."""
-        while len(self.done) < len(self.stands_on):
-            for name in self.ready()[:jobs - len(self.running)]:
-                self.start(name)
-            time.sleep(0.2)
-            if not self.finish():
-                for child, _ in self.running.values():
-                    child.terminate()
-                return False
-        return True
+def prove(copy, progress):
+    """Runs rt ci in the copy; its status, and its last lines."""
+    child = subprocess.Popen(["rt", "ci"], cwd=copy, stdin=subprocess.DEVNULL, stdout=subprocess.PIPE,
+                             stderr=subprocess.STDOUT, text=True)
+    ended = threading.Event()
+    teller = threading.Thread(target=progress.tell_what_is_under_way, args=(copy, ended), daemon=True)
+    teller.start()
+    last = []
+    for line in child.stdout:
+        progress.read(line)
+        last = last[-40:] + [line]
+    status = child.wait()
+    ended.set()
+    return status, last
 
 
 def main():
     if shutil.which("rt") is None:
         sys.exit("flow: there is no rt on the path to prove and compile with")
-    jobs = int(sys.argv[1]) if len(sys.argv) > 1 else usual_jobs()
-    build = Build(crates_below(PROGRAM))
-    if not build.run(jobs):
-        return 1
-    program = os.path.join(TOP, "crates", PROGRAM, "out", PROGRAM)
-    # Where no source had changed, rt leaves the program's time as it was.
-    os.utime(program)
-    build.say(f"the program is {os.path.relpath(program, TOP)}")
+    crates = crates_below(PROGRAM)
+    progress = Progress(len(crates))
+    with tempfile.TemporaryDirectory(prefix="flow-build-") as copy:
+        copy_crates(crates, copy)
+        status, last = prove(os.path.realpath(copy), progress)
+        if status != 0:
+            sys.stdout.writelines(last)
+            progress.say("the program was not built")
+            return 1
+        os.makedirs(os.path.join(TOP, os.path.dirname(BUILT)), exist_ok=True)
+        shutil.copy(os.path.join(copy, BUILT), os.path.join(TOP, BUILT))
+    progress.say(f"the program is {BUILT}")
     return 0
 
 
