@@ -646,7 +646,7 @@ def room_ahead(folder):
     wants(flow(folder, "run", "A", "B", data=b"".join(b"CLOCK %d\n" % i for i in range(2501, 3001))), 0)
     with_room = held(folder)["A"]
     end = 43 + 22 * 3000
-    check(len(with_room) == 1 << 20 and not any(with_room[end:]), f"{len(with_room)} bytes")
+    check(len(with_room) == 1 << 17 and not any(with_room[end:]), f"{len(with_room)} bytes")
     status, stream = flow(folder, "ship", "A", "B", "0")
     with open(os.path.join(folder, "A"), "r+b") as file:
         file.truncate(end)
@@ -657,7 +657,7 @@ def room_ahead(folder):
         wants(flow(folder, "run", "A", "B", data=b"CHECKPOINT\nCLOCK %d\n" % clock), 0,
               b"ok CHECKPOINT %d\nok %d CLOCK %d\n" % (clock - 1, clock, clock))
     check(count_of(folder) == 3003, "after three checkpoints")
-    return f"zeros behind the records of a file of more than 65,536 bytes, up to 1,048,576; they mean nothing"
+    return f"zeros behind the records of a file of more than 65,536 bytes, up to 131,072; they mean nothing"
 
 
 MEMORY = "/dev/shm"

@@ -31,7 +31,7 @@ use std::marker::Model;
 /// A sync covers both files, but passes over one that wasn't written since its last successful
 /// sync. Writes that follow one another go to the file in one call; one that fails is a fault of
 /// the call that puts it out. Behind the end of a file of more than 65,536 bytes zeros are written
-/// ahead, up to the next multiple of 1,048,576, so that most syncs change no size.
+/// ahead, up to the next multiple of 131,072, so that most syncs change no size.
 ///
 /// A signal that interrupts a call doesn't end it. A write past the process's limit on the size of
 /// a file (`RLIMIT_FSIZE`) is a fault only where the process was started with `SIGXFSZ` ignored:
