@@ -1,0 +1,36 @@
+-- What `apply` owes of a transaction, and that this is a step of the machine.
+use Rattle.std.specs.Prelude.{◌≡◌, ℕ, List}
+use Rattle.core_laws.specs.RightStates.{IsRightState}
+use Rattle.flow_core.specs.Allowing.{IsAllowed}
+use Rattle.flow_core.specs.Driving.{Drives, StoreAfter, clock_after, IsNewestVersion}
+use Rattle.flow_core.specs.Shelving.{IsExact}
+use Rattle.flow_core.specs.Summaries.{summary, next}
+use Rattle.flow_core.specs.declared.state.Core.{Core}
+use Rattle.flow_model.specs.declared.transactions.Transaction.{Transaction}
+use Rattle.flow_model.specs.declared.transactions.Transaction.TheVariants.{Import, Start}
+use Rattle.machine.specs.Steps.{Steps}
+use Rattle.template_check.specs.Judged.{IsFaultless}
+use Rattle.view_laws.specs.Runs.{Event}
+use Rattle.machine_laws.specs.Right.{HoldsOpen}
+use Rattle.machine_laws.specs.Viewed.{view}
+
+-- the clauses of `apply` that fix the next state
+pub record Applied (c : Core) (t : Transaction) (c' : Core) : Type 0 where
+  pub drives : Drives c t c'
+  pub came : summary c' ≡ next t (summary c)
+  pub clock : c'.clock ≡ clock_after t c.clock
+  pub store : StoreAfter t c.store.catalog c'.store.catalog
+  pub exact : IsExact c t c'
+
+-- what `judge` and `adopt` have tested: the text of an Import breaks no rule, a Start has the newest version
+abbrev pub IsGood : Core → Transaction → Type 0
+IsGood c (Import text) = IsFaultless c.store.catalog.library text
+IsGood c (Start root process version starter key settings) =
+    (place : ℕ) × IsNewestVersion c.store.catalog.library process version place
+IsGood c t = Unit {0}
+
+-- in a right state, what `apply` does with a transaction that may come is a step of the machine
+abbrev pub AppliedAreSteps : Type 0
+AppliedAreSteps =
+    (c c' : Core) (t : Transaction) (runs : ℕ → List Event) → IsRightState c runs → IsAllowed c t → HoldsOpen c t
+    → IsGood c t → Applied c t c' → Steps (view c) t (view c')
