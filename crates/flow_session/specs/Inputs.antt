@@ -1,5 +1,5 @@
 -- What one input of a session does: to the state, to the text of an IMPORT that isn't ended yet, and what is replied.
-use Rattle.std.specs.Prelude.{◌≡◌, ℕ, ◌<◌, nat_le, Bool, true, false, ◌||◌, if◌then◌else◌, Option, Some, None, option_map, List, [], ◌∷◌, ◌++◌, length, codes, bytes_eq}
+use Rattle.std.specs.Prelude.{◌≡◌, ℕ, ◌<◌, ◌≤◌, nat_le, Bool, true, false, ◌||◌, if◌then◌else◌, Option, Some, None, option_map, List, [], ◌∷◌, ◌++◌, length, codes, bytes_eq}
 use Rattle.std.specs.Fmt.{decimal}
 use Rattle.command_lang.specs.Reading.{AreLineTokens, SaysCommand, IsOnlyCommand, IsRefusal, RefusesFirst}
 use Rattle.command_lang.specs.Refusing.{SomeCommand}
@@ -122,3 +122,13 @@ ServesInput (Some u) input old new after reply = ServesInside u input old new af
 -- what an input does to a session, and what is replied
 abbrev pub IsServed : Session → Session → Given → List ℕ → Type 0
 IsServed old new input reply = ServesInput (unended old) input old.core new.core (unended new) reply
+
+-- an input that is the command CHECKPOINT, in a line that isn't too long
+abbrev pub SaysCheckpoint : Given → Type 0
+SaysCheckpoint (Line line) = (length line ≤ 65536) × Says line Checkpoint
+SaysCheckpoint Long = ⊥
+SaysCheckpoint End = ⊥
+
+-- so it is, and no IMPORT is open, of whose text it would be a line
+abbrev pub AsksCheckpoint : Session → Given → Type 0
+AsksCheckpoint session input = (unended session ≡ None) × SaysCheckpoint input

@@ -1,4 +1,5 @@
 pub mod Histories
+pub mod Checkpoints
 pub mod Keeping
 pub mod Runs
 pub mod Stopping

@@ -34,6 +34,9 @@ pub trait Journal {
     /// What a crash at some moment from that one on might have left.
     ghost left_since: { Self → ℕ → Image → Type 0 };
 
+    /// From the first one to the second one it moved, and keeps the live transactions of this summary alone.
+    ghost moved: { Self → Self → Summary → Type 0 };
+
     /// The payload of a transaction under a number; a journal that keeps nothing needs none. `NoMemory` comes
     /// where there is no memory.
     fn payload(&self, number: u64, t: &Transaction) -> Result<Vec<u8>, Stop>
@@ -51,11 +54,13 @@ pub trait Journal {
             → LeavesOnly moment left_since self.old self.new (WithOrWithout t s) }
         ensures cause { MatchResult result (λ _. faults self.new ≡ faults self.old) (IsStopCause (faults self.old) (faults self.new)) };
 
-    /// Keeps the live transactions alone from now on. `StoreFault` and `NoMemory` come as above; then a crash
-    /// leaves the same history.
+    /// Keeps the live transactions alone from now on. `StoreFault` comes where its count of faults rose; then a
+    /// crash leaves the same history. `NoMemory` comes where there is no memory, and where it can't move; then
+    /// nothing was done.
     fn checkpoint(&mut self, core: &Core) -> Result<(), Stop>
         requires open { tells → holds self.old (summary core.now) }
         ensures kept { tells → OnOk result (holds self.new (summary core.now)) }
+        ensures moved { OnOk result (moved self.old self.new (summary core.now)) }
         ensures any_moment { tells → LeavesOnly moment left_since self.old self.new (StandsFor (summary core.now)) }
         ensures cause { MatchResult result (λ _. faults self.new ≡ faults self.old) (IsStopCause (faults self.old) (faults self.new)) };
 
@@ -86,6 +91,8 @@ impl Journal for NoJournal {
     ghost faults = { λ _. 0 };
 
     ghost left_since = { λ _ _ _. ⊥ };
+
+    ghost moved = { λ _ _ _. Unit {0} };
 
     ghost at_rest = { λ _ _ _ none. absurd none };
 

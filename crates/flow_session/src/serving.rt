@@ -2,6 +2,7 @@
 ghost use Rattle.std.specs.Prelude.{◌≡◌, ◌⊎◌, ◌<◌, ◌≤◌, ◌+◌, ◌++◌, ◌∷◌, [], Some, None, length, IfOk, IfErr, OnOk, MatchResult};
 ghost use Rattle.std.specs.Fmt.{decimal as digits_of};
 ghost use Rattle.flow_disk.specs.Moments.{LeavesOnly};
+ghost use Rattle.flow_model.specs.declared.commands.Command.TheVariants.{Checkpoint};
 ghost use Rattle.flow_core.specs.declared.applying.Note.{Note as NoteOf};
 ghost use Rattle.worklist_laws.specs.Asking.{AsksOpen};
 ghost use Rattle.worklist_laws.specs.Shelved.{IsRightAndListed};
@@ -11,7 +12,7 @@ ghost use Rattle.flow_core.specs.Summaries.{summary, next};
 ghost use Rattle.flow_core.specs.Driving.{Drives};
 ghost use Rattle.flow_core.specs.Verdicts.{IsNoteOf};
 ghost use Rattle.flow_core.specs.Queries.{IsAnswer};
-ghost use Rattle.flow_session.specs.Inputs.{given, unended_in, no_lines, is_end, with_line, unended, long_text, Answers, IsCommanded, ServesLine, ServesText, ServesInside, IsServed};
+ghost use Rattle.flow_session.specs.Inputs.{given, Line, SaysCheckpoint, AsksCheckpoint, unended_in, no_lines, is_end, with_line, unended, long_text, Answers, IsCommanded, ServesLine, ServesText, ServesInside, IsServed};
 ghost use Rattle.flow_session.specs.Replying.{IsObeyed, checkpoint_text};
 ghost use Rattle.flow_session.specs.Serving.{Makes, WithOrWithout};
 ghost use Rattle.flow_session.specs.Stopping.{IsStopCause};
@@ -213,6 +214,7 @@ impl Session {
         }
     }
 
+    /// Moves the journal, which then keeps the live transactions alone.
     fn checkpoint<J: Journal>(&mut self, journal: &mut J) -> Result<Vec<u8>, Stop>
         requires { J.tells → J.holds journal.old (summary self.old.core) }
         ensures kept { J.tells → OnOk result (J.holds journal.new (summary self.new.core)) }
@@ -221,6 +223,7 @@ impl Session {
         ensures right { IsRightAndListed self.old.core → OnOk result (IsRightAndListed self.new.core) }
         ensures gathers { OnOk result (self.new.gathered ≡ self.old.gathered) }
         ensures same { self.new.core ≡ self.old.core }
+        ensures moved { OnOk result (J.moved journal.old journal.new (summary self.old.core)) }
         ensures replied { IfOk result (λ reply. reply.items ≡ checkpoint_text (length self.old.core.live.items)) }
     {
         journal.checkpoint(&self.core)?;
@@ -243,6 +246,7 @@ impl Session {
         ensures cause { MatchResult result (λ _. J.faults journal.new ≡ J.faults journal.old) (IsStopCause (J.faults journal.old) (J.faults journal.new)) }
         ensures makes { Makes J.tells J.moment J.left_since journal.old journal.new (summary self.old.core) (λ s. OnOk result (summary self.new.core ≡ s)) }
         ensures right { IsRightAndListed self.old.core → OnOk result (IsRightAndListed self.new.core) }
+        ensures moved { command.now ≡ Checkpoint → OnOk result (J.moved journal.old journal.new (summary self.old.core)) }
         ensures served { IfOk result (λ reply. IsCommanded self.old.core self.new.core command.now (unended self.new) reply.items) }
     {
         match command {
@@ -268,6 +272,8 @@ impl Session {
         ensures cause { MatchResult result (λ _. J.faults journal.new ≡ J.faults journal.old) (IsStopCause (J.faults journal.old) (J.faults journal.new)) }
         ensures makes { Makes J.tells J.moment J.left_since journal.old journal.new (summary self.old.core) (λ s. OnOk result (summary self.new.core ≡ s)) }
         ensures right { IsRightAndListed self.old.core → OnOk result (IsRightAndListed self.new.core) }
+        ensures moved { SaysCheckpoint (Line line.now)
+            → OnOk result (J.moved journal.old journal.new (summary self.old.core)) }
         ensures served { IfOk result (λ reply. ServesLine line.now self.old.core self.new.core (unended self.new) reply.items) }
     {
         if line.len() > MOST_LINE {
@@ -336,14 +342,16 @@ impl Session {
     /// The reply to an input: empty for a line of blanks and comments, inside an IMPORT, and at the end.
     ///
     /// A line that can't be read and a command that isn't allowed have their refusal as the reply. `NoMemory` comes
-    /// where there is no memory, `StoreFault` where the journal may not have kept a transaction or a checkpoint;
-    /// then nothing is replied.
+    /// where there is no memory or the journal can't take a transaction or a checkpoint, `StoreFault` where it may not
+    /// have kept one; then nothing is replied.
     pub fn serve<J: Journal>(&mut self, journal: &mut J, input: Input<'_>) -> Result<Vec<u8>, Stop>
         requires { J.tells → J.holds journal.old (summary self.old.core) }
         ensures kept { J.tells → OnOk result (J.holds journal.new (summary self.new.core)) }
         ensures cause { MatchResult result (λ _. J.faults journal.new ≡ J.faults journal.old) (IsStopCause (J.faults journal.old) (J.faults journal.new)) }
         ensures makes { Makes J.tells J.moment J.left_since journal.old journal.new (summary self.old.core) (λ s. OnOk result (summary self.new.core ≡ s)) }
         ensures right { IsRightAndListed self.old.core → OnOk result (IsRightAndListed self.new.core) }
+        ensures moved { AsksCheckpoint self.old (given input.entry)
+            → OnOk result (J.moved journal.old journal.new (summary self.old.core)) }
         ensures served { IfOk result (λ reply. IsServed self.old self.new (given input.entry) reply.items) }
     {
         if let Some(gathered) = self.gathered.take() {

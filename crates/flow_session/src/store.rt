@@ -1,13 +1,14 @@
 //! The journal of a store: its log and its disk.
-ghost use Rattle.std.specs.Prelude.{◌≡◌, ◌+◌, false, IfOk, IfSome, MatchResult, OnOk, IsTrue, ◌↔◌};
+ghost use Rattle.std.specs.Prelude.{◌≡◌, ◌+◌, false, length, IfOk, IfSome, MatchResult, OnOk, IsTrue, ◌↔◌};
 ghost use Rattle.std.specs.List.{All};
 ghost use Rattle.flow_disk.specs.Images.{opposite};
 ghost use Rattle.flow_disk.specs.Moments.{LeavesOnly, Only};
-ghost use Rattle.txn_log.specs.Records.{IsPayload};
-ghost use Rattle.txn_log.specs.Standing.{HasRecord, MayHaveRecord, StandsOn};
+ghost use Rattle.txn_log.specs.Records.{IsPayload, reach};
+ghost use Rattle.txn_log.specs.Standing.{HasRecord, IsAt, MayHaveRecord, StandsOn};
 ghost use Rattle.txn_log.specs.Stored.{InRange};
 ghost use Rattle.checkpoint.specs.Compacting.{IsCompacted, MayBeCompacted};
 ghost use Rattle.flow_core.specs.Summaries.{summary};
+ghost use Rattle.flow_session.specs.Checkpoints.{IsCheckpointed};
 ghost use Rattle.flow_session.specs.Histories.{payloads as payloads_of, IsHeaderOf};
 ghost use Rattle.flow_session.specs.Keeping.{IsOpen, rests};
 ghost use Rattle.flow_session.specs.Stopping.{IsStopCause};
@@ -25,7 +26,7 @@ use txn_log::{Header, Log, MAX_PAYLOAD};
 /// A log has fewer records.
 const MOST_RECORDS: u64 = 1 << 32;
 
-/// A store has generations up to this one; then a CHECKPOINT writes nothing.
+/// A store has generations up to this one; then no CHECKPOINT moves it.
 const LAST_GENERATION: u64 = 1 << 62;
 
 /// The journal of a store.
@@ -142,6 +143,8 @@ fn move_log<D: Disk>(
     ensures compacted { OnOk result (D.tells → IsCompacted (opposite log.old.slot) header.now kept.now (D.seen disk.new)) }
     ensures durable { OnOk result (Only (D.seen disk.new) (D.images disk.new)) }
     ensures alive { OnOk result (log.new.failed ≡ false) }
+    ensures log { OnOk result (IsAt (opposite log.old.slot) header.now.generation
+        (length kept.now) (reach 42 kept.now) log.new) }
     ensures cause { MatchResult result (λ _. D.faults disk.new ≡ D.faults disk.old) (IsStopCause (D.faults disk.old) (D.faults disk.new)) }
     ensures any_moment { D.tells → Only (D.seen disk.old) (D.images disk.old)
         → LeavesOnly D.moment D.left_since disk.old disk.new (MayBeCompacted (opposite log.old.slot) header.now kept.now (D.seen disk.old)) }
@@ -166,6 +169,8 @@ impl<D: Disk + Drop> Journal for Stored<D> {
 
     ghost left_since = { λ journal. D.left_since journal.disk };
 
+    ghost moved = { λ old new s. IsCheckpointed D.tells D.seen D.images old.log new.log new.disk s };
+
     ghost at_rest = { λ journal s c told is left. rests D.seen D.images journal.log journal.disk s c is (D.only_now journal.disk c left) };
 
     fn payload(&self, number: u64, t: &Transaction) -> Result<Vec<u8>, Stop> {
@@ -177,12 +182,17 @@ impl<D: Disk + Drop> Journal for Stored<D> {
         Ok(())
     }
 
+    /// Moves the store to its other slot, which then holds the live transactions alone.
+    ///
+    /// `StoreFault` comes exactly where the disk failed. `NoMemory` comes where nothing was tried: there is no
+    /// memory, the log has failed before, the store is at its last generation, or the counts or a live transaction
+    /// are out of the range of records, to none of which but the first a store of the program comes.
     fn checkpoint(&mut self, core: &Core) -> Result<(), Stop> {
         let Some(header) = next_header(&self.log, core) else {
-            return Ok(());
+            return Err(Stop::NoMemory);
         };
         let Some(kept) = payloads(self.alloc, core.live())? else {
-            return Ok(());
+            return Err(Stop::NoMemory);
         };
         move_log(&mut self.log, &mut self.disk, &header, &kept)?;
         Ok(())

@@ -1,6 +1,7 @@
 use Rattle.std.proofs.Common.{rules}
 use Rattle.flow_core.specs.Summaries.{summary}
 use Rattle.flow_session.proofs.Calls.{makes_none}
+use Rattle.flow_session.proofs.Rights.{whatever}
 use Rattle.flow_session.proofs.Stopping.{silent_after}
 use Rattle.flow_session.proofs.serving.Session.checkpoint.Goals as goal
 
@@ -12,3 +13,6 @@ returns-clause-makes g c = makes_none g.J.Journal.tells g.J.Journal.moment g.J.J
 
 pub returns-clause-cause : goal.returns-clause-cause
 returns-clause-cause g c = silent_after (g.J.Journal.faults c.args.journal.now) (g.J.Journal.faults c.checkpoint.new.self) c.numbered.result c.in_ok-checkpoint.ensures.cause c.numbered.ensures.silent
+
+pub returns-clause-moved : goal.returns-clause-moved
+returns-clause-moved g c = whatever c.numbered.result c.in_ok-checkpoint.ensures.moved

@@ -1,4 +1,5 @@
-use Rattle.std.proofs.Common.{rules}
+use Rattle.std.proofs.Common.{rules, sym}
+use Rattle.flow_model.specs.declared.commands.Command.TheVariants.{Checkpoint}
 use Rattle.flow_core.specs.Summaries.{summary}
 use Rattle.flow_session.proofs.Calls.{makes_nothing}
 use Rattle.flow_session.proofs.Inputs.{says_command, says_none}
@@ -36,3 +37,18 @@ returns-then-line-gt-MOST_LINE-clause-cause g c = silent (g.J.Journal.faults c.a
 
 pub returns-in-Err-Word-clause-cause : goal.returns-in-Err-Word-clause-cause
 returns-in-Err-Word-clause-cause g c = silent (g.J.Journal.faults c.args.journal.now) c.numbered.result c.numbered.ensures.silent
+
+pub returns-in-Ok-None-clause-moved : goal.returns-in-Ok-None-clause-moved
+returns-in-Ok-None-clause-moved g c says =
+    let one = rw c.in-Ok-None.field-0-is at c.in-Ok-None.ensures.one in
+    absurd (one Checkpoint says.1.0)
+
+pub returns-in-Ok-Some-clause-moved : goal.returns-in-Ok-Some-clause-moved
+returns-in-Ok-Some-clause-moved g c says =
+    let one = rw c.in-Ok-Some.field-0-is at c.in-Ok-Some.ensures.one in
+    c.command.ensures.moved (sym (one Checkpoint says.1.0))
+
+pub returns-in-Err-Word-clause-moved : goal.returns-in-Err-Word-clause-moved
+returns-in-Err-Word-clause-moved g c says =
+    let none = rw c.in-Err-Word.field-0-is at c.in-Err-Word.ensures.none in
+    absurd (none Checkpoint says.1.0)

@@ -43,3 +43,21 @@ returns-clause-any_moment g c told =
     (weaker d.moment d.left_since d.images c.args.self.now.disk c.move_log.new.disk (MayBeCompacted (opposite c.args.self.now.log.slot) c.in-Some.header c.in-Some-2.kept (d.seen c.args.self.now.disk)) (StandsFor (summary c.args.core.now)) (c.move_log.ensures.any_moment told is.only)
     (λ image may. may_be_compacted (summary c.args.core.now) (opposite c.args.self.now.log.slot) c.in-Some.header (d.seen c.args.self.now.disk) image is.holds c.in-Some.ensures.2
     (subst (λ ps. MayBeCompacted (opposite c.args.self.now.log.slot) c.in-Some.header ps (d.seen c.args.self.now.disk) image) live may)))
+
+pub returns-clause-moved : goal.returns-clause-moved
+returns-clause-moved g c =
+    let d = g.D.Disk in
+    let log = c.in_ok-move_log.ensures.log in
+    let bytes = rw c.in-Some-2.is at c.in_ok-kept.ensures.bytes in
+    let live = bytes ∙ ap payloads c.live.ensures in
+    record {
+      slot = log.slot_is;
+      generation = log.generation_is ∙ c.in-Some.ensures.1;
+      holds = λ told. record {
+        header = c.in-Some.header;
+        generation_is = c.in-Some.ensures.1;
+        says = c.in-Some.ensures.2;
+        records = subst (λ ps. IsCompacted (opposite c.args.self.now.log.slot) c.in-Some.header ps (d.seen c.move_log.new.disk)) live (c.in_ok-move_log.ensures.compacted told);
+      };
+      durable = c.in_ok-move_log.ensures.durable;
+    }
