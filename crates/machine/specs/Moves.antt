@@ -105,7 +105,7 @@ abbrev pub is_root : List Part → Bool
 is_root [] = true
 is_root (q ∷ qs) = false
 
--- the END of a scope of which so many activities are left; the root has none
+-- the END of a scope, by the number of its activities that are left; the root has none
 abbrev pub end_after : Path → ℕ → List Message
 end_after path left = if (left == 0) && not (is_root path.parts) then End path ∷ [] else []
 
@@ -130,9 +130,9 @@ dead_standing (Inner stage n) = Inner Died n
 abbrev pub dies : Graph → Path → ℕ → Scene → Scene
 dies g path a x = settles g path a end.Dead (with_row_of (changed dead_standing a x.row) x)
 
--- ---- an attempt comes to be
+-- ---- an attempt begins
 
--- one scope more of an activity that has had so many, of this graph and input; its BEGIN goes out
+-- one scope more of an activity, by the number that it had, of this graph and input; its BEGIN goes out
 abbrev pub begins_next : Graph → Container → Path → ℕ → Activity → ℕ → Scene → Scene
 begins_next h input path a activity n x = record {
   row = record x.row { standings = slice_set x.row.standings a (Inner Runs (n + 1)) };

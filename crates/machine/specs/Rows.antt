@@ -91,7 +91,7 @@ fresh_standing (Process t) = Inner Waits 0
 abbrev pub incoming_count : Graph → ℕ → ℕ
 incoming_count g a = min (length (row_at (out-Graph g).wiring.incoming a)) (2 ^ 32 - 1)
 
--- a tally of so many connectors of which no value is known
+-- a tally of a number of connectors of which no value is known
 abbrev pub fresh_tally : ℕ → Tally
 fresh_tally n = record { total = n; missing = n; trues = 0 }
 

@@ -37,7 +37,7 @@ pub record State : Type 0 where
   pub transactions : ℕ
   pub last_root : ℕ
 
--- a state with so many queues and this limit, before any transaction
+-- a state with this number of queues and this limit, before any transaction
 abbrev pub blank : ℕ → ℕ → State
 blank queues limit = record {
   library = record { templates = []; people = [] };

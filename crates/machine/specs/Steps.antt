@@ -33,7 +33,7 @@ use Rattle.machine.specs.Queues.{queue_in, put_in, taken_by}
 use Rattle.machine.specs.Rows.{fresh_scopes}
 use Rattle.machine.specs.States.{Root, State, templates, graph_of_root, item_of}
 
--- ---- what becomes of one root
+-- ---- one root after a transaction
 
 -- the root after a transaction, where it is live then, and the messages that it gives
 pub record After : Type 0 where
@@ -116,7 +116,7 @@ abbrev pub performer_named : Who → Option Name
 performer_named (who.Person name) = Some name
 performer_named (who.Agent take) = None
 
--- what becomes of the root that a transaction is about
+-- the root that a transaction is about, after it
 abbrev pub becomes : State → Transaction → Option Root → After
 becomes s (Import text) r = stays r
 becomes s (Start root process version starter key settings) r =

@@ -47,7 +47,7 @@ use Rattle.machine_laws.specs.Judging.{hold_in, is_going}
 
 -- ---- SHOW: the rows of all scopes that have begun, in show order
 
--- the fate of a block or process activity that has had so many scopes
+-- the fate of a block or process activity, by the number of its scopes
 abbrev pub stage_fate : Stage → ℕ → Fate
 stage_fate Waits n = fate.Waiting
 stage_fate Runs n = fate.Running n
@@ -91,7 +91,7 @@ scope_rows ts rows g s path (Some r) =
     flat_map (λ a. place_rows ts rows path s a (slice_get (out-Graph g).activities a) (slice_get r.standings a))
     (up_to (length (out-Graph g).activities) 0)
 
--- the rows of a scope, with at most so many levels of scopes
+-- the rows of a scope, with at most this number of levels of scopes
 abbrev pub rows_within : List Template → ℕ → ShowRows
 rows_within ts zero g s path = []
 rows_within ts (suc depth) g s path = scope_rows ts (rows_within ts depth) g s path (s [])

@@ -29,7 +29,7 @@ use Rattle.recover_queue.specs.Queues.{is_quiet, queue as messages_of}
 abbrev pub same_text : ℕ → List ℕ
 same_text root = codes "ok SAME " ++ decimal root ++ 10 ∷ []
 
--- the reply of a CHECKPOINT that keeps so many transactions
+-- the reply of a CHECKPOINT, by the number of transactions that it keeps
 abbrev pub checkpoint_text : ℕ → List ℕ
 checkpoint_text count = codes "ok CHECKPOINT " ++ decimal count ++ 10 ∷ []
 
@@ -74,13 +74,13 @@ pub record TakesFront (old new : State) (queue : ℕ) : Type 0 where
   pub room : old.transactions < old.limit
   pub steps : Steps old (Turn queue message) new
 
--- so many messages are taken, one after another; then the turn is at this queue
+-- this number of messages is taken, one after another; then the turn is at this queue
 pub data TakesInTurn (c : State) : ℕ → ℕ → State → Type 0 where
   NoTurn : TakesInTurn c 0 1 c
   OneTurn : {n from queue : ℕ} {c' c'' : State} → TakesInTurn c n from c' → IsNextQueue c' from queue
       → TakesFront c' c'' queue → TakesInTurn c (n + 1) (queue_behind (length c'.queues) queue) c''
 
--- the reply of a DRAIN that took so many messages: all, or until the limit was met
+-- the reply of a DRAIN, by the number of messages that it took: all, or until the limit was met
 abbrev pub turns_text : ℕ → List ℕ
 turns_text turns = codes "ok TURNS " ++ decimal turns ++ 10 ∷ []
 

@@ -55,7 +55,7 @@ base_so f t x g a activity shows = ap (λ (r : Row). base_of g activity a r.inpu
 unmoved : (f f' : Fields) (t t' : Told) (x : m.Scene) → Shows f t x → (f' ≡ f) × (t' ≡ t) → Shows f' t' x
 unmoved f f' t t' x shows same = subst (λ u. Shows f' u x) (sym same.1) (subst (λ u. Shows u t x) (sym same.0) shows)
 
--- a scope comes to be
+-- a scope begins
 begins_so : (h : Option Graph) (input : Container) (path : Path) (a : ℕ) (activity : Activity) (k : NestedState)
     (f f' : Fields) (t t' : Told) (x : m.Scene) → slice_get f.states a ≡ Some (Nested k) → Shows f t x
     → n.Begins h input path a activity (Nested k) f f' t t'

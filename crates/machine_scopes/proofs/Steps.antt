@@ -155,7 +155,7 @@ finishes_so f t x g path a out shows =
     (settles_so changed t (m.with_row_of (m.changed m.finished_standing a x.row) x) g path a (end.Finished out)
     (changes_so f t x a n.finished_state m.finished_standing finished_like finished_same shows))
 
--- ---- a scope comes to be
+-- ---- a scope begins
 
 pushed : (states : List ActivityState) (a : ℕ) (k k' : NestedState) (next : ScopeState)
     → slice_get states a ≡ Some (Nested k)
