@@ -17,8 +17,8 @@ pub record HoldsLive (slot : Slot) (generation : ℕ) (s : Summary) (image : Ima
   pub says : IsHeaderOf header s
   pub records : IsCompacted slot header (payloads s.live) image
 
--- The log stands on the slot that was the other one, and its generation is one more. Where the disk tells its bytes, that
--- slot counts and holds the live transactions alone; a crash now leaves exactly the image that is read.
+-- The log stands on the slot that was the other one, and its generation is one more. Where the disk tells its bytes,
+-- that slot counts and holds the live transactions alone; a crash now leaves exactly the image that is read.
 pub record IsCheckpointed {D : Type 0} (tells : Type 0) (seen : D → Image) (images : D → Image → Type 0)
     (old new : Log) (disk : D) (s : Summary) : Type 0 where
   pub slot : new.slot ≡ opposite old.slot

@@ -246,7 +246,8 @@ impl Session {
         ensures cause { MatchResult result (λ _. J.faults journal.new ≡ J.faults journal.old) (IsStopCause (J.faults journal.old) (J.faults journal.new)) }
         ensures makes { Makes J.tells J.moment J.left_since journal.old journal.new (summary self.old.core) (λ s. OnOk result (summary self.new.core ≡ s)) }
         ensures right { IsRightAndListed self.old.core → OnOk result (IsRightAndListed self.new.core) }
-        ensures moved { command.now ≡ Checkpoint → OnOk result (J.moved journal.old journal.new (summary self.old.core)) }
+        ensures moved { command.now ≡ Checkpoint
+            → OnOk result (J.moved journal.old journal.new (summary self.old.core)) }
         ensures served { IfOk result (λ reply. IsCommanded self.old.core self.new.core command.now (unended self.new) reply.items) }
     {
         match command {
