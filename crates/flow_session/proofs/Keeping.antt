@@ -6,6 +6,7 @@ use Rattle.std.proofs.lemmas.List.Elements.{All-nil}
 use Rattle.std.proofs.lemmas.Bool.{lt-leb, le-leb}
 use Rattle.flow_model.specs.declared.transactions.Numbered.{Numbered}
 use Rattle.txn_log.specs.declared.header.Header.{Header}
+use Rattle.txn_log.specs.declared.log.Log.{Log}
 use Rattle.txn_log.specs.Stores.{Counts, store_of}
 use Rattle.flow_disk.specs.declared.disk.Slot.{Slot}
 use Rattle.flow_txn.specs.Records.{record_bytes}
@@ -56,3 +57,7 @@ stands_for slot h bytes end image s counts b = record {
 -- what a disk leaves, its journal leaves
 pub in_journal : {J D : Type 0} (disk_of : J → D) (moment : D → ℕ) (left_since : D → ℕ → Image → Type 0) (old new : J) (P : Image → Type 0) → LeavesOnly moment left_since (disk_of old) (disk_of new) P → LeavesOnly (λ j. moment (disk_of j)) (λ j. left_since (disk_of j)) old new P
 in_journal disk_of moment left_since old new P run = record { later = run.later; each = run.each; before = run.before }
+
+-- logs on the same slot, under the same generation, are at the same place
+pub same_place : (new old : Log) → new.slot ≡ old.slot → new.generation ≡ old.generation → ◌≡◌ {A = Slot × ℕ} (new.slot, new.generation) (old.slot, old.generation)
+same_place new old slot generation = rw (slot, generation) refl

@@ -1,6 +1,8 @@
 //! Where transactions are kept.
 ghost use Rattle.std.specs.Prelude.{◌≡◌, ℕ, ◌+◌, IfOk, IfErr, OnOk, MatchResult};
 ghost use Rattle.flow_disk.specs.Images.{Image};
+ghost use Rattle.flow_disk.specs.declared.disk.Slot.{Slot};
+ghost use Rattle.flow_disk.specs.declared.disk.Slot.TheVariants.{A};
 ghost use Rattle.flow_disk.specs.Moments.{LeavesOnly};
 ghost use Rattle.flow_model.specs.declared.transactions.Transaction.{Transaction as TransactionOf};
 ghost use Rattle.flow_txn.specs.Records.{record_bytes};
@@ -34,6 +36,9 @@ pub trait Journal {
     /// What a crash at some moment from that one on might have left.
     ghost left_since: { Self → ℕ → Image → Type 0 };
 
+    /// The slot where it keeps, and the generation of that slot.
+    ghost place: { Self → Slot × ℕ };
+
     /// From the first one to the second one it moved, and keeps the live transactions of this summary alone.
     ghost moved: { Self → Self → Summary → Type 0 };
 
@@ -52,6 +57,7 @@ pub trait Journal {
             → OnOk result (holds self.new (next t s)) }
         ensures any_moment { (s : Summary) (t : TransactionOf) → tells → holds self.old s → payload.now ≡ record_bytes (s.transactions + 1) t
             → LeavesOnly moment left_since self.old self.new (WithOrWithout t s) }
+        ensures place { place self.new ≡ place self.old }
         ensures cause { MatchResult result (λ _. faults self.new ≡ faults self.old) (IsStopCause (faults self.old) (faults self.new)) };
 
     /// Keeps the live transactions alone from now on. `StoreFault` comes where its count of faults rose; then a
@@ -91,6 +97,8 @@ impl Journal for NoJournal {
     ghost faults = { λ _. 0 };
 
     ghost left_since = { λ _ _ _. ⊥ };
+
+    ghost place = { λ _. (A, 0) };
 
     ghost moved = { λ _ _ _. Unit {0} };
 

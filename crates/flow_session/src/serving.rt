@@ -184,6 +184,7 @@ impl Session {
             × (out.new.items ≡ out.old.items ++ applied_text (record { number = self.old.core.number + 1; note = note }))) }
         ensures kept { J.tells → OnOk result (J.holds journal.new (summary self.new.core)) }
         ensures cause { MatchResult result (λ _. J.faults journal.new ≡ J.faults journal.old) (IsStopCause (J.faults journal.old) (J.faults journal.new)) }
+        ensures place { J.place journal.new ≡ J.place journal.old }
         ensures any_moment { J.tells → LeavesOnly J.moment J.left_since journal.old journal.new (WithOrWithout t (summary self.old.core)) }
     {
         let payload = journal.payload(self.core.next_number(), &t)?;
@@ -197,6 +198,7 @@ impl Session {
         requires { J.tells → J.holds journal.old (summary self.old.core) }
         ensures kept { J.tells → OnOk result (J.holds journal.new (summary self.new.core)) }
         ensures cause { MatchResult result (λ _. J.faults journal.new ≡ J.faults journal.old) (IsStopCause (J.faults journal.old) (J.faults journal.new)) }
+        ensures place { J.place journal.new ≡ J.place journal.old }
         ensures makes { Makes J.tells J.moment J.left_since journal.old journal.new (summary self.old.core) (λ s. OnOk result (summary self.new.core ≡ s)) }
         ensures right { IsRightAndListed self.old.core → OnOk result (IsRightAndListed self.new.core) }
         ensures gathers { OnOk result (self.new.gathered ≡ self.old.gathered) }
@@ -244,6 +246,7 @@ impl Session {
         requires outside { self.old.gathered ≡ None }
         ensures kept { J.tells → OnOk result (J.holds journal.new (summary self.new.core)) }
         ensures cause { MatchResult result (λ _. J.faults journal.new ≡ J.faults journal.old) (IsStopCause (J.faults journal.old) (J.faults journal.new)) }
+        ensures place { (command.now ≡ Checkpoint → ⊥) → J.place journal.new ≡ J.place journal.old }
         ensures makes { Makes J.tells J.moment J.left_since journal.old journal.new (summary self.old.core) (λ s. OnOk result (summary self.new.core ≡ s)) }
         ensures right { IsRightAndListed self.old.core → OnOk result (IsRightAndListed self.new.core) }
         ensures moved { command.now ≡ Checkpoint
@@ -271,6 +274,7 @@ impl Session {
         requires outside { self.old.gathered ≡ None }
         ensures kept { J.tells → OnOk result (J.holds journal.new (summary self.new.core)) }
         ensures cause { MatchResult result (λ _. J.faults journal.new ≡ J.faults journal.old) (IsStopCause (J.faults journal.old) (J.faults journal.new)) }
+        ensures place { (SaysCheckpoint (Line line.now) → ⊥) → J.place journal.new ≡ J.place journal.old }
         ensures makes { Makes J.tells J.moment J.left_since journal.old journal.new (summary self.old.core) (λ s. OnOk result (summary self.new.core ≡ s)) }
         ensures right { IsRightAndListed self.old.core → OnOk result (IsRightAndListed self.new.core) }
         ensures moved { SaysCheckpoint (Line line.now)
@@ -296,6 +300,7 @@ impl Session {
         requires outside { self.old.gathered ≡ None }
         ensures kept { J.tells → OnOk result (J.holds journal.new (summary self.new.core)) }
         ensures cause { MatchResult result (λ _. J.faults journal.new ≡ J.faults journal.old) (IsStopCause (J.faults journal.old) (J.faults journal.new)) }
+        ensures place { J.place journal.new ≡ J.place journal.old }
         ensures makes { Makes J.tells J.moment J.left_since journal.old journal.new (summary self.old.core) (λ s. OnOk result (summary self.new.core ≡ s)) }
         ensures right { IsRightAndListed self.old.core → OnOk result (IsRightAndListed self.new.core) }
         ensures served { IfOk result (λ reply. ServesText gathered.has_long gathered.text.items self.old.core self.new.core (unended self.new) reply.items) }
@@ -319,6 +324,7 @@ impl Session {
         requires outside { self.old.gathered ≡ None }
         ensures kept { J.tells → OnOk result (J.holds journal.new (summary self.new.core)) }
         ensures cause { MatchResult result (λ _. J.faults journal.new ≡ J.faults journal.old) (IsStopCause (J.faults journal.old) (J.faults journal.new)) }
+        ensures place { J.place journal.new ≡ J.place journal.old }
         ensures makes { Makes J.tells J.moment J.left_since journal.old journal.new (summary self.old.core) (λ s. OnOk result (summary self.new.core ≡ s)) }
         ensures right { IsRightAndListed self.old.core → OnOk result (IsRightAndListed self.new.core) }
         ensures served { IfOk result (λ reply. ServesInside (unended_in gathered) (given input.entry) self.old.core self.new.core (unended self.new) reply.items) }
@@ -349,6 +355,7 @@ impl Session {
         requires { J.tells → J.holds journal.old (summary self.old.core) }
         ensures kept { J.tells → OnOk result (J.holds journal.new (summary self.new.core)) }
         ensures cause { MatchResult result (λ _. J.faults journal.new ≡ J.faults journal.old) (IsStopCause (J.faults journal.old) (J.faults journal.new)) }
+        ensures place { (AsksCheckpoint self.old (given input.entry) → ⊥) → J.place journal.new ≡ J.place journal.old }
         ensures makes { Makes J.tells J.moment J.left_since journal.old journal.new (summary self.old.core) (λ s. OnOk result (summary self.new.core ≡ s)) }
         ensures right { IsRightAndListed self.old.core → OnOk result (IsRightAndListed self.new.core) }
         ensures moved { AsksCheckpoint self.old (given input.entry)

@@ -113,6 +113,7 @@ fn append<D: Disk>(log: &mut Log, disk: &mut D, payload: &[u8]) -> Result<(), St
     ensures added { OnOk result (D.tells → HasRecord payload.now (D.seen disk.old) (D.seen disk.new)) }
     ensures durable { OnOk result (Only (D.seen disk.new) (D.images disk.new)) }
     ensures alive { OnOk result (log.new.failed ≡ false) }
+    ensures same { (log.new.slot ≡ log.old.slot) × (log.new.generation ≡ log.old.generation) }
     ensures cause { MatchResult result (λ _. D.faults disk.new ≡ D.faults disk.old) (IsStopCause (D.faults disk.old) (D.faults disk.new)) }
     ensures any_moment { D.tells → Only (D.seen disk.old) (D.images disk.old)
         → LeavesOnly D.moment D.left_since disk.old disk.new (MayHaveRecord payload.now (D.seen disk.old)) }
@@ -168,6 +169,8 @@ impl<D: Disk + Drop> Journal for Stored<D> {
     ghost faults = { λ journal. D.faults journal.disk };
 
     ghost left_since = { λ journal. D.left_since journal.disk };
+
+    ghost place = { λ journal. (journal.log.slot, journal.log.generation) };
 
     ghost moved = { λ old new s. IsCheckpointed D.tells D.seen D.images old.log new.log new.disk s };
 

@@ -16,3 +16,9 @@ returns-in_default-clause-served g c = obeyed c.args.self.now c.obey.new.self c.
 
 pub returns-in-Ask-clause-cause : goal.returns-in-Ask-clause-cause
 returns-in-Ask-clause-cause g c = silent (g.J.Journal.faults c.args.journal.now) c.answer.result c.answer.ensures.silent
+
+pub returns-in-Checkpoint-clause-place : goal.returns-in-Checkpoint-clause-place
+returns-in-Checkpoint-clause-place g c no_checkpoint = absurd (no_checkpoint (search rules))
+
+pub returns-in_default-clause-place : goal.returns-in_default-clause-place
+returns-in_default-clause-place g c no_checkpoint = c.obey.ensures.place

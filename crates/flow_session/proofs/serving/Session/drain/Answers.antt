@@ -15,6 +15,7 @@ loop-self-init g c = record {
   some = omega arith;
   right = λ right. right;
   text = refl;
+  place = refl;
   unfailed = refl;
 }
 
@@ -26,6 +27,7 @@ loop-self-preserved g c = record {
   some = rw c.behind-queue.ensures (behind_some (length c.loop-self.self.core.queues) c.in-Some.next);
   right = λ right. c.in_ok-turn.ensures.right (c.loop-self.invariant.right right);
   text = c.in_ok-turn.ensures.gathers ∙ c.loop-self.invariant.text;
+  place = c.turn.ensures.place ∙ c.loop-self.invariant.place;
   unfailed = c.in_ok-turn.ensures.cause ∙ c.loop-self.invariant.unfailed;
 }
 

@@ -13,6 +13,7 @@ invariant-loop-self g l = record {
   some : 1 ≤ l.queue;
   right : IsRightAndListed l.initial.self.core → IsRightAndListed l.self.core;
   text : l.self.gathered ≡ l.initial.self.gathered;
+  place : g.J.Journal.place l.journal ≡ g.J.Journal.place l.initial.journal;
   unfailed : g.J.Journal.faults l.journal ≡ g.J.Journal.faults l.initial.journal;
 }
 

@@ -1,9 +1,9 @@
-use Rattle.std.proofs.Common.{rules, sym}
+use Rattle.std.proofs.Common.{rules, subst, sym}
 use Rattle.flow_model.specs.declared.commands.Command.TheVariants.{Checkpoint}
 use Rattle.flow_core.specs.Summaries.{summary}
 use Rattle.flow_session.proofs.Calls.{makes_nothing}
 use Rattle.flow_session.proofs.Inputs.{says_command, says_none}
-use Rattle.flow_session.specs.Inputs.{unended}
+use Rattle.flow_session.specs.Inputs.{Says, unended}
 use Rattle.flow_session.proofs.Stopping.{silent}
 use Rattle.flow_session.proofs.serving.Session.line.Goals as goal
 
@@ -52,3 +52,9 @@ pub returns-in-Err-Word-clause-moved : goal.returns-in-Err-Word-clause-moved
 returns-in-Err-Word-clause-moved g c says =
     let none = rw c.in-Err-Word.field-0-is at c.in-Err-Word.ensures.none in
     absurd (none Checkpoint says.1.0)
+
+pub returns-in-Ok-Some-clause-place : goal.returns-in-Ok-Some-clause-place
+returns-in-Ok-Some-clause-place g c no_checkpoint =
+    let says = rw c.in-Ok-Some.field-0-is at c.in-Ok-Some.ensures.says in
+    let one = rw c.in-Ok-Some.field-0-is at c.in-Ok-Some.ensures.one in
+    c.command.ensures.place (λ is. no_checkpoint (search rules, subst (λ x. Says c.args.line.now x) is (says, one)))

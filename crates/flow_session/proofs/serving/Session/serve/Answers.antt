@@ -1,6 +1,7 @@
 use Rattle.std.proofs.Common.{rules}
 use Rattle.flow_core.specs.Summaries.{summary}
 use Rattle.flow_session.proofs.Calls.{makes_nothing}
+use Rattle.flow_session.proofs.Inputs.{none_gathered}
 use Rattle.flow_session.proofs.Stopping.{silent}
 use Rattle.flow_session.proofs.serving.Session.serve.Goals as goal
 
@@ -12,3 +13,7 @@ returns-in-Ended-clause-makes g c = makes_nothing g.J.Journal.tells g.J.Journal.
 
 pub returns-in-TooLong-clause-cause : goal.returns-in-TooLong-clause-cause
 returns-in-TooLong-clause-cause g c = silent (g.J.Journal.faults c.args.journal.now) c.words.result c.words.ensures.silent
+
+pub returns-in-Text-clause-place : goal.returns-in-Text-clause-place
+returns-in-Text-clause-place g c no_checkpoint =
+    c.line.ensures.place (λ says. no_checkpoint (none_gathered c.args.self.now (search rules), search rules))

@@ -3,7 +3,7 @@ use Rattle.flow_disk.proofs.Runs.{weaker}
 use Rattle.txn_log.specs.Standing.{HasRecord, MayHaveRecord}
 use Rattle.flow_session.specs.Serving.{WithOrWithout}
 use Rattle.flow_session.proofs.Histories.{one_more, with_or_without}
-use Rattle.flow_session.proofs.Keeping.{in_journal}
+use Rattle.flow_session.proofs.Keeping.{in_journal, same_place}
 use Rattle.flow_session.proofs.store.StoredJournal.keep.Goals as goal
 
 pub returns-in_err-append-clause-any_moment : goal.returns-in_err-append-clause-any_moment
@@ -29,3 +29,9 @@ returns-clause-any_moment g c s t told is spelled =
     in_journal (λ j. j.disk) d.moment d.left_since _ _ (WithOrWithout t s)
     (weaker d.moment d.left_since d.images c.args.self.now.disk c.append.new.disk (MayHaveRecord c.args.payload.now (d.seen c.args.self.now.disk)) (WithOrWithout t s) (c.append.ensures.any_moment told is.only)
     (λ image may. with_or_without s t (d.seen c.args.self.now.disk) image is.holds (subst (λ p. MayHaveRecord p (d.seen c.args.self.now.disk) image) spelled may)))
+
+pub returns-in_err-append-clause-place : goal.returns-in_err-append-clause-place
+returns-in_err-append-clause-place g c = same_place c.append.new.log c.args.self.now.log c.append.ensures.same.0 c.append.ensures.same.1
+
+pub returns-clause-place : goal.returns-clause-place
+returns-clause-place g c = same_place c.append.new.log c.args.self.now.log c.append.ensures.same.0 c.append.ensures.same.1
