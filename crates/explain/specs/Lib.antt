@@ -1,4 +1,5 @@
 pub mod Shown
+pub mod Naming
 pub mod Certificates
 pub mod Verified
 pub mod Explained

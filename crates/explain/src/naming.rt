@@ -1,9 +1,12 @@
 //! The texts of activities, and the activities that words name.
-ghost use Rattle.std.specs.Prelude.{◌≡◌, IfOk, IfSome};
+ghost use Rattle.std.specs.Prelude.{◌≡◌, ℕ, true, false, None, List as Bytes, ◌∷◌, ◌++◌, IfOk, IfSome};
+ghost use Rattle.std.specs.Option.{option_map};
+ghost use Rattle.explain.specs.Naming.{IsCut, NamesActivity, NamesNoActivity};
 ghost use Rattle.explain.specs.Shown.{activity_spelling};
+ghost use Rattle.flow_model.specs.Paths.{Spells, SpellsNoPath};
+ghost use Rattle.flow_model.specs.Words.{is_name};
 
-use certificates::activity_in;
-use flow_model::{Name, Path, path_text};
+use flow_model::{Name, NameFault, Path, PathFault, path_of, path_text};
 use std::alloc::{AllocError, Global};
 
 /// A scope's text, `/`, and an activity's name.
@@ -16,18 +19,55 @@ pub fn activity_text(alloc: Global, scope: &Path, name: &Name) -> Result<Vec<u8>
     Ok(text)
 }
 
-/// The scope and the name that a word names: a path, `/` and an activity's name; None where it isn't of that
-/// form.
-pub fn named_activity(alloc: Global, word: &[u8]) -> Result<Option<(Path, Name)>, AllocError>
-    ensures { IfOk result (λ found. IfSome found (λ named. activity_spelling named.0 named.1 ≡ word.now)) }
+/// The bytes before the last `/`, and those behind it; None where there is no `/`.
+fn cut_word(word: &[u8]) -> Option<(&[u8], &[u8])>
+    ensures whole { IfSome result (λ cut. cut.0.now ++ 47 ∷ cut.1.now ≡ word.now) }
+    ensures found { IsCut word.now (option_map {U = Bytes ℕ × Bytes ℕ} (λ cut. (cut.0.now, cut.1.now)) result) }
 {
-    let Some((scope, name)) = activity_in(alloc, word)? else {
+    match word.iter().rposition(|byte| *byte == b'/') {
+        Some(place) => Some((&word[..place], &word[place + 1..])),
+        None => None,
+    }
+}
+
+/// The path that these bytes spell.
+fn scope_in(alloc: Global, bytes: &[u8]) -> Result<Option<Path>, AllocError>
+    ensures spelled { IfOk result (λ found. IfSome found (Spells bytes.now)) }
+    ensures none { IfOk result (λ found. found ≡ None → SpellsNoPath bytes.now) }
+{
+    match path_of(alloc, bytes) {
+        Ok(path) => Ok(Some(path)),
+        Err(PathFault::BadPath) => Ok(None),
+        Err(PathFault::NoMemory) => Err(AllocError),
+    }
+}
+
+/// The name that these bytes make.
+fn name_in(alloc: Global, bytes: &[u8]) -> Result<Option<Name>, AllocError>
+    ensures named { IfOk result (λ found. IfSome found (λ n. (n ≡ bytes.now) × (is_name bytes.now ≡ true))) }
+    ensures none { IfOk result (λ found. found ≡ None → is_name bytes.now ≡ false) }
+{
+    match Name::new(alloc, bytes) {
+        Ok(name) => Ok(Some(name)),
+        Err(NameFault::Bad) => Ok(None),
+        Err(NameFault::NoMemory) => Err(AllocError),
+    }
+}
+
+/// The scope and the name that a word names: a path, `/` and an activity's name; None exactly where it isn't
+/// of that form.
+pub fn named_activity(alloc: Global, word: &[u8]) -> Result<Option<(Path, Name)>, AllocError>
+    ensures named { IfOk result (λ found. IfSome found (λ named. NamesActivity word.now named.0 named.1)) }
+    ensures none { IfOk result (λ found. found ≡ None → NamesNoActivity word.now) }
+{
+    let Some((before, behind)) = cut_word(word) else {
         return Ok(None);
     };
-    let text = activity_text(alloc, &scope, &name)?;
-    if text.as_slice() == word {
-        Ok(Some((scope, name)))
-    } else {
-        Ok(None)
+    let Some(scope) = scope_in(alloc, before)? else {
+        return Ok(None);
+    };
+    match name_in(alloc, behind)? {
+        Some(name) => Ok(Some((scope, name))),
+        None => Ok(None),
     }
 }

@@ -1,7 +1,8 @@
 //! The texts of the words `explain` and `verify`, with whether each is a refusal.
-ghost use Rattle.std.specs.Prelude.{◌≡◌, ◌≤◌, ◌∷◌, [], ◌++◌, length, IfOk, IfSome, vec_len, decimal as digits_of};
+ghost use Rattle.std.specs.Prelude.{◌≡◌, ◌≤◌, None, ◌∷◌, [], ◌++◌, length, IfOk, IfSome, vec_len, decimal as digits_of};
 ghost use Rattle.explain.specs.Certificates.{certificate_printed, IsVerdict};
 ghost use Rattle.explain.specs.Explained.{IsFaultText, IsExplained, ExplainsWord};
+ghost use Rattle.explain.specs.Naming.{NamesNoActivity};
 ghost use Rattle.explain.specs.Verified.{AreFirst, AreGoodIn, IsVerified};
 
 use crate::checking::justified;
@@ -69,13 +70,14 @@ fn explained(
 }
 
 /// What `explain` prints over a word that is a path, `/` and an activity's name, and whether it is a
-/// refusal; None where the word isn't of that form.
+/// refusal; None exactly where the word isn't of that form.
 pub fn explain_word(
     alloc: Global,
     core: &Core,
     path_word: &[u8],
 ) -> Result<Option<(Vec<u8>, bool)>, AllocError>
-    ensures { IfOk result (λ found. IfSome found (λ answer. ExplainsWord core.now path_word.now answer.0.items answer.1)) }
+    ensures explains { IfOk result (λ found. IfSome found (λ answer. ExplainsWord core.now path_word.now answer.0.items answer.1)) }
+    ensures none { IfOk result (λ found. found ≡ None → NamesNoActivity path_word.now) }
 {
     let Some((scope, name)) = named_activity(alloc, path_word)? else {
         return Ok(None);
