@@ -2,6 +2,7 @@ pub mod EndingLemmas
 pub mod Crashes
 pub mod Printing
 pub mod Unknown
+pub mod Words
 pub mod Serving
 pub mod Tries
 pub mod Verdicts

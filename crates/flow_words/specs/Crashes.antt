@@ -28,8 +28,3 @@ pub record MakesStore {D : Type 0} (moment : D → ℕ) (left_since : D → ℕ 
   pub limit : ℕ
   pub any_moment : LeavesOnly moment left_since old new (MayBeMade queues limit (seen old))
   pub made : IsDone → (image : Image) → images new image → StandsFor (empty_history queues limit) image
-
--- a run makes the store, keeps it, or serves it
-abbrev pub MakesKeepsOrServes : {D : Type 0} → Type 0 → (D → ℕ) → (D → ℕ → Image → Type 0) → (D → Image) → (D → Image → Type 0) → D → D → Type 0 → Type 0
-MakesKeepsOrServes tells moment left_since seen images old new IsDone =
-    MakesStore moment left_since seen images old new IsDone ⊎ KeepsOrServes tells moment left_since seen images old new IsDone

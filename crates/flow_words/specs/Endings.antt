@@ -12,6 +12,18 @@ use Rattle.flow_words.specs.declared.stored.Look.TheVariants.{Explain, Verify, O
 use Rattle.flow_words.specs.declared.stored.Word.{Word}
 use Rattle.flow_words.specs.declared.stored.Word.TheVariants.{New, Run, Follow, Look as LookInto}
 
+-- the exit status of the program
+abbrev pub status_number : Status → ℕ
+status_number Done = 0
+status_number Usage = 1
+status_number Store = 2
+status_number StoreFault = 3
+status_number ReadFault = 4
+status_number WriteFault = 5
+status_number NoMemory = 6
+status_number ScriptTooLong = 7
+status_number Refused = 8
+
 -- how a reader of lines that stops ends a run
 abbrev pub status_of : IoStop → Status
 status_of stop.ReadFault = ReadFault
@@ -46,6 +58,18 @@ ServeCause put put' store store' WriteFault = Rose put put'
 ServeCause put put' store store' NoMemory = Unit {0}
 ServeCause put put' store store' ScriptTooLong = ⊥
 ServeCause put put' store store' Refused = Unit {0}
+
+-- how a script ends before its end: by a fault of the source, the sink or the store, without memory, or because it is too long
+abbrev pub StopsScript : Status → Type 0
+StopsScript Done = ⊥
+StopsScript Usage = ⊥
+StopsScript Store = ⊥
+StopsScript StoreFault = Unit {0}
+StopsScript ReadFault = Unit {0}
+StopsScript WriteFault = Unit {0}
+StopsScript NoMemory = Unit {0}
+StopsScript ScriptTooLong = Unit {0}
+StopsScript Refused = ⊥
 
 -- how a run ends: by a source, a sink or a store whose count rose, or for another reason than the words
 abbrev pub RunCause : ℕ → ℕ → ℕ → ℕ → ℕ → ℕ → Status → Type 0

@@ -4,6 +4,7 @@ pub mod Printed
 pub mod Numbers
 pub mod Openings
 pub mod Making
+pub mod Words
 pub mod Scripts
 pub mod Looking
 pub mod Loading

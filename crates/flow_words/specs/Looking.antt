@@ -10,6 +10,7 @@ use Rattle.flow_session.specs.Histories.{StandsFor}
 use Rattle.flow_session.specs.Runs.{KeepsStore}
 use Rattle.worklist_laws.specs.Shelved.{IsRightAndListed}
 use Rattle.deadlines.specs.Texts.{IsOverdueText}
+use Rattle.explain.specs.Naming.{NamesNoActivity}
 use Rattle.explain.specs.Explained.{ExplainsWord}
 use Rattle.explain.specs.Verified.{IsVerified}
 use Rattle.text_words.specs.Gathered.{AreLines}
@@ -54,5 +55,5 @@ PrintsReason word held held' ended core =
 -- `explain`: the word names no activity, and that is printed; the store isn't opened or there is no memory; or it is, and what its state says of the activity is printed
 abbrev pub PrintsExplained : {D : Type 0} → Type 0 → (D → ℕ) → (D → ℕ → Image → Type 0) → (D → Image) → (D → Image → Type 0) → List ℕ → Option (List ℕ) → Option (List ℕ) → D → D → Status → Type 0
 PrintsExplained tells moment left_since seen images word held held' disk disk' ended =
-    Prints (codes "no USAGE\n") Usage held held' ended ⊎ IsUnserved tells seen disk held held' ended
+    (NamesNoActivity word × Prints (codes "no USAGE\n") Usage held held' ended) ⊎ IsUnserved tells seen disk held held' ended
     ⊎ LooksInto tells moment left_since seen images disk disk' (PrintsReason word held held' ended)

@@ -19,6 +19,7 @@ use Rattle.flow_session.specs.declared.journal.NoJournal.{NoJournal}
 use Rattle.worklist_laws.specs.Shelved.{IsRightAndListed}
 use Rattle.flow_words.specs.Crashes.{empty_history}
 use Rattle.flow_words.specs.Numbers.{AreSettings, NameNoSettings}
+use Rattle.flow_words.specs.Endings.{StopsScript}
 use Rattle.flow_words.specs.Openings.{IsUnserved}
 use Rattle.flow_words.specs.Printed.{PrintsPart, Prints}
 use Rattle.flow_words.specs.declared.pure.Word.{Word}
@@ -97,10 +98,10 @@ pub record ServesStoreScript {D : Type 0} (tells : Type 0) (moment : D → ℕ) 
   pub right : 1 ≤ (summary s.core).queues → IsRightAndListed s.core
   pub serves : ServesOver tells moment left_since seen images left held held' s log opened disk' ended
 
--- how a script that is served ends the program
-abbrev pub status_after : Result (Unit {0}) Status → Status
-status_after (Ok done) = Done
-status_after (Err status) = status
+-- how a script ends the program: as Done where all of it was served, else with the status that stopped it
+abbrev pub EndsAs : Result (Unit {0}) Status → Status → Type 0
+EndsAs (Ok done) status = status ≡ Done
+EndsAs (Err fault) status = (status ≡ fault) × StopsScript fault
 
 -- how a word over a store ends the program
 abbrev pub status_of_word : Result Status Status → Status
@@ -111,7 +112,12 @@ status_of_word (Err status) = status
 abbrev pub RunsStore : {D : Type 0} → Type 0 → (D → ℕ) → (D → ℕ → Image → Type 0) → (D → Image) → (D → Image → Type 0) → Option (List ℕ) → Option (List ℕ) → Option (List ℕ) → D → D → Status → Type 0
 RunsStore tells moment left_since seen images left held held' disk disk' ended =
     IsUnserved tells seen disk held held' ended
-    ⊎ ((served : Result (Unit {0}) Status) × ServesStoreScript tells moment left_since seen images left held held' disk disk' served × (ended ≡ status_after served))
+    ⊎ ((served : Result (Unit {0}) Status) × ServesStoreScript tells moment left_since seen images left held held' disk disk' served × EndsAs served ended)
+
+-- `try`: a session over the empty history serves the script, and ends the program so
+abbrev pub TriesScript : ℕ → ℕ → Option (List ℕ) → Option (List ℕ) → Option (List ℕ) → Status → Type 0
+TriesScript queues limit left held held' ended =
+    (served : Result (Unit {0}) Status) × IsTried queues limit left held held' served × EndsAs served ended
 
 -- the word `try` with these words behind it, which name its settings
 abbrev pub IsTryWord : List (List ℕ) → Option Word → Type 0
@@ -125,4 +131,4 @@ IsTryWord words (Some (Load seed roots)) = ⊥
 abbrev pub PrintsTry : List (List ℕ) → Option (List ℕ) → Option (List ℕ) → Option (List ℕ) → Status → Type 0
 PrintsTry words left held held' ended =
     (NameNoSettings words × Prints (codes "no USAGE\n") Usage held held' ended)
-    ⊎ ((queues : ℕ) × (limit : ℕ) × AreSettings words queues limit × ((served : Result (Unit {0}) Status) × IsTried queues limit left held held' served × (ended ≡ status_after served)))
+    ⊎ ((queues : ℕ) × (limit : ℕ) × AreSettings words queues limit × TriesScript queues limit left held held' ended)

@@ -1,13 +1,12 @@
 //! The words that need no store.
-ghost use Rattle.std.specs.Prelude.{◌≡◌, ◌≢◌, ℕ, Some, None, List, Result, [], ◌∷◌, codes, map, string_bytes, MatchResult};
+ghost use Rattle.std.specs.Prelude.{◌≡◌, ◌≢◌, ℕ, Some, None, List, [], ◌∷◌, codes, map, string_bytes, MatchResult};
 ghost use Rattle.std.specs.Io.KnownBytes.{Appends, Keeps};
 ghost use Rattle.flow_words.specs.Endings.{PrintCause, RunCause, EndCause};
 ghost use Rattle.flow_words.specs.Loading.{IsLoadWord, PrintsLoaded, PrintsLoad};
 ghost use Rattle.flow_words.specs.Printed.{Prints, PrintsAnswer, IsUnknown, IsCheckOf, IsFateOf, answer_status};
-ghost use Rattle.flow_words.specs.Scripts.{IsTried, IsTryWord, PrintsTry, status_after};
+ghost use Rattle.flow_words.specs.Scripts.{IsTryWord, PrintsTry, TriesScript};
 ghost use Rattle.flow_words.specs.declared.numbers.Settings.{Settings as SettingsOf};
 ghost use Rattle.flow_words.specs.declared.pure.Word.TheVariants.{Check as CheckWord, Fate as FateWord, Try as TryWord, Load as LoadWord};
-ghost use Rattle.flow_words.specs.declared.status.Status.{Status as StatusOf};
 ghost use Rattle.flow_words.specs.declared.status.Status.TheVariants.{NoMemory as NoMemoryStatus, Usage as UsageStatus};
 
 use crate::load::load;
@@ -142,7 +141,7 @@ fn serve_script<S: Source, K: Sink>(
     out: &mut K,
 ) -> Status
     ensures cause { RunCause (S.faults src.old) (S.faults src.new) (K.faults out.old) (K.faults out.new) 0 0 result }
-    ensures tries { (served : Result (Unit {0}) StatusOf) × IsTried settings.queues settings.limit (S.left src.old) (K.held out.old) (K.held out.new) served × (result ≡ status_after served) }
+    ensures tries { TriesScript settings.queues settings.limit (S.left src.old) (K.held out.old) (K.held out.new) result }
 {
     match try_script(alloc, settings, src, out) {
         Ok(()) => Status::Done,
@@ -166,7 +165,8 @@ fn obey<S: Source, K: Sink>(alloc: Global, word: Word, src: &mut S, out: &mut K)
     ensures cause { RunCause (S.faults src.old) (S.faults src.new) (K.faults out.old) (K.faults out.new) 0 0 result }
     ensures check { word ≡ CheckWord → PrintsAnswer (IsCheckOf (S.left src.old)) (K.held out.old) (K.held out.new) result }
     ensures fate { word ≡ FateWord → PrintsAnswer (IsFateOf (S.left src.old)) (K.held out.old) (K.held out.new) result }
-    ensures tries { (settings : SettingsOf) → word ≡ TryWord settings → (served : Result (Unit {0}) StatusOf) × IsTried settings.queues settings.limit (S.left src.old) (K.held out.old) (K.held out.new) served × (result ≡ status_after served) }
+    ensures tries { (settings : SettingsOf) → word ≡ TryWord settings
+        → TriesScript settings.queues settings.limit (S.left src.old) (K.held out.old) (K.held out.new) result }
     ensures loads { (seed roots : ℕ) → word ≡ LoadWord seed roots → PrintsLoaded seed roots (K.held out.old) (K.held out.new) result }
 {
     match word {

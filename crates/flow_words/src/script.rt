@@ -5,7 +5,7 @@ ghost use Rattle.flow_core.specs.Summaries.{summary};
 ghost use Rattle.flow_session.specs.Inputs.{given};
 ghost use Rattle.flow_session.specs.Serving.{Makes};
 ghost use Rattle.flow_words.specs.Crashes.{IsFailing};
-ghost use Rattle.flow_words.specs.Endings.{PrintCause, ServeCause, RunCause, status_of, status_of_stop};
+ghost use Rattle.flow_words.specs.Endings.{PrintCause, ServeCause, RunCause, StopsScript, status_of, status_of_stop};
 ghost use Rattle.flow_words.specs.Printed.{PrintsPart};
 ghost use Rattle.flow_words.specs.Scripts.{input_of as given_of, ServesAndPrints, ServesScript, IsTried};
 ghost use Rattle.text_words.specs.Gathered.{found_input};
@@ -22,6 +22,7 @@ use text_words::MOST_BYTES;
 pub fn print<K: Sink>(out: &mut K, text: &[u8]) -> Result<(), Status>
     ensures cause { MatchResult result (λ _. K.faults out.new ≡ K.faults out.old) (PrintCause (K.faults out.old) (K.faults out.new)) }
     ensures fails { IfErr result IsFailing }
+    ensures stops { IfErr result StopsScript }
     ensures whole { OnOk result (Appends (K.held out.old) (K.held out.new) text.now) }
     ensures part { IfErr result (λ status. (status ≡ WriteFaultStatus) × PrintsPart (K.held out.old) (K.held out.new) text.now) }
 {
@@ -35,6 +36,7 @@ pub fn print<K: Sink>(out: &mut K, text: &[u8]) -> Result<(), Status>
 pub fn stop_status(stop: Stop) -> Status
     ensures status { result ≡ status_of_stop stop }
     ensures fails { IsFailing result }
+    ensures stops { StopsScript result }
 {
     match stop {
         Stop::StoreFault => Status::StoreFault,
@@ -46,6 +48,7 @@ pub fn stop_status(stop: Stop) -> Status
 pub fn line_status(stop: IoStop) -> Status
     ensures status { result ≡ status_of stop }
     ensures fails { IsFailing result }
+    ensures stops { StopsScript result }
 {
     match stop {
         IoStop::ReadFault => Status::ReadFault,
@@ -76,6 +79,7 @@ fn serve_one<J: Journal, K: Sink>(
     ensures kept { J.tells → OnOk result (J.holds journal.new (summary session.new.core)) }
     ensures makes { Makes J.tells J.moment J.left_since journal.old journal.new (summary session.old.core) (λ s. OnOk result (summary session.new.core ≡ s)) }
     ensures fails { IfErr result IsFailing }
+    ensures stops { IfErr result StopsScript }
     ensures cause { MatchResult result (λ _. (K.faults out.new ≡ K.faults out.old) × (J.faults journal.new ≡ J.faults journal.old))
         (ServeCause (K.faults out.old) (K.faults out.new) (J.faults journal.old) (J.faults journal.new)) }
     ensures served { ServesAndPrints J.tells J.holds J.moment J.left_since (K.held out.old) (K.held out.new) (given input.entry) session.old session.new journal.old journal.new result }
@@ -104,6 +108,7 @@ pub fn serve_all<S: Source, K: Sink, J: Journal>(
     ensures kept { J.tells → OnOk result (J.holds journal.new (summary session.new.core)) }
     ensures makes { Makes J.tells J.moment J.left_since journal.old journal.new (summary session.old.core) (λ s. OnOk result (summary session.new.core ≡ s)) }
     ensures fails { IfErr result IsFailing }
+    ensures stops { IfErr result StopsScript }
     ensures cause { IfErr result (RunCause (S.faults src.old) (S.faults src.new) (K.faults out.old) (K.faults out.new) (J.faults journal.old) (J.faults journal.new)) }
     ensures serves { ServesScript J.tells J.holds J.moment J.left_since (S.left src.old) (K.held out.old) (K.held out.new) session.old session.new journal.old journal.new result }
 {
@@ -132,6 +137,7 @@ pub fn try_script<S: Source, K: Sink>(
     out: &mut K,
 ) -> Result<(), Status>
     ensures cause { IfErr result (RunCause (S.faults src.old) (S.faults src.new) (K.faults out.old) (K.faults out.new) 0 0) }
+    ensures stops { IfErr result StopsScript }
     ensures tries { IsTried settings.queues settings.limit (S.left src.old) (K.held out.old) (K.held out.new) result }
 {
     match Session::fresh(alloc, settings.queues, settings.limit) {

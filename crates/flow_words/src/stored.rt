@@ -7,17 +7,18 @@ ghost use Rattle.flow_session.specs.Histories.{StandsFor};
 ghost use Rattle.flow_session.specs.Keeping.{IsOpen};
 ghost use Rattle.flow_session.specs.Runs.{KeepsStore, KeepsOrServes};
 ghost use Rattle.flow_session.specs.Serving.{Makes};
-ghost use Rattle.flow_words.specs.Crashes.{IsFailing, EndsDone, MakesStore, MakesKeepsOrServes};
-ghost use Rattle.flow_words.specs.Endings.{RunCause, WordCause, OnlyLooks, SendsNoStream, SendNoStream};
+ghost use Rattle.flow_words.specs.Crashes.{IsFailing, EndsDone, MakesStore};
+ghost use Rattle.flow_words.specs.Endings.{RunCause, StopsScript, WordCause, OnlyLooks, SendsNoStream, SendNoStream};
 ghost use Rattle.flow_words.specs.Following.{PrintsFollowed};
 ghost use Rattle.flow_words.specs.Loading.{PrintsLoad};
 ghost use Rattle.flow_words.specs.Looking.{PrintsExplained, PrintsOverdue, PrintsVerified};
 ghost use Rattle.flow_words.specs.Making.{PrintsMade, IsNewWord, MakesNamed, PrintsNew};
 ghost use Rattle.flow_words.specs.Numbers.{AreQueues, IsLimit};
-ghost use Rattle.flow_words.specs.Printed.{PrintsAnswer, IsCheckOf, IsFateOf};
+ghost use Rattle.flow_words.specs.Printed.{Prints, PrintsAnswer, IsUnknown, IsCheckOf, IsFateOf};
 ghost use Rattle.flow_words.specs.Scripts.{status_of_word, ServesOver, RunsStore, PrintsTry};
 ghost use Rattle.flow_words.specs.Shipping.{PrintsShipped, IsShipWord, ShipsNamed, PrintsShip};
-ghost use Rattle.flow_words.specs.declared.status.Status.TheVariants.{Done as DoneStatus};
+ghost use Rattle.flow_words.specs.Words.{AsksOfStore, IsShortWord, IsRestWord, LeavesBy, LeavesStore, AsksNoStore};
+ghost use Rattle.flow_words.specs.declared.status.Status.TheVariants.{Done as DoneStatus, Usage as UsageStatus};
 ghost use Rattle.flow_words.specs.declared.stored.Look.TheVariants.{Explain as ExplainLook, Overdue as OverdueLook, Verify as VerifyLook, Ship as ShipLook};
 ghost use Rattle.flow_words.specs.declared.stored.Word.TheVariants.{Run as RunWord, Follow as FollowWord, Look as LookWord};
 
@@ -65,6 +66,7 @@ fn short_word(word: &str) -> Option<Word>
     ensures loads { word.now ≡ codes "load" → result ≡ None }
     ensures follows { word.now ≡ codes "follow" → result ≡ Some FollowWord }
     ensures streams { IfSome result SendsNoStream }
+    ensures named { IfSome result (IsShortWord word.now) }
 {
     match word {
         "run" => Some(Word::Run),
@@ -96,6 +98,7 @@ fn store_word(word: &str, rest: &[String]) -> Option<Word>
     ensures follows { word.now ≡ codes "follow" → rest.now ≡ [] → result ≡ Some FollowWord }
     ensures ships { (number : List ℕ) → word.now ≡ codes "ship" → map string_bytes rest.now ≡ number ∷ [] → IsShipWord number result }
     ensures streams { word.now ≢ codes "ship" → IfSome result SendsNoStream }
+    ensures named { IfSome result (IsRestWord word.now (map string_bytes rest.now)) }
 {
     if word == "new" {
         return new_word(rest);
@@ -124,6 +127,7 @@ fn word_of(words: &[String]) -> Option<Word>
     ensures follows { (a b : List ℕ) → map string_bytes words.now ≡ codes "follow" ∷ a ∷ b ∷ [] → a ≢ b → result ≡ Some FollowWord }
     ensures ships { (a b number : List ℕ) → map string_bytes words.now ≡ codes "ship" ∷ a ∷ b ∷ number ∷ [] → a ≢ b → IsShipWord number result }
     ensures streams { SendNoStream (map string_bytes words.now) → IfSome result SendsNoStream }
+    ensures named { IfSome result (AsksOfStore (map string_bytes words.now)) }
 {
     match words {
         [word, a, b, rest @ ..] if a.as_str() != b.as_str() => store_word(word.as_str(), rest),
@@ -175,6 +179,7 @@ fn serve_store<S: Source, K: Sink, D: Disk + Drop>(
     requires open { D.tells → IsOpen D.seen D.images log disk (summary session.core) }
     ensures makes { Makes D.tells D.moment D.left_since disk result.1 (summary session.core) (λ s. IsOk result.0 → D.tells → (c : Image) → D.images result.1 c → StandsFor s c) }
     ensures fails { IfErr result.0 IsFailing }
+    ensures stops { IfErr result.0 StopsScript }
     ensures cause { IfErr result.0 (RunCause (S.faults src.old) (S.faults src.new) (K.faults out.old) (K.faults out.new) (D.faults disk) (D.faults result.1)) }
     ensures serves { ServesOver D.tells D.moment D.left_since D.seen D.images (S.left src.old) (K.held out.old) (K.held out.new) session log disk result.1 result.0 }
 {
@@ -239,7 +244,8 @@ fn obey<S: Source, K: Sink, D: Disk + Drop>(
     out: &mut K,
     disk: D,
 ) -> (Result<Status, Status>, D)
-    ensures store { D.tells → Only (D.seen disk) (D.images disk) → MakesKeepsOrServes D.tells D.moment D.left_since D.seen D.images disk result.1 (EndsDone result.0) }
+    ensures store { D.tells → Only (D.seen disk) (D.images disk)
+        → LeavesBy word D.tells D.moment D.left_since D.seen D.images disk result.1 (EndsDone result.0) }
     ensures cause { SendsNoStream word → WordCause (S.faults src.old) (S.faults src.new) (K.faults out.old) (K.faults out.new) (D.faults disk) (D.faults result.1) (status_of_word result.0) }
     ensures runs { word ≡ RunWord → RunsStore D.tells D.moment D.left_since D.seen D.images (S.left src.old) (K.held out.old) (K.held out.new) disk result.1 (status_of_word result.0) }
     ensures overdue { word ≡ LookWord OverdueLook → PrintsOverdue D.tells D.moment D.left_since D.seen D.images (K.held out.old) (K.held out.new) disk result.1 (status_of_word result.0) }
@@ -281,6 +287,9 @@ fn obey<S: Source, K: Sink, D: Disk + Drop>(
 /// of the transactions above the number that the last word names stands behind what the sink held, or the cause is
 /// printed for which it doesn't, as `specs/Shipping.antt` says.
 ///
+/// Words that ask for nothing of a store leave the disk as it was, and where they need no store either, `no USAGE` is
+/// printed (`specs/Words.antt`). A script that isn't served to its end doesn't end as `Done`.
+///
 /// Under each word but `ship`, `ReadFault`, `WriteFault` and `StoreFault` come only where the count of faults of the
 /// source, the sink and the disk rose.
 pub fn run<S: Source, K: Sink, D: Disk + Drop>(
@@ -290,7 +299,11 @@ pub fn run<S: Source, K: Sink, D: Disk + Drop>(
     out: &mut K,
     disk: D,
 ) -> (Status, D)
-    ensures store { D.tells → Only (D.seen disk) (D.images disk) → MakesKeepsOrServes D.tells D.moment D.left_since D.seen D.images disk result.1 (result.0 ≡ DoneStatus) }
+    ensures store { D.tells → Only (D.seen disk) (D.images disk)
+        → LeavesStore (map string_bytes words.now) D.tells D.moment D.left_since D.seen D.images disk result.1 (result.0 ≡ DoneStatus) }
+    ensures untouched { AsksNoStore (map string_bytes words.now) → result.1 ≡ disk }
+    ensures unknown { AsksNoStore (map string_bytes words.now) → IsUnknown (map string_bytes words.now)
+        → Prints (codes "no USAGE\n") UsageStatus (K.held out.old) (K.held out.new) result.0 }
     ensures cause { SendNoStream (map string_bytes words.now) → WordCause (S.faults src.old) (S.faults src.new) (K.faults out.old) (K.faults out.new) (D.faults disk) (D.faults result.1) result.0 }
     ensures check { map string_bytes words.now ≡ codes "check" ∷ [] → PrintsAnswer (IsCheckOf (S.left src.old)) (K.held out.old) (K.held out.new) result.0 }
     ensures fate { map string_bytes words.now ≡ codes "fate" ∷ [] → PrintsAnswer (IsFateOf (S.left src.old)) (K.held out.old) (K.held out.new) result.0 }

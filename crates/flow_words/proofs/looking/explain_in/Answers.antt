@@ -28,7 +28,7 @@ pub returns-in-None-clause-cause : goal.returns-in-None-clause-cause
 returns-in-None-clause-cause g c read read' = c.print_usage-in-None.ensures.cause read read' (g.D.Disk.faults c.args.disk.now) (g.D.Disk.faults c.reopen.new.disk)
 
 pub returns-in-None-clause-prints : goal.returns-in-None-clause-prints
-returns-in-None-clause-prints g c = inl c.print_usage-in-None.ensures.prints
+returns-in-None-clause-prints g c = inl (c.in_ok-explain_word-in-Ok.ensures.none c.in-None.is, c.print_usage-in-None.ensures.prints)
 
 pub returns-clause-cause : goal.returns-clause-cause
 returns-clause-cause g c read read' = c.print_answer.ensures.cause read read' (g.D.Disk.faults c.args.disk.now) (g.D.Disk.faults c.reopen.new.disk)
@@ -39,8 +39,11 @@ returns-clause-prints g c = inr (inr (record {
   keeps = λ only. opened g.D.Disk.tells g.D.Disk.moment g.D.Disk.left_since g.D.Disk.seen g.D.Disk.images c.args.disk.now c.reopen.new.disk only c.reopen.ensures.any_moment;
   stood = λ told. stood_there g.D.Disk.seen c.args.disk.now c.reopen.new.disk (summary c.in-Ok.session.core) c.in-Ok.ensures.seen (c.in-Ok.ensures.open told).holds;
   right = c.in-Ok.ensures.right;
-  printed = prints_reason (g.K.Sink.held c.args.out.now) (g.K.Sink.held c.print_answer.new.out) (status_of_word c.print_answer.result) c.in-Ok.session.core c.core.result.now c.args.activity.now c.in-Some.text.items c.deref.result.now c.in-Some.is_refused c.core.ensures (rw c.in-Some.is at c.in_ok-explain_word-in-Ok.ensures) c.deref.ensures.value c.print_answer.ensures.prints;
+  printed = prints_reason (g.K.Sink.held c.args.out.now) (g.K.Sink.held c.print_answer.new.out) (status_of_word c.print_answer.result) c.in-Ok.session.core c.core.result.now c.args.activity.now c.in-Some.text.items c.deref.result.now c.in-Some.is_refused c.core.ensures (rw c.in-Some.is at c.in_ok-explain_word-in-Ok.ensures.explains) c.deref.ensures.value c.print_answer.ensures.prints;
 }))
 
 pub returns-in_err-named_activity-clause-prints : goal.returns-in_err-named_activity-clause-prints
 returns-in_err-named_activity-clause-prints g c = inr (inl (no_memory g.D.Disk.tells g.D.Disk.seen c.args.disk.now (g.K.Sink.held c.args.out.now) (status_of_word c.from_residual.result) (search rules)))
+
+pub returns-then-is_none-clause-prints : goal.returns-then-is_none-clause-prints
+returns-then-is_none-clause-prints g c = inl (c.in_ok-named_activity.ensures.none (search rules), c.print_usage.ensures.prints)

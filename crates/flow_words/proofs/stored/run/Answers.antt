@@ -1,4 +1,4 @@
-use Rattle.std.proofs.Common.{◌≡◌, ◌∷◌, [], codes, inr, subst, Option, Some, Result}
+use Rattle.std.proofs.Common.{rules, ◌≡◌, ◌∷◌, [], codes, map, string_bytes, inr, refl, subst, Option, Some, Result}
 use Rattle.flow_words.specs.Looking.{PrintsExplained}
 use Rattle.flow_words.specs.Making.{IsNewWord, MakesNamed}
 use Rattle.flow_words.specs.Scripts.{status_of_word}
@@ -7,6 +7,7 @@ use Rattle.flow_words.specs.declared.status.Status.{Status}
 use Rattle.flow_words.specs.declared.stored.Look.TheVariants.{Explain}
 use Rattle.flow_words.specs.declared.stored.Word.{Word}
 use Rattle.flow_words.specs.declared.stored.Word.TheVariants.{Look}
+use Rattle.flow_words.proofs.Words.{none_asked}
 use Rattle.flow_words.proofs.stored.run.Goals as goal
 
 same_word : (found : Option Word) (word other : Word) → found ≡ Some word → found ≡ Some other → word ≡ other
@@ -45,3 +46,9 @@ pub returns-in-Err-default-clause-ships : goal.returns-in-Err-default-clause-shi
 returns-in-Err-default-clause-ships g c a b number is apart =
     inr (subst (λ (r : Result Status Status). ShipsNamed g.D.Disk.tells g.D.Disk.seen number (g.K.Sink.held c.args.out.now) (g.K.Sink.held c.obey.new.out) c.args.disk (status_of_word r)) c.in-Err-default.is-0
     (c.obey.ensures.ships number (subst (IsShipWord number) c.in-Some.is (c.word_of.ensures.ships a b number is apart))))
+
+pub returns-in_default-clause-store : goal.returns-in_default-clause-store
+returns-in_default-clause-store g c told only = inr (
+  none_asked (map string_bytes c.args.words.now) c.word_of.result c.word_of.ensures.run c.word_of.ensures.follows c.word_of.ensures.overdue c.word_of.ensures.verify c.word_of.ensures.explain c.word_of.ensures.news c.word_of.ensures.ships (search rules),
+  refl,
+)
