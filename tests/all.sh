@@ -2,6 +2,8 @@
 # All that a change has to pass: the proofs and the tests in the crates, then the scripts of this folder on the program
 # that was built. Ends with the status of the first that failed.
 set -uo pipefail
+# No script here asks anybody anything.
+exec < /dev/null
 cd "$(dirname "${BASH_SOURCE[0]}")/.."
 
 rt ci || exit
