@@ -136,13 +136,6 @@ impl ProgramState {
         self.set_hold(Hold::Nobody);
     }
 
-    /// Another person holds the next attempt.
-    pub fn hand_on(&mut self, who: Name)
-        ensures { self.new ≡ held self.old (Person who) }
-    {
-        self.set_hold(Hold::Person(who));
-    }
-
     /// The next attempt is completed with this output, by a person where one is named; the activity is finished,
     /// or one more attempt is ready. Without memory the state stays as it was.
     pub fn complete(

@@ -1,8 +1,7 @@
 -- Completions seen from the scope of an attempt.
 use Rattle.std.proofs.Common.{◌≡◌, ℕ, suc, get_or, ◌+◌, ◌<◌, Bool, true, false, ◌&&◌, List, [], ◌∷◌, ◌++◌, length, take, Option, Some, None, cond, refl, ap, sym, ◌∙◌, ◌≤◌, ◌⊎◌, inl, inr, zero, arith}
-use Rattle.std.specs.Prelude.{◌==◌, bytes_eq, nat_le, slice_get}
-use Rattle.std.proofs.lemmas.Slice.Eq.{bytes_eq-Decides}
-use Rattle.fate_laws.proofs.Items.{parts_one, parts_itself}
+use Rattle.std.specs.Prelude.{◌==◌, nat_le, slice_get}
+use Rattle.fate_laws.proofs.Items.{parts_itself}
 use Rattle.std.specs.Option.{option_map, option_map_or, option_or}
 use Rattle.std.proofs.lemmas.List.{take_more, length-take-le}
 use Rattle.std.proofs.lemmas.Bool.Decides.{nat_tests, leb_tells}
@@ -10,13 +9,13 @@ use Rattle.flow_model.specs.Rows.{same_part, same_parts, output_of}
 use Rattle.flow_model.specs.declared.graphs.Container.{Container}
 use Rattle.flow_model.specs.declared.instances.Fact.{Fact}
 use Rattle.flow_model.specs.declared.instances.Part.{Part}
-use Rattle.fate_eval.specs.Entries.{Dated, dated, dated_in, dated_from, by_then, leads_to, parts_behind}
+use Rattle.fate_eval.specs.Entries.{Dated, dated, dated_in, dated_from, by_then, parts_behind}
 use Rattle.fate_eval.specs.declared.accepted.Entry.{Entry}
 
 no_zero : (n : ℕ) → false ≡ (suc n == 0)
 no_zero n = grind (arith, nat_tests)
 
-same_none : (ps : List Part) → same_parts ps [] ≡ (length ps == 0)
+pub same_none : (ps : List Part) → same_parts ps [] ≡ (length ps == 0)
 same_none [] = refl
 same_none (p ∷ ps) = no_zero (length ps)
 
@@ -27,14 +26,6 @@ same_behind (p ∷ ps) q qs = go (same_part p q)
     go : (b : Bool) → (b && same_parts ps qs) ≡ option_map_or (λ rest. same_parts rest qs) (cond b (Some ps) None) false
     go true = refl
     go false = refl
-
--- an item of the scope itself
-pub is_item : (ps : List Part) (q : Part) → same_parts ps (q ∷ []) ≡ option_map_or (λ rest. length rest == 0) (parts_behind q ps) false
-is_item ps q = same_behind ps q [] ∙ go (parts_behind q ps)
-  where
-    go : (o : Option (List Part)) → option_map_or (λ rest. same_parts rest []) o false ≡ option_map_or (λ rest. length rest == 0) o false
-    go None = refl
-    go (Some rest) = same_none rest
 
 or_cond : {X : Type 0} (b : Bool) (x : X) (o p : Option X) → cond b (Some x) (option_or o p) ≡ option_or (cond b (Some x) o) p
 or_cond true x o p = refl
@@ -62,56 +53,6 @@ pub output_more : (es : List Entry) (i : ℕ) (e : Entry) (p : List Part) → i 
 output_more es i e p less is =
     sym (output_append (take i es) (e ∷ []) p)
     ∙ ap (λ fs. dated_in fs p) (rw (take_more es i e less) (ap (λ f. take i es ++ f ∷ []) is))
-
--- a completion below an activity is of an item that leads there
-named_one : (e : Entry) (name : List ℕ) (p : List Part) → cond (leads_to name e.parts.now) (dated_in (e ∷ []) p) None ≡ cond (leads_to name p) (dated_in (e ∷ []) p) None
-named_one e name p = go (same_parts e.parts.now p) refl
-  where
-    go : (b : Bool) → same_parts e.parts.now p ≡ b → cond (leads_to name e.parts.now) (dated_in (e ∷ []) p) None ≡ cond (leads_to name p) (dated_in (e ∷ []) p) None
-    go true is = rw (parts_one e.parts.now p is) refl
-    go false is = rw is (nothing (leads_to name e.parts.now) ∙ sym (nothing (leads_to name p)))
-      where
-        nothing : (b : Bool) → cond {A = Option Dated} b None None ≡ None
-        nothing true = refl
-        nothing false = refl
-
--- one more completion below an activity
-pub one_named : (es : List Entry) (e : Entry) (name : List ℕ) (p : List Part) → leads_to name e.parts.now ≡ true
-    → dated_in (es ++ e ∷ []) p ≡ option_or (dated_in es p) (cond (leads_to name p) (dated_in (e ∷ []) p) None)
-one_named es e name p leads = output_append es (e ∷ []) p ∙ ap (option_or (dated_in es p)) (rw leads at (named_one e name p))
-
--- or elsewhere
-pub none_named : (es : List Entry) (e : Entry) (name : List ℕ) (p : List Part) → leads_to name e.parts.now ≡ false
-    → dated_in es p ≡ option_or (dated_in es p) (cond (leads_to name p) (dated_in (e ∷ []) p) None)
-none_named es e name p leads = rw (← (rw leads at (named_one e name p))) (sym (or_none (dated_in es p)))
-  where
-    or_none : (o : Option Dated) → option_or o None ≡ o
-    or_none None = refl
-    or_none (Some d) = refl
-
--- the first so many, and one more
-pub named_more : (es : List Entry) (i : ℕ) (e : Entry) (name : List ℕ) (p : List Part) → i < length es → e ≡ get_or es i e
-    → option_or (cond (leads_to name p) (dated_in (take i es) p) None) (cond (leads_to name p) (dated_in (e ∷ []) p) None) ≡ cond (leads_to name p) (dated_in (take (i + 1) es) p) None
-named_more es i e name p less is = go (leads_to name p)
-  where
-    go : (b : Bool) → option_or (cond b (dated_in (take i es) p) None) (cond b (dated_in (e ∷ []) p) None) ≡ cond b (dated_in (take (i + 1) es) p) None
-    go true = output_more es i e p less is
-    go false = refl
-
--- the items of an activity, and no others, are told as in its scope
-pub named_same : (es named : List Entry) (name : List ℕ) → ((p : List Part) → dated_in named p ≡ cond (leads_to name p) (dated_in es p) None)
-    → (q : Part) (p : List Part) → q.name ≡ name → dated_in named (q ∷ p) ≡ dated_in es (q ∷ p)
-named_same es named name all q p is =
-    let leads : bytes_eq q.name name ≡ true = (bytes_eq-Decides q.name name).1 is in
-    rw leads at (all (q ∷ p))
-
-pub named_kept : (es named : List Entry) (name : List ℕ) → ((p : List Part) → dated_in named p ≡ cond (leads_to name p) (dated_in es p) None)
-    → (p : List Part) (d : Dated) → dated_in named p ≡ Some d → dated_in es p ≡ Some d
-named_kept es named name all p d is = go (leads_to name p) (sym (all p) ∙ is)
-  where
-    go : (b : Bool) → cond b (dated_in es p) None ≡ Some d → dated_in es p ≡ Some d
-    go true h = h
-    go false h = let n : ⊥ = cc in absurd n
 
 facts_append : (n : ℕ) (es fs : List Fact) (p : List Part) → dated_from n (es ++ fs) p ≡ option_or (dated_from n es p) (dated_from (n + length es) fs p)
 facts_append n [] fs p = let e : n + zero ≡ n = omega arith in rw e refl
@@ -145,7 +86,7 @@ outputs_from (f ∷ fs) p m = go (same_parts f.item.parts p) (outputs_from fs p 
 abbrev date : ℕ → Container → Dated
 date n out = record { after = n; output = out }
 
-dated_later : (n m : ℕ) (out : Container) → n ≤ m → by_then n (Some (date (m + 1) out)) ≡ None
+pub dated_later : (n m : ℕ) (out : Container) → n ≤ m → by_then n (Some (date (m + 1) out)) ≡ None
 dated_later n m out less = go (leb_tells (m + 1) n)
   where
     go : ((nat_le (m + 1) n ≡ true) × (m + 1 ≤ n)) ⊎ ((nat_le (m + 1) n ≡ false) × (n < m + 1)) → by_then n (Some (date (m + 1) out)) ≡ None

@@ -1,5 +1,5 @@
 -- An attempt, by the first so many completions, from what is found of the scope that it runs.
-use Rattle.std.proofs.Common.{◌≡◌, ℕ, suc, ◌≤◌, List, [], ◌∷◌, Option, Some, None, refl, ap, sym, subst, ◌∙◌, inr, append_assoc}
+use Rattle.std.proofs.Common.{◌≡◌, ℕ, suc, ◌≤◌, List, [], ◌∷◌, Option, Some, None, refl, ap, sym, subst, ◌∙◌, inl, inr, arith, get_or, append_assoc}
 use Rattle.std.specs.List.{Contains}
 use Rattle.std.specs.Option.{option_map}
 use Rattle.std.proofs.lemmas.List.Elements.{Contains-append_left}
@@ -11,6 +11,7 @@ use Rattle.flow_model.specs.declared.graphs.Activity.{Activity}
 use Rattle.flow_model.specs.declared.graphs.Container.{Container}
 use Rattle.flow_model.specs.declared.graphs.Graph.{Graph}
 use Rattle.flow_model.specs.declared.graphs.Template.{Template}
+use Rattle.flow_model.specs.declared.graphs.Program.{Program as ProgramOf}
 use Rattle.flow_model.specs.declared.graphs.Work.{Work, Program, Block', Process}
 use Rattle.flow_model.specs.declared.instances.FateRow.{FateRow}
 use Rattle.flow_model.specs.declared.instances.Part.{Part}
@@ -18,8 +19,9 @@ use Rattle.flow_model.specs.declared.instances.Path.{Path}
 use Rattle.flow_model.specs.declared.names.Name.{Name}
 use Rattle.fate_eval.specs.Entries.{dated_in, by_then, known_by, known_after}
 use Rattle.fate_eval.specs.Passing.{rows_inside}
-use Rattle.fate_eval.specs.Timely.{IsShownReady, IsTimelyAttempt, IsTimelyScope, IsTimelyPass}
+use Rattle.fate_eval.specs.Timely.{IsShownReady, IsTimelyProgram, IsTimelyAttempt, IsTimelyScope, IsTimelyPass}
 use Rattle.fate_eval.specs.declared.accepted.Entry.{Entry}
+use Rattle.fate_eval.proofs.Behind.{dated_later}
 use Rattle.fate_eval.proofs.InTurn.{shown_more}
 use Rattle.fate_eval.proofs.Seen.{after_below}
 
@@ -78,3 +80,21 @@ nested_timely ts depth d most es s activity h j input since out after ready is o
     one_below : (i : ℕ) (r : FateRow) → Contains (rows ts d (at (part activity.name j) (known_after most es i)) h input (below s (part activity.name j))) r
         → Contains (rows_below (rows_inside ts (suc d)) (known_after most es i) activity (graph_in ts activity.work) (record { attempt = j; input = input } ∷ []) s) r
     one_below i r there = rw of (Contains-append_left (rows ts d (at (part activity.name j) (known_after most es i)) h input (below s (part activity.name j))) [] r there)
+
+-- an attempt of a program activity, from what is known of its item
+pub program_timely : (ts : List Template) (depth most : ℕ) (es : List Entry) (s : Path) (activity : Activity) (p : ProgramOf) (j : ℕ) (input : Container) (since : ℕ) (out : Option Container) (after : ℕ) (ready : List ℕ)
+    → activity.work ≡ Program p → IsTimelyProgram (dated_in es (part activity.name j ∷ [])) since out after ready → IsTimelyAttempt ts depth most es s activity j input since out after ready
+program_timely ts depth most es s activity p j input since out after ready is own = record {
+  later = own.later;
+  gave = λ n o given less. rw is (own.gave n o given less);
+  each = λ x d less.
+      (let here = own.each x d less in (
+        here.0,
+        inl (record {
+          open_ = rw is refl;
+          none = rw (is, here.1.1) (dated_later (get_or ready x d) (get_or ready x d) here.1.0 (omega arith));
+          output = here.1.0;
+          dated = here.1.1;
+        }),
+      ));
+}

@@ -1,8 +1,7 @@
 -- An activity, by how the others have ended after so many completions.
 use Rattle.std.proofs.Common.{◌≡◌, ℕ, suc, ◌+◌, ◌≤◌, ◌==◌, ◌&&◌, Bool, true, false, List, [], ◌∷◌, length, map, get_or, Option, Some, None, cond, refl, ap, sym, subst, ◌∙◌, inl, inr, arith}
 use Rattle.std.specs.Prelude.{if◌then◌else◌, is_none}
-use Rattle.std.specs.List.{All, Contains, filter, list_any, last_or}
-use Rattle.std.specs.Option.{option_map}
+use Rattle.std.specs.List.{All, filter, list_any, last_or}
 use Rattle.std.proofs.lemmas.Bool.Decides.{eqb_tells}
 use Rattle.std.proofs.lemmas.List.Elements.{All-cons}
 use Rattle.blocks_subprocs.specs.Ends.{ends_of}
@@ -10,7 +9,7 @@ use Rattle.flow_model.specs.Conditions.{holds}
 use Rattle.flow_model.specs.Fates.{Ends, connector_value, joined, fate_by, goes_on, tried, ended, is_open, is_settled}
 use Rattle.flow_model.specs.Rows.{rows_below}
 use Rattle.flow_model.specs.ScopeContainers.{graph_in, base_of}
-use Rattle.flow_model.specs.Scopes.{Known, Start, part, starts, gives, trial, is_fed, tries_on, attempts_at, values_at, output}
+use Rattle.flow_model.specs.Scopes.{Known, Start, starts, gives, trial, is_fed, attempts_at, values_at, output}
 use Rattle.flow_model.specs.declared.graphs.Activity.{Activity}
 use Rattle.flow_model.specs.declared.graphs.Container.{Container}
 use Rattle.flow_model.specs.declared.graphs.Control.{Control}
@@ -20,66 +19,19 @@ use Rattle.flow_model.specs.declared.graphs.MapEnd.TheVariants.{Activity as At}
 use Rattle.flow_model.specs.declared.graphs.Template.{Template}
 use Rattle.flow_model.specs.declared.graphs.Work.{Work, Program, Block', Process}
 use Rattle.flow_model.specs.declared.instances.Fate.{Fate}
-use Rattle.flow_model.specs.declared.instances.Fate.TheVariants.{Finished, Ready}
+use Rattle.flow_model.specs.declared.instances.Fate.TheVariants.{Finished}
 use Rattle.flow_model.specs.declared.instances.FateRow.{FateRow}
 use Rattle.flow_model.specs.declared.instances.Path.{Path}
 use Rattle.flow_model.specs.declared.instances.SourceEnd.{SourceEnd}
 use Rattle.flow_model.specs.declared.instances.SourceEnd.TheVariants as end
-use Rattle.flow_model.specs.declared.instances.Part.{Part}
 use Rattle.fate_laws.proofs.Extends.{or_false}
 use Rattle.fate_laws.proofs.Forward.{SameControls, SameLines, values_same, is_fed_same}
 use Rattle.fate_laws.proofs.Lines.{fed_same}
 use Rattle.fate_laws.proofs.Steps.{fed_true}
-use Rattle.fate_eval.specs.Entries.{dated_in, by_then, leads_to, output_in, known_in, known_after}
-use Rattle.fate_eval.specs.Passing.{AreAttempts, rows_inside, rows_by_ends}
+use Rattle.fate_eval.specs.Entries.{known_after}
+use Rattle.fate_eval.specs.Passing.{rows_inside, rows_by_ends}
 use Rattle.fate_eval.specs.Timely.{IsShownReady, AreTimely, IsTimelyOpen, IsTimelyFound, Knows, AfterControls, AfterLines, tried_rows}
 use Rattle.fate_eval.specs.declared.accepted.Entry.{Entry}
-use Rattle.fate_eval.proofs.Behind.{named_same, named_kept}
-use Rattle.fate_eval.proofs.Seen.{named_attempts, outs_same, rows_same}
-
--- ---- the completions of the activity, and those of its scope
-
-module _ (ts : List Template) (depth most : ℕ) (es named : List Entry) (g : Graph) (s : Path) (a : ℕ) (activity : Activity) (base : Container)
-    (all : (p : List Part) → dated_in named p ≡ cond (leads_to activity.name p) (dated_in es p) None) where
-  same_at : (n j : ℕ) (p : List Part) → by_then n (dated_in named (part activity.name j ∷ p)) ≡ by_then n (dated_in es (part activity.name j ∷ p))
-  same_at n j p = ap (by_then n) (named_same es named activity.name all (part activity.name j) p refl)
-
-  abbrev pub of_entries : List Entry → ℕ → List FateRow
-  of_entries xs n = tried_rows ts depth most xs s activity n (tries_on ts (known_after most xs n) (output ts depth) g a activity base)
-      (starts (suc most) (gives ts (known_after most xs n) (output ts depth) activity.name activity.work) (trial g a activity base) 1 base)
-
-  pub outs_at : (n : ℕ) → tries_on ts (known_after most named n) (output ts depth) g a activity base ≡ tries_on ts (known_after most es n) (output ts depth) g a activity base
-  outs_at n = outs_same ts depth most (λ p. by_then n (dated_in es p)) (λ p. by_then n (dated_in named p)) g s a activity base (same_at n)
-
-  pub rows_at : (n : ℕ) → of_entries named n ≡ of_entries es n
-  rows_at n =
-      rw (outs_at n)
-      (ap (λ (rows : List FateRow). record { scope = s; name = activity.name; fate = tried activity (length (tries_on ts (known_after most es n) (output ts depth) g a activity base)) (last_or None (tries_on ts (known_after most es n) (output ts depth) g a activity base)) } ∷ rows)
-      (rows_same ts depth most (λ p. by_then n (dated_in es p)) (λ p. by_then n (dated_in named p)) g s a activity base (same_at n)))
-
-  shown_at : (i : ℕ) → IsShownReady named s (of_entries named i) i → IsShownReady es s (of_entries es i) i
-  shown_at i is = record {
-    scope = is.scope;
-    last = is.last;
-    rest = is.rest;
-    output = is.output;
-    item = is.item;
-    dated = named_kept es named activity.name all is.rest _ is.dated;
-    shown = (let P : List FateRow → Type 0 = λ rows. Contains rows (record { scope = is.scope; name = is.last.name; fate = Ready is.last.attempt }) in subst P (rows_at i) is.shown);
-  }
-
-  pub named_exact : (f : Fate) (e : SourceEnd) (rows : List FateRow)
-      → AreAttempts ts depth (known_in most named) g s a activity base f e rows → AreAttempts ts depth (known_in most es) g s a activity base f e rows
-  named_exact = named_attempts ts depth most (output_in es) (output_in named) g s a activity base
-      (λ j p. ap (option_map (λ d. d.output)) (named_same es named activity.name all (part activity.name j) p refl))
-
-  pub named_timely : (since : ℕ) (e : SourceEnd) (after : ℕ) (ready : List ℕ) → AreTimely ts depth most named g s a activity base since e after ready
-      → AreTimely ts depth most es g s a activity base since e after ready
-  named_timely since e after ready are = record {
-    later = are.later;
-    ending = λ n settled less. ap (λ outs. ended (tried activity (length outs) (last_or None outs)) outs) (sym (outs_at n)) ∙ are.ending n settled less;
-    each = λ x d less. let here = are.each x d less in (here.0, shown_at _ here.1);
-  }
 
 -- ---- what feeds it
 

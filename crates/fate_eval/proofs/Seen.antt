@@ -1,33 +1,29 @@
 -- What is known from the scope of an attempt, and by the completions of one activity.
-use Rattle.std.proofs.Common.{◌≡◌, ℕ, zero, suc, ◌+◌, true, List, [], ◌∷◌, length, take, Option, Some, None, refl, ap, sym, ◌∙◌, subst, arith}
+use Rattle.std.proofs.Common.{◌≡◌, ℕ, zero, suc, ◌+◌, true, List, ◌∷◌, take, Option, Some, None, refl, ap, sym, ◌∙◌, subst, arith}
 use Rattle.std.proofs.Math.Path.{fun_ext}
 use Rattle.std.specs.Prelude.{slice_get, Result, Ok, Err, IfOk}
-use Rattle.std.specs.List.{last_or, flat_map}
 use Rattle.std.specs.Option.{option_map}
-use Rattle.flow_model.specs.Containers.{with_return_code}
-use Rattle.flow_model.specs.Fates.{Ends, tried, ended}
-use Rattle.flow_model.specs.Rows.{by_facts, rows_below, below}
-use Rattle.flow_model.specs.ScopeContainers.{graph_in, graph_of, base_of}
-use Rattle.flow_model.specs.Scopes.{Known, Runs, Start, at, part, gives, scope_gives, trial, tries, tries_on, starts, is_fed, output}
+use Rattle.flow_model.specs.Fates.{Ends}
+use Rattle.flow_model.specs.Rows.{by_facts}
+use Rattle.flow_model.specs.ScopeContainers.{graph_in, base_of}
+use Rattle.flow_model.specs.Scopes.{Known, at, is_fed}
 use Rattle.flow_model.specs.declared.graphs.Activity.{Activity}
 use Rattle.flow_model.specs.declared.graphs.Container.{Container}
 use Rattle.flow_model.specs.declared.graphs.Graph.{Graph, out-Graph}
 use Rattle.flow_model.specs.declared.graphs.Template.{Template}
-use Rattle.flow_model.specs.declared.graphs.Work.{Work, Program, Block', Process}
 use Rattle.flow_model.specs.declared.instances.Fact.{Fact}
 use Rattle.flow_model.specs.declared.instances.Fate.{Fate}
 use Rattle.flow_model.specs.declared.instances.FateRow.{FateRow}
 use Rattle.flow_model.specs.declared.instances.Part.{Part}
 use Rattle.flow_model.specs.declared.instances.Path.{Path}
 use Rattle.flow_model.specs.declared.instances.SourceEnd.{SourceEnd}
-use Rattle.flow_model.specs.declared.names.Name.{Name}
 use Rattle.fate_eval.specs.Entries.{dated_in, dated_from, output_in, by_then, known_by, known_in, known_after}
 use Rattle.fate_eval.proofs.Behind.{known_from, outputs_from}
 use Rattle.fate_laws.specs.Layout.{IsLaid, OfInside, Laid, LaidBelow}
 use Rattle.fate_laws.specs.Walks.{IsWired}
 use Rattle.fate_laws.specs.WellFormed.{Well}
 use Rattle.fate_eval.specs.Whole.{WellBelow}
-use Rattle.fate_eval.specs.Passing.{AreAttempts, IsOpen, rows_inside}
+use Rattle.fate_eval.specs.Passing.{AreAttempts, IsOpen}
 use Rattle.fate_eval.specs.declared.accepted.Entry.{Entry}
 
 -- a weaker fact of what a call gave
@@ -57,56 +53,6 @@ pub after_facts : (most : ℕ) (es : List Entry) (fs : List Fact) (n : ℕ) → 
 after_facts most es fs n same =
     let zero_add : 0 + n ≡ n = omega arith in
     ap (known_by most) (fun_ext (λ p. ap (by_then n) (same p) ∙ rw zero_add at (known_from fs p 0 n)))
-
-module _ (ts : List Template) (most : ℕ) (given named : List Part → Option Container) (name : Name)
-    (same : (j : ℕ) (p : List Part) → named (part name j ∷ p) ≡ given (part name j ∷ p)) where
-  at_same : (j : ℕ) → at (part name j) (known_by most named) ≡ at (part name j) (known_by most given)
-  at_same j = ap (known_by most) (fun_ext (same j))
-
-  scope_same : (runs : Runs) (o : Option Graph) (j : ℕ) (input : Container)
-      → scope_gives (known_by most named) runs o (part name j) input ≡ scope_gives (known_by most given) runs o (part name j) input
-  scope_same runs None j input = refl
-  scope_same runs (Some g) j input = ap (λ k. option_map with_return_code (runs k g input)) (at_same j)
-
-  gives_at : (runs : Runs) (work : Work) (j : ℕ) (input : Container) → gives ts (known_by most named) runs name work j input ≡ gives ts (known_by most given) runs name work j input
-  gives_at runs (Program p) j input = same j []
-  gives_at runs (Block' b g) j input = scope_same runs (Some g) j input
-  gives_at runs (Process t) j input = scope_same runs (graph_of ts t) j input
-
-  pub gives_same : (runs : Runs) (work : Work) → gives ts (known_by most named) runs name work ≡ gives ts (known_by most given) runs name work
-  gives_same runs work = fun_ext (λ j. fun_ext (λ input. gives_at runs work j input))
-
-  flat_same : (rows : Known → Graph → Container → Path → List FateRow) (h : Graph) (xs : List Start) (s : Path)
-      → flat_map (λ x. rows (at (part name x.attempt) (known_by most named)) h x.input (below s (part name x.attempt))) xs
-      ≡ flat_map (λ x. rows (at (part name x.attempt) (known_by most given)) h x.input (below s (part name x.attempt))) xs
-  flat_same rows h [] s = refl
-  flat_same rows h (x ∷ xs) s = rw (at_same x.attempt, flat_same rows h xs s) refl
-
-module _ (ts : List Template) (depth most : ℕ) (given named : List Part → Option Container) (g : Graph) (s : Path) (a : ℕ) (activity : Activity) (base : Container)
-    (same : (j : ℕ) (p : List Part) → named (part activity.name j ∷ p) ≡ given (part activity.name j ∷ p)) where
-  below_same : (o : Option Graph) (xs : List Start) → rows_below (rows_inside ts depth) (known_by most named) activity o xs s ≡ rows_below (rows_inside ts depth) (known_by most given) activity o xs s
-  below_same None xs = refl
-  below_same (Some h) xs = flat_same ts most given named activity.name same (rows_inside ts depth) h xs s
-
-  pub outs_same : tries_on ts (known_by most named) (output ts depth) g a activity base ≡ tries_on ts (known_by most given) (output ts depth) g a activity base
-  outs_same = ap (λ x. tries most x (trial g a activity base) 1 base) (gives_same ts most given named activity.name same (output ts depth) activity.work)
-
-  pub rows_same : rows_below (rows_inside ts depth) (known_by most named) activity (graph_in ts activity.work) (starts (suc most) (gives ts (known_by most named) (output ts depth) activity.name activity.work) (trial g a activity base) 1 base) s
-      ≡ rows_below (rows_inside ts depth) (known_by most given) activity (graph_in ts activity.work) (starts (suc most) (gives ts (known_by most given) (output ts depth) activity.name activity.work) (trial g a activity base) 1 base) s
-  rows_same =
-      ap (λ x. rows_below (rows_inside ts depth) (known_by most named) activity (graph_in ts activity.work) (starts (suc most) x (trial g a activity base) 1 base) s)
-      (gives_same ts most given named activity.name same (output ts depth) activity.work)
-      ∙ below_same (graph_in ts activity.work) (starts (suc most) (gives ts (known_by most given) (output ts depth) activity.name activity.work) (trial g a activity base) 1 base)
-
-  -- what the attempts come to by the completions of the activity, they come to by those of the scope
-  pub named_attempts : (f : Fate) (e : SourceEnd) (rows : List FateRow)
-      → AreAttempts ts depth (known_by most named) g s a activity base f e rows → AreAttempts ts depth (known_by most given) g s a activity base f e rows
-  named_attempts f e rows attempts =
-      record {
-        fate = attempts.fate ∙ ap (λ os. tried activity (length os) (last_or None os)) outs_same;
-        end = attempts.end ∙ ap (ended f) outs_same;
-        shown = attempts.shown ∙ rows_same;
-      }
 
 -- an activity that is fed has these attempts
 pub fed_opens : (ts : List Template) (depth : ℕ) (k : Known) (g : Graph) (input : Container) (s : Path) (e : Ends) (a : ℕ) (activity : Activity) (f : Fate) (end : SourceEnd) (rows : List FateRow)

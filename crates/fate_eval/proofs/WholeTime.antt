@@ -1,15 +1,14 @@
 -- An activity, by how the others have ended: all that is so after so many completions is found.
-use Rattle.std.proofs.Common.{◌≡◌, ℕ, suc, ◌≤◌, ◌==◌, ◌&&◌, Bool, true, false, List, [], ◌∷◌, ◌++◌, length, map, Option, Some, None, cond, refl, ap, sym, subst, ◌∙◌, ◌⊎◌, inl, inr, arith}
+use Rattle.std.proofs.Common.{◌≡◌, ℕ, suc, ◌≤◌, ◌==◌, ◌&&◌, Bool, true, false, List, [], ◌∷◌, ◌++◌, length, map, Option, Some, None, refl, ap, sym, subst, ◌∙◌, ◌⊎◌, inl, inr, arith}
 use Rattle.std.specs.Prelude.{if◌then◌else◌, is_none}
-use Rattle.std.specs.List.{All, Contains, filter, list_any, last_or}
+use Rattle.std.specs.List.{All, filter, list_any, last_or}
 use Rattle.std.proofs.lemmas.Bool.Decides.{eqb_tells}
-use Rattle.std.proofs.lemmas.List.Elements.{All-cons, Contains-append_cases}
-use Rattle.std.proofs.lemmas.List.{append_cancel_left}
+use Rattle.std.proofs.lemmas.List.Elements.{All-cons}
 use Rattle.blocks_subprocs.specs.Ends.{ends_of}
 use Rattle.flow_model.specs.Fates.{Ends, connector_value, joined, fate_by, goes_on, tried, ended, is_open, is_settled}
 use Rattle.flow_model.specs.Rows.{rows_below, below}
 use Rattle.flow_model.specs.ScopeContainers.{graph_in, base_of}
-use Rattle.flow_model.specs.Scopes.{Known, Start, at, part, starts, gives, trial, is_fed, attempts_at, output}
+use Rattle.flow_model.specs.Scopes.{Known, starts, gives, trial, is_fed, attempts_at, output}
 use Rattle.flow_model.specs.declared.graphs.Activity.{Activity}
 use Rattle.flow_model.specs.declared.graphs.Container.{Container}
 use Rattle.flow_model.specs.declared.graphs.Control.{Control}
@@ -21,7 +20,6 @@ use Rattle.flow_model.specs.declared.graphs.Work.{Work, Program, Block', Process
 use Rattle.flow_model.specs.declared.instances.Fate.{Fate}
 use Rattle.flow_model.specs.declared.instances.Fate.TheVariants.{Ready, Waiting, Dead}
 use Rattle.flow_model.specs.declared.instances.FateRow.{FateRow}
-use Rattle.flow_model.specs.declared.instances.Part.{Part}
 use Rattle.flow_model.specs.declared.instances.Path.{Path}
 use Rattle.flow_model.specs.declared.instances.SourceEnd.{SourceEnd}
 use Rattle.flow_model.specs.declared.instances.SourceEnd.TheVariants as end
@@ -29,79 +27,16 @@ use Rattle.fate_laws.proofs.Extends.{or_false}
 use Rattle.fate_laws.proofs.Forward.{SameControls, SameLines, values_same, is_fed_same}
 use Rattle.fate_laws.proofs.Lines.{fed_same}
 use Rattle.fate_laws.proofs.Steps.{fed_true}
-use Rattle.fate_eval.specs.Entries.{dated_in, leads_to, known_after}
+use Rattle.fate_eval.specs.Entries.{known_after}
 use Rattle.fate_eval.specs.Passing.{rows_inside, rows_by_ends, end_by_ends}
 use Rattle.fate_eval.specs.Timely.{IsShownReady, AfterControls, AfterLines}
 use Rattle.fate_eval.specs.Whole.{AreWhole, IsWholeOpen, IsWholeFound, TellsControls, TellsLines}
 use Rattle.fate_eval.specs.declared.accepted.Entry.{Entry}
-use Rattle.fate_eval.proofs.Behind.{named_same}
-use Rattle.fate_eval.proofs.InTime.{of_entries, outs_at, rows_at, rows_open}
-use Rattle.fate_eval.proofs.RowScopes.{under_part, inside_under, rest_begins}
-use Rattle.fate_eval.proofs.WholeTurn.{shown_cases, shown_none, shown_own, one_row}
+use Rattle.fate_eval.proofs.InTime.{rows_open}
+use Rattle.fate_eval.proofs.WholeTurn.{shown_cases, shown_none, shown_own}
 
 no_end : false ≡ true → ⊥
 no_end h = cc
-
--- ---- the completions of the activity, and those of its scope
-
-module _ (ts : List Template) (depth most : ℕ) (es : List Entry) (s : Path) (activity : Activity) where
-  -- an item that is shown among the rows of an activity is one of its attempts, or below one
-  pub begins : (n i : ℕ) (f : Fate) (xs : List Start)
-      → (is : IsShownReady es s (record { scope = s; name = activity.name; fate = f } ∷ rows_below (rows_inside ts depth) (known_after most es n) activity (graph_in ts activity.work) xs s) i)
-      → (j : ℕ) × (path : List Part) × (is.rest ≡ part activity.name j ∷ path)
-  begins n i f xs is =
-      go (is_first is.shown)
-    where
-      own : FateRow
-      own = record { scope = s; name = activity.name; fate = f }
-
-      below_rows : List FateRow
-      below_rows = rows_below (rows_inside ts depth) (known_after most es n) activity (graph_in ts activity.work) xs s
-
-      row : FateRow
-      row = record { scope = is.scope; name = is.last.name; fate = Ready is.last.attempt }
-
-      is_first : Contains (own ∷ below_rows) row → Contains (own ∷ []) row ⊎ Contains below_rows row
-      is_first there = Contains-append_cases (own ∷ []) below_rows row there
-
-      go : Contains (own ∷ []) row ⊎ Contains below_rows row → (j : ℕ) × (path : List Part) × (is.rest ≡ part activity.name j ∷ path)
-      go (inl here) =
-          let it = shown_own es s activity f i (record { scope = is.scope; last = is.last; rest = is.rest; output = is.output; item = is.item; dated = is.dated; shown = here }) in
-          let same = one_row own row here in
-          let scope : s ≡ is.scope = ap (λ (r : FateRow). r.scope) same in
-          let name : activity.name ≡ is.last.name = ap (λ (r : FateRow). r.name) same in
-          let parts : s.parts ++ is.last ∷ [] ≡ s.parts ++ is.rest = ap (λ (p : Path). p.parts ++ is.last ∷ []) scope ∙ ap (λ (p : Path). p.parts) is.item in
-          (is.last.attempt, [], sym (append_cancel_left s.parts (is.last ∷ []) is.rest parts) ∙ ap (λ n. part n is.last.attempt ∷ []) (sym name))
-      go (inr later) =
-          let u = under_part ts (rows_inside ts depth) (known_after most es n) s row (λ q h c here. inside_under ts depth (at q (known_after most es n)) h c (below s q) row here) activity (graph_in ts activity.work) xs later in
-          (u.0, u.1 ++ is.last ∷ [], rest_begins s is.scope is.last (part activity.name u.0) is.rest u.1 u.2 is.item)
-
-module _ (ts : List Template) (depth most : ℕ) (es named : List Entry) (g : Graph) (s : Path) (a : ℕ) (activity : Activity) (base : Container)
-    (all : (p : List Part) → dated_in named p ≡ cond (leads_to activity.name p) (dated_in es p) None) where
-  to_named : (i : ℕ) → IsShownReady es s (of_entries ts depth most es named g s a activity base all es i) i → IsShownReady named s (of_entries ts depth most es named g s a activity base all named i) i
-  to_named i is =
-      let b = begins ts depth most es s activity i i _ _ is in
-      let same : dated_in named is.rest ≡ dated_in es is.rest = ap (dated_in named) b.2 ∙ named_same es named activity.name all (part activity.name b.0) b.1 refl ∙ ap (dated_in es) (sym b.2) in
-      record {
-        scope = is.scope;
-        last = is.last;
-        rest = is.rest;
-        output = is.output;
-        item = is.item;
-        dated = same ∙ is.dated;
-        shown = (let P : List FateRow → Type 0 = λ rows. Contains rows (record { scope = is.scope; name = is.last.name; fate = Ready is.last.attempt }) in subst P (sym (rows_at ts depth most es named g s a activity base all i)) is.shown);
-      }
-
-  pub named_whole : (since : ℕ) (e : SourceEnd) (after : ℕ) (ready : List ℕ) → AreWhole ts depth most named g s a activity base since e after ready
-      → AreWhole ts depth most es g s a activity base since e after ready
-  named_whole since e after ready are = record {
-    ending = λ n low settled.
-        (let same = outs_at ts depth most es named g s a activity base all n in
-        let end_is = ap (λ outs. ended (tried activity (length outs) (last_or None outs)) outs) same in
-        let r = are.ending n low (ap is_settled end_is ∙ settled) in
-        (r.0 ∙ end_is, r.1));
-    inside = λ i low shown. are.inside i low (to_named i shown);
-  }
 
 -- ---- what feeds it
 

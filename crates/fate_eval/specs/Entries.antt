@@ -1,5 +1,5 @@
 -- The accepted completions, seen from a scope, and what they tell there.
-use Rattle.std.specs.Prelude.{ℕ, ◌+◌, nat_le, Bool, true, false, bytes_eq, if◌then◌else◌, Option, Some, None, List, [], ◌∷◌}
+use Rattle.std.specs.Prelude.{ℕ, ◌+◌, nat_le, true, if◌then◌else◌, Option, Some, None, List, [], ◌∷◌}
 use Rattle.std.specs.Option.{option_map}
 use Rattle.flow_model.specs.declared.graphs.Container.{Container}
 use Rattle.flow_model.specs.declared.instances.Fact.{Fact}
@@ -39,11 +39,6 @@ by_then n (Some d) = if nat_le d.after n then Some d.output else None
 abbrev pub parts_behind : Part → List Part → Option (List Part)
 parts_behind q [] = None
 parts_behind q (p ∷ ps) = if same_part p q then Some ps else None
-
--- parts lead to an attempt of the activity of this name
-abbrev pub leads_to : List ℕ → List Part → Bool
-leads_to name [] = false
-leads_to name (p ∷ ps) = bytes_eq p.name name
 
 -- every scope has begun, everything counts at once, and no activity has more attempts than this
 abbrev pub known_by : ℕ → (List Part → Option Container) → Known

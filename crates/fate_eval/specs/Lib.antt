@@ -1,4 +1,5 @@
 pub mod Entries
+pub mod Grouped
 pub mod Passing
 pub mod Refusals
 pub mod Timely

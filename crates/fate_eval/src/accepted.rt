@@ -1,12 +1,15 @@
 //! The accepted completions, seen from a scope.
-ghost use Rattle.std.specs.Prelude.{◌≡◌, ◌∷◌, [], List, None, if◌then◌else◌, IfOk, OnOk};
-ghost use Rattle.std.specs.Option.{option_copied, option_map, option_or};
-ghost use Rattle.flow_model.specs.Rows.{same_parts};
+ghost use Rattle.std.specs.Prelude.{◌≡◌, ◌∷◌, [], List, IfOk, OnOk};
+ghost use Rattle.std.specs.Option.{option_copied, option_map, option_map_or, option_or};
+ghost use Rattle.std.specs.Global.{Vec as VecOf};
+ghost use Rattle.fate_eval.specs.declared.accepted.Entry.{Entry as EntryOf};
 ghost use Rattle.flow_model.specs.Scopes.{part};
 ghost use Rattle.flow_model.specs.declared.instances.Part.{Part as PartOf};
-ghost use Rattle.fate_eval.specs.Entries.{dated, dated_in, dated_from, parts_behind, leads_to};
+ghost use Rattle.fate_eval.specs.Entries.{dated, dated_in, dated_from};
+ghost use Rattle.fate_eval.specs.Grouped.{at_part, with_entry, AreByAttempt};
 
 use flow_model::{Container, Fact, Part};
+use indexmap::IndexMap;
 use std::alloc::{AllocError, Global};
 
 /// A completion with what its item's path has below a scope, and the number of completions up to it.
@@ -16,6 +19,12 @@ pub struct Entry<'a> {
     pub output: &'a Container,
     pub after: u64,
 }
+
+/// An attempt of an activity of a scope: the activity's name and the number of the attempt.
+type Tried<'a> = (&'a [u8], u64);
+
+/// The completions of each attempt and of the scope that it is, with what their paths have below it.
+pub type Groups<'a> = IndexMap<Tried<'a>, Vec<Entry<'a>>>;
 
 /// The completions of a root.
 pub fn entries_of<'a>(alloc: Global, facts: &'a [Fact]) -> Result<Vec<Entry<'a>>, AllocError>
@@ -32,119 +41,73 @@ pub fn entries_of<'a>(alloc: Global, facts: &'a [Fact]) -> Result<Vec<Entry<'a>>
     Ok(entries)
 }
 
-/// What parts have below an attempt of an activity of the scope, if they lead there.
-fn behind<'a>(parts: &'a [Part], name: &[u8], attempt: u64) -> Option<&'a [Part]>
-    ensures { option_copied result ≡ parts_behind (part name.now attempt) parts.now }
+/// Adds a completion to those of an attempt.
+fn add_to<'a>(
+    alloc: Global,
+    groups: &mut Groups<'a>,
+    tried: Tried<'a>,
+    entry: Entry<'a>,
+) -> Result<(), AllocError>
+    ensures { OnOk result ((q : PartOf) → at_part groups.new q ≡ with_entry tried.entry entry.entry (at_part groups.old) q) }
 {
-    match parts {
-        [] => None,
+    if let Some(group) = groups.get_mut(&tried) {
+        group.push(entry)?;
+        return Ok(());
+    }
+    let mut group = Vec::new(alloc);
+    group.push(entry)?;
+    groups.insert(tried, group)?;
+    Ok(())
+}
+
+/// Adds a completion to those of the attempt that its path leads to.
+fn add<'a>(alloc: Global, groups: &mut Groups<'a>, entry: &Entry<'a>) -> Result<(), AllocError>
+    ensures { OnOk result ((q : PartOf) (p : List PartOf) → dated_in (at_part groups.new q) p ≡ option_or (dated_in (at_part groups.old q) p) (dated_in (entry.now ∷ []) (q ∷ p))) }
+{
+    match entry.parts {
+        [] => Ok(()),
         [first, rest @ ..] => {
-            if first.name.as_slice() == name && first.attempt == attempt {
-                Some(rest)
-            } else {
-                None
-            }
+            let tried = (first.name.as_slice(), first.attempt);
+            let inner = Entry {
+                parts: rest,
+                output: entry.output,
+                after: entry.after,
+            };
+            add_to(alloc, groups, tried, inner)
         }
     }
 }
 
-/// Whether parts are those of an attempt of an activity of the scope, and no more.
-#[tactic(auto, using(crate::proofs::Behind::is_item))]
-fn is_attempt(parts: &[Part], name: &[u8], attempt: u64) -> bool
-    ensures { result ≡ same_parts parts.now (part name.now attempt ∷ []) }
+/// The completions of a scope, by the attempts that they lead to.
+pub fn groups_of<'a>(alloc: Global, entries: &[Entry<'a>]) -> Result<Groups<'a>, AllocError>
+    ensures { IfOk result (λ groups. AreByAttempt groups entries.now) }
 {
-    match behind(parts, name, attempt) {
-        Some(rest) => rest.is_empty(),
-        None => false,
+    let mut groups = IndexMap::new(alloc);
+    for entry in entries {
+        add(alloc, &mut groups, entry)?;
     }
+    Ok(groups)
 }
 
-/// The first completion of an attempt of a program activity.
-pub fn completion<'a>(entries: &[Entry<'a>], name: &[u8], attempt: u64) -> Option<Entry<'a>>
-    ensures { option_map dated result ≡ dated_in entries.now (part name.now attempt ∷ []) }
+/// The completions of an attempt and of the scope that it is.
+pub fn entries_at<'a, 'b>(groups: &'b Groups<'a>, name: &'a [u8], attempt: u64) -> &'b [Entry<'a>]
+    ensures { result.now ≡ at_part groups.now (part name.now attempt) }
+{
+    let tried = (name, attempt);
+    groups
+        .get(&tried)
+        .map(|group| group.as_slice())
+        .unwrap_or_default()
+}
+
+/// The first completion of the attempt itself, among those of an attempt.
+pub fn completion<'a>(entries: &[Entry<'a>]) -> Option<Entry<'a>>
+    ensures { option_map dated result ≡ dated_in entries.now [] }
 {
     for entry in entries {
-        if is_attempt(entry.parts, name, attempt) {
+        if entry.parts.is_empty() {
             return Some(*entry);
         }
     }
     None
-}
-
-/// Adds what a completion has below an attempt, if it is there.
-fn add_below<'a>(
-    inner: &mut Vec<Entry<'a>>,
-    entry: &Entry<'a>,
-    name: &[u8],
-    attempt: u64,
-) -> Result<(), AllocError>
-    ensures { OnOk result ((p : List PartOf) → dated_in inner.new.items p ≡ option_or (dated_in inner.old.items p) (dated_in (entry.now ∷ []) (part name.now attempt ∷ p))) }
-{
-    match behind(entry.parts, name, attempt) {
-        None => Ok(()),
-        Some(parts) => {
-            inner.push(Entry {
-                parts,
-                output: entry.output,
-                after: entry.after,
-            })?;
-            Ok(())
-        }
-    }
-}
-
-/// The completions in the scope of an attempt of a block or process activity.
-pub fn entries_below<'a>(
-    alloc: Global,
-    entries: &[Entry<'a>],
-    name: &[u8],
-    attempt: u64,
-) -> Result<Vec<Entry<'a>>, AllocError>
-    ensures { IfOk result (λ v. (p : List PartOf) → dated_in v.items p ≡ dated_in entries.now (part name.now attempt ∷ p)) }
-{
-    let mut inner = Vec::new(alloc);
-    for entry in entries {
-        add_below(&mut inner, entry, name, attempt)?;
-    }
-    Ok(inner)
-}
-
-/// Whether parts lead to an attempt of this activity of the scope.
-fn is_below(parts: &[Part], name: &[u8]) -> bool
-    ensures { result ≡ leads_to name.now parts.now }
-{
-    match parts {
-        [] => false,
-        [first, ..] => first.name.as_slice() == name,
-    }
-}
-
-/// Adds a completion, if it is below this activity.
-fn add_named<'a>(
-    named: &mut Vec<Entry<'a>>,
-    entry: &Entry<'a>,
-    name: &[u8],
-) -> Result<(), AllocError>
-    ensures { OnOk result ((p : List PartOf) → dated_in named.new.items p ≡ option_or (dated_in named.old.items p) (if leads_to name.now p then dated_in (entry.now ∷ []) p else None)) }
-{
-    if !is_below(entry.parts, name) {
-        return Ok(());
-    }
-    named.push(*entry)?;
-    Ok(())
-}
-
-/// The completions of an activity of a scope, and of the scopes below it.
-pub fn entries_of_activity<'a>(
-    alloc: Global,
-    entries: &[Entry<'a>],
-    name: &[u8],
-) -> Result<Vec<Entry<'a>>, AllocError>
-    ensures { IfOk result (λ v. (p : List PartOf) → dated_in v.items p ≡ (if leads_to name.now p then dated_in entries.now p else None)) }
-{
-    let mut named = Vec::new(alloc);
-    for entry in entries {
-        add_named(&mut named, entry, name)?;
-    }
-    Ok(named)
 }

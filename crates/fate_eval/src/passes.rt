@@ -13,6 +13,7 @@ ghost use Rattle.flow_model.specs.declared.instances.SourceEnd.TheVariants.{Unse
 ghost use Rattle.blocks_subprocs.specs.Ends.{ends_of};
 ghost use Rattle.flow_model.specs.Wiring.{IsLooping, IsSinking};
 ghost use Rattle.fate_eval.specs.Entries.{dated_in, output_in, known_in};
+ghost use Rattle.fate_eval.specs.Grouped.{AreByAttempt};
 ghost use Rattle.fate_eval.specs.Refusals.{IsWithin, IsBehindReady, IsUnready, IsFirstUnready, AreOf, AreReadyIn, AreMarked};
 ghost use Rattle.fate_eval.specs.Whole.{IsNested, WellBelow, IsWholeProgram, IsWholeAttempt, IsWholeScope, IsWholePass, IsWholeLast, AreWhole, IsWholeOpen, IsWholeFound};
 ghost use Rattle.fate_eval.specs.Timely.{IsTimelyProgram, IsTimelyAttempt, IsTimelyScope, IsTimelyPass, IsTimelyLast, AreTimely, IsTimelyOpen, IsTimelyFound};
@@ -20,7 +21,7 @@ ghost use Rattle.fate_laws.specs.Layout.{IsLaid, OfInside, Laid, LaidBelow};
 ghost use Rattle.fate_laws.specs.WellFormed.{Well};
 ghost use Rattle.fate_eval.specs.Passing.{IsAttempt, IsScopeAttempt, IsLast, AreAttempts, IsOpen, IsFound, IsPassed, AreFates, turn_of};
 
-use crate::accepted::{Entry, completion, entries_below, entries_of, entries_of_activity};
+use crate::accepted::{Entry, Groups, completion, entries_at, entries_of, groups_of};
 use crate::results::{FateFault, Fates};
 use crate::scopes::{complete_after, fed_after, is_complete, is_fed, joined_after, values};
 use blocks_subprocs::{Next, first_input, graph_of, next_attempt, next_input, output_of};
@@ -80,13 +81,16 @@ struct Passed {
     ready: Vec<u64>,
 }
 
-/// A scope: its graph, where it stands, what it reads, after how many completions it began, and its completions.
+/// A scope: its graph, where it stands, what it reads, after how many completions it began, and its completions,
+/// also by the attempts that they lead to.
 struct Scope<'a> {
     graph: &'a Graph,
     path: Path,
     input: Container,
     since: u64,
     entries: Vec<Entry<'a>>,
+    groups: Groups<'a>,
+    ghost grouped: { AreByAttempt groups entries.items },
 }
 
 impl Drop for Scope<'_> {
@@ -97,6 +101,7 @@ impl Drop for Scope<'_> {
             input: _,
             since: _,
             entries: _,
+            groups: _,
         } = self;
     }
 }
@@ -180,18 +185,19 @@ fn nothing(alloc: Global, since: u64) -> Attempt
 }
 
 /// Attempt `attempt` of a program activity, which may be completed after `since` completions.
-fn program_attempt(
+fn program_attempt<'a>(
     alloc: Global,
-    entries: &[Entry<'_>],
-    activity: &Activity,
+    scope: &Scope<'a>,
+    activity: &'a Activity,
     attempt: u64,
     since: u64,
 ) -> Result<Attempt, AllocError>
-    ensures exact { IfOk result (λ r. (r.output ≡ output_in entries.now (part activity.now.name attempt ∷ [])) × (r.rows.items ≡ [])) }
-    ensures timely { IfOk result (λ r. IsTimelyProgram (dated_in entries.now (part activity.now.name attempt ∷ [])) since r.output r.after r.ready.items) }
-    ensures whole { IfOk result (λ r. IsWholeProgram (dated_in entries.now (part activity.now.name attempt ∷ [])) since r.output r.after r.ready.items) }
+    ensures exact { IfOk result (λ r. (r.output ≡ output_in scope.now.entries.items (part activity.now.name attempt ∷ [])) × (r.rows.items ≡ [])) }
+    ensures timely { IfOk result (λ r. IsTimelyProgram (dated_in scope.now.entries.items (part activity.now.name attempt ∷ [])) since r.output r.after r.ready.items) }
+    ensures whole { IfOk result (λ r. IsWholeProgram (dated_in scope.now.entries.items (part activity.now.name attempt ∷ [])) since r.output r.after r.ready.items) }
 {
-    match completion(entries, activity.name.as_slice(), attempt) {
+    let name = activity.name.as_slice();
+    match completion(entries_at(&scope.groups, name, attempt)) {
         None => Ok(nothing(alloc, since)),
         Some(entry) => Ok(Attempt {
             output: Some(entry.output.copy(alloc)?),
@@ -218,23 +224,24 @@ fn scope_attempt<'a>(
     root: &Root<'a>,
     depth: u32,
     scope: &Scope<'a>,
-    entries: &[Entry<'a>],
     activity: &'a Activity,
     graph: &'a Graph,
     attempt: u64,
     input: &Container,
     since: u64,
 ) -> Result<Attempt, AllocError>
-    ensures exact { Laid root.now.library.now.templates depth graph.now → IfOk result (λ r. (r.output ≡ option_map with_code (output_of_scope root.now.library.now.templates (depth + 1) (at (part activity.now.name attempt) (known_in root.now.most entries.now)) graph.now input.now)) × (r.rows.items ≡ rows_in root.now.library.now.templates depth (at (part activity.now.name attempt) (known_in root.now.most entries.now)) graph.now input.now (path_below scope.now.path (part activity.now.name attempt)))) }
-    ensures timely { Laid root.now.library.now.templates depth graph.now → IfOk result (λ r. IsTimelyScope root.now.library.now.templates depth root.now.most entries.now scope.now.path (part activity.now.name attempt) graph.now input.now since r.output r.after r.ready.items) }
-    ensures whole { Laid root.now.library.now.templates depth graph.now → Well root.now.library.now.templates depth graph.now → IfOk result (λ r. IsWholeScope root.now.library.now.templates depth root.now.most entries.now scope.now.path (part activity.now.name attempt) graph.now input.now since r.output r.after r.ready.items) }
+    ensures exact { Laid root.now.library.now.templates depth graph.now → IfOk result (λ r. (r.output ≡ option_map with_code (output_of_scope root.now.library.now.templates (depth + 1) (at (part activity.now.name attempt) (known_in root.now.most scope.now.entries.items)) graph.now input.now)) × (r.rows.items ≡ rows_in root.now.library.now.templates depth (at (part activity.now.name attempt) (known_in root.now.most scope.now.entries.items)) graph.now input.now (path_below scope.now.path (part activity.now.name attempt)))) }
+    ensures timely { Laid root.now.library.now.templates depth graph.now → IfOk result (λ r. IsTimelyScope root.now.library.now.templates depth root.now.most scope.now.entries.items scope.now.path (part activity.now.name attempt) graph.now input.now since r.output r.after r.ready.items) }
+    ensures whole { Laid root.now.library.now.templates depth graph.now → Well root.now.library.now.templates depth graph.now → IfOk result (λ r. IsWholeScope root.now.library.now.templates depth root.now.most scope.now.entries.items scope.now.path (part activity.now.name attempt) graph.now input.now since r.output r.after r.ready.items) }
 {
+    let found = entries_at(&scope.groups, activity.name.as_slice(), attempt);
     let below = Scope {
         graph,
         path: path_of(root.alloc, &scope.path, activity, attempt)?,
         input: input.copy(root.alloc)?,
         since,
-        entries: entries_below(root.alloc, entries, activity.name.as_slice(), attempt)?,
+        entries: Vec::from_slice(root.alloc, found)?,
+        groups: groups_of(root.alloc, found)?,
     };
     let Passed {
         rows,
@@ -256,15 +263,14 @@ fn nested_attempt<'a>(
     root: &Root<'a>,
     depth: u32,
     scope: &Scope<'a>,
-    entries: &[Entry<'a>],
     activity: &'a Activity,
     attempt: u64,
     input: &Container,
     since: u64,
 ) -> Result<Attempt, AllocError>
-    ensures exact { OfInside root.now.library.now.templates (LaidBelow root.now.library.now.templates depth) (Some activity.now) → IfOk result (λ r. IsScopeAttempt root.now.library.now.templates depth (known_in root.now.most entries.now) scope.now.path activity.now attempt input.now r.output r.rows.items) }
-    ensures timely { OfInside root.now.library.now.templates (LaidBelow root.now.library.now.templates depth) (Some activity.now) → IfOk result (λ r. IsTimelyAttempt root.now.library.now.templates depth root.now.most entries.now scope.now.path activity.now attempt input.now since r.output r.after r.ready.items) }
-    ensures whole { IsNested activity.now.work → OfInside root.now.library.now.templates (LaidBelow root.now.library.now.templates depth) (Some activity.now) → OfInside root.now.library.now.templates (WellBelow root.now.library.now.templates depth) (Some activity.now) → IfOk result (λ r. IsWholeAttempt root.now.library.now.templates depth root.now.most entries.now scope.now.path activity.now attempt input.now since r.output r.after r.ready.items) }
+    ensures exact { OfInside root.now.library.now.templates (LaidBelow root.now.library.now.templates depth) (Some activity.now) → IfOk result (λ r. IsScopeAttempt root.now.library.now.templates depth (known_in root.now.most scope.now.entries.items) scope.now.path activity.now attempt input.now r.output r.rows.items) }
+    ensures timely { OfInside root.now.library.now.templates (LaidBelow root.now.library.now.templates depth) (Some activity.now) → IfOk result (λ r. IsTimelyAttempt root.now.library.now.templates depth root.now.most scope.now.entries.items scope.now.path activity.now attempt input.now since r.output r.after r.ready.items) }
+    ensures whole { IsNested activity.now.work → OfInside root.now.library.now.templates (LaidBelow root.now.library.now.templates depth) (Some activity.now) → OfInside root.now.library.now.templates (WellBelow root.now.library.now.templates depth) (Some activity.now) → IfOk result (λ r. IsWholeAttempt root.now.library.now.templates depth root.now.most scope.now.entries.items scope.now.path activity.now attempt input.now since r.output r.after r.ready.items) }
 {
     match graph_of(root.library, &activity.work) {
         None => Ok(nothing(root.alloc, since)),
@@ -276,7 +282,6 @@ fn nested_attempt<'a>(
                 root,
                 depth - 1,
                 scope,
-                entries,
                 activity,
                 graph,
                 attempt,
@@ -293,24 +298,19 @@ fn attempt_of<'a>(
     root: &Root<'a>,
     depth: u32,
     scope: &Scope<'a>,
-    entries: &[Entry<'a>],
     activity: &'a Activity,
     attempt: u64,
     input: &Container,
     since: u64,
 ) -> Result<Attempt, AllocError>
-    ensures exact { OfInside root.now.library.now.templates (LaidBelow root.now.library.now.templates depth) (Some activity.now) → IfOk result (λ r. IsAttempt root.now.library.now.templates depth (known_in root.now.most entries.now) scope.now.path activity.now attempt input.now r.output r.rows.items) }
-    ensures timely { OfInside root.now.library.now.templates (LaidBelow root.now.library.now.templates depth) (Some activity.now) → IfOk result (λ r. IsTimelyAttempt root.now.library.now.templates depth root.now.most entries.now scope.now.path activity.now attempt input.now since r.output r.after r.ready.items) }
-    ensures whole { OfInside root.now.library.now.templates (LaidBelow root.now.library.now.templates depth) (Some activity.now) → OfInside root.now.library.now.templates (WellBelow root.now.library.now.templates depth) (Some activity.now) → IfOk result (λ r. IsWholeAttempt root.now.library.now.templates depth root.now.most entries.now scope.now.path activity.now attempt input.now since r.output r.after r.ready.items) }
+    ensures exact { OfInside root.now.library.now.templates (LaidBelow root.now.library.now.templates depth) (Some activity.now) → IfOk result (λ r. IsAttempt root.now.library.now.templates depth (known_in root.now.most scope.now.entries.items) scope.now.path activity.now attempt input.now r.output r.rows.items) }
+    ensures timely { OfInside root.now.library.now.templates (LaidBelow root.now.library.now.templates depth) (Some activity.now) → IfOk result (λ r. IsTimelyAttempt root.now.library.now.templates depth root.now.most scope.now.entries.items scope.now.path activity.now attempt input.now since r.output r.after r.ready.items) }
+    ensures whole { OfInside root.now.library.now.templates (LaidBelow root.now.library.now.templates depth) (Some activity.now) → OfInside root.now.library.now.templates (WellBelow root.now.library.now.templates depth) (Some activity.now) → IfOk result (λ r. IsWholeAttempt root.now.library.now.templates depth root.now.most scope.now.entries.items scope.now.path activity.now attempt input.now since r.output r.after r.ready.items) }
 {
     match &activity.work {
-        Work::Program(_) => { program_attempt(root.alloc, entries, activity, attempt, since) }
-        Work::Block(_) => nested_attempt(
-            root, depth, scope, entries, activity, attempt, input, since,
-        ),
-        Work::Process(_) => nested_attempt(
-            root, depth, scope, entries, activity, attempt, input, since,
-        ),
+        Work::Program(_) => { program_attempt(root.alloc, scope, activity, attempt, since) }
+        Work::Block(_) => nested_attempt(root, depth, scope, activity, attempt, input, since),
+        Work::Process(_) => nested_attempt(root, depth, scope, activity, attempt, input, since),
     }
 }
 
@@ -345,18 +345,17 @@ fn last_attempt<'a>(
     root: &Root<'a>,
     depth: u32,
     scope: &Scope<'a>,
-    entries: &[Entry<'a>],
     activity: &'a Activity,
     input: &Container,
     since: u64,
     before: Shown,
 ) -> Result<Attempts, AllocError>
-    ensures exact { OfInside root.now.library.now.templates (LaidBelow root.now.library.now.templates depth) (Some activity.now) → IfOk result (λ r. IsLast root.now.library.now.templates depth (known_in root.now.most entries.now) scope.now.path activity.now (root.now.most + 1) input.now before.rows.items r.fate r.end r.rows.items) }
-    ensures timely { OfInside root.now.library.now.templates (LaidBelow root.now.library.now.templates depth) (Some activity.now) → IfOk result (λ r. IsTimelyLast root.now.library.now.templates depth root.now.most entries.now scope.now.path activity.now (root.now.most + 1) input.now since before.ready.items r.end r.ready.items) }
-    ensures whole { OfInside root.now.library.now.templates (LaidBelow root.now.library.now.templates depth) (Some activity.now) → OfInside root.now.library.now.templates (WellBelow root.now.library.now.templates depth) (Some activity.now) → IfOk result (λ r. IsWholeLast root.now.library.now.templates depth root.now.most entries.now scope.now.path activity.now (root.now.most + 1) input.now since before.ready.items r.ready.items) }
+    ensures exact { OfInside root.now.library.now.templates (LaidBelow root.now.library.now.templates depth) (Some activity.now) → IfOk result (λ r. IsLast root.now.library.now.templates depth (known_in root.now.most scope.now.entries.items) scope.now.path activity.now (root.now.most + 1) input.now before.rows.items r.fate r.end r.rows.items) }
+    ensures timely { OfInside root.now.library.now.templates (LaidBelow root.now.library.now.templates depth) (Some activity.now) → IfOk result (λ r. IsTimelyLast root.now.library.now.templates depth root.now.most scope.now.entries.items scope.now.path activity.now (root.now.most + 1) input.now since before.ready.items r.end r.ready.items) }
+    ensures whole { OfInside root.now.library.now.templates (LaidBelow root.now.library.now.templates depth) (Some activity.now) → OfInside root.now.library.now.templates (WellBelow root.now.library.now.templates depth) (Some activity.now) → IfOk result (λ r. IsWholeLast root.now.library.now.templates depth root.now.most scope.now.entries.items scope.now.path activity.now (root.now.most + 1) input.now since before.ready.items r.ready.items) }
 {
     let number = root.most + 1;
-    let last = attempt_of(root, depth, scope, entries, activity, number, input, since)?;
+    let last = attempt_of(root, depth, scope, activity, number, input, since)?;
     let Attempt {
         output: _,
         after: _,
@@ -384,15 +383,14 @@ fn attempts_from<'a>(
     root: &Root<'a>,
     depth: u32,
     scope: &Scope<'a>,
-    entries: &[Entry<'a>],
     place: u32,
     activity: &'a Activity,
     base: &Container,
     since: u64,
 ) -> Result<Attempts, AllocError>
-    ensures exact { IsLooping scope.now.graph.now → OfInside root.now.library.now.templates (LaidBelow root.now.library.now.templates depth) (Some activity.now) → IfOk result (λ r. AreAttempts root.now.library.now.templates depth (known_in root.now.most entries.now) scope.now.graph.now scope.now.path place activity.now base.now r.fate r.end r.rows.items) }
-    ensures timely { IsLooping scope.now.graph.now → OfInside root.now.library.now.templates (LaidBelow root.now.library.now.templates depth) (Some activity.now) → IfOk result (λ r. AreTimely root.now.library.now.templates depth root.now.most entries.now scope.now.graph.now scope.now.path place activity.now base.now since r.end r.after r.ready.items) }
-    ensures whole { IsLooping scope.now.graph.now → OfInside root.now.library.now.templates (LaidBelow root.now.library.now.templates depth) (Some activity.now) → OfInside root.now.library.now.templates (WellBelow root.now.library.now.templates depth) (Some activity.now) → IfOk result (λ r. AreWhole root.now.library.now.templates depth root.now.most entries.now scope.now.graph.now scope.now.path place activity.now base.now since r.end r.after r.ready.items) }
+    ensures exact { IsLooping scope.now.graph.now → OfInside root.now.library.now.templates (LaidBelow root.now.library.now.templates depth) (Some activity.now) → IfOk result (λ r. AreAttempts root.now.library.now.templates depth (known_in root.now.most scope.now.entries.items) scope.now.graph.now scope.now.path place activity.now base.now r.fate r.end r.rows.items) }
+    ensures timely { IsLooping scope.now.graph.now → OfInside root.now.library.now.templates (LaidBelow root.now.library.now.templates depth) (Some activity.now) → IfOk result (λ r. AreTimely root.now.library.now.templates depth root.now.most scope.now.entries.items scope.now.graph.now scope.now.path place activity.now base.now since r.end r.after r.ready.items) }
+    ensures whole { IsLooping scope.now.graph.now → OfInside root.now.library.now.templates (LaidBelow root.now.library.now.templates depth) (Some activity.now) → OfInside root.now.library.now.templates (WellBelow root.now.library.now.templates depth) (Some activity.now) → IfOk result (λ r. AreWhole root.now.library.now.templates depth root.now.most scope.now.entries.items scope.now.graph.now scope.now.path place activity.now base.now since r.end r.after r.ready.items) }
 {
     let alloc = root.alloc;
     let mut input = base.copy(alloc)?;
@@ -400,7 +398,7 @@ fn attempts_from<'a>(
     let mut rows = Vec::new(alloc);
     let mut ready = Vec::new(alloc);
     for number in 1..root.most + 1 {
-        let tried = attempt_of(root, depth, scope, entries, activity, number, &input, after)?;
+        let tried = attempt_of(root, depth, scope, activity, number, &input, after)?;
         let Attempt {
             output,
             after: known,
@@ -424,7 +422,7 @@ fn attempts_from<'a>(
         }
     }
     let before = Shown { rows, ready };
-    last_attempt(root, depth, scope, entries, activity, &input, after, before)
+    last_attempt(root, depth, scope, activity, &input, after, before)
 }
 
 /// An activity with this fate and end, and no attempts.
@@ -462,9 +460,8 @@ fn open_activity<'a>(
         return Ok(untried(root.alloc, fate, SourceEnd::Unsettled, 0));
     }
     let since = fed_after(graph, afters, place, since);
-    let entries = entries_of_activity(root.alloc, &scope.entries, activity.name.as_slice())?;
     let base = first_input(root.alloc, graph, activity, place, &scope.input, ends)?;
-    attempts_from(root, depth, scope, &entries, place, activity, &base, since)
+    attempts_from(root, depth, scope, place, activity, &base, since)
 }
 
 /// What is found of an activity: its own row before those below it.
@@ -691,6 +688,8 @@ fn root_fates(
     ensures refused { Laid library.now.templates depth graph.now → AreOf root facts.now → IfErr result (IsBehindReady library.now.templates depth graph.now root input.now facts.now) }
     ensures unready { Laid library.now.templates depth graph.now → Well library.now.templates depth graph.now → AreOf root facts.now → IfErr result (IsUnready library.now.templates depth graph.now root input.now facts.now) }
 {
+    let entries = entries_of(alloc, facts)?;
+    let groups = groups_of(alloc, &entries)?;
     let scope = Scope {
         graph,
         path: Path {
@@ -699,7 +698,8 @@ fn root_fates(
         },
         input: input.copy(alloc)?,
         since: 0,
-        entries: entries_of(alloc, facts)?,
+        entries,
+        groups,
     };
     let root = Root {
         alloc,

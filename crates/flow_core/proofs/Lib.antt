@@ -1,4 +1,5 @@
 -- Read first: Putting (queues), then Moved (roots and transactions).
+pub mod About
 pub mod Listed
 pub mod Shelved
 pub mod Putting
@@ -11,5 +12,4 @@ pub mod Versions
 pub mod Refusing
 pub mod Admitting
 pub mod Contained
-pub mod Texts
 pub mod Exact

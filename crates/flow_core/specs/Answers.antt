@@ -38,7 +38,7 @@ use Rattle.navigator.specs.Views.{Shows}
 use Rattle.navigator.specs.declared.instance.Instance.{Instance}
 use Rattle.navigator.specs.declared.scopes.ScopeState.{out-ScopeState}
 use Rattle.flow_core.specs.Replies.{refusal_text}
-use Rattle.flow_core.specs.Summaries.{root_about, is_root}
+pub use Rattle.live_history.specs.Transactions.{about}
 use Rattle.flow_core.specs.declared.refusals.Refusal.TheVariants as refused
 use Rattle.flow_core.specs.declared.state.Core.{Core}
 
@@ -112,15 +112,14 @@ code_of (Clock minutes) = pos 0
 abbrev pub numbered_line : Numbered → List ℕ
 numbered_line n = audit_line n.number n.transaction (code_of n.transaction)
 
--- the live transactions about a root
-abbrev pub about : ℕ → List Numbered → List Numbered
-about root live = filter (λ n. is_root root (root_about n.transaction)) live
+-- the root and the number of these transactions, then each of them
+abbrev pub audited_text : ℕ → List Numbered → List ℕ
+audited_text root entries =
+    codes "ok AUDIT " ++ decimal root ++ 32 ∷ [] ++ decimal (length entries) ++ 10 ∷ [] ++ flat_map numbered_line entries
 
--- AUDIT: the root and the number of live transactions about it, then each of them, the oldest first
+-- AUDIT: those of the live transactions that are about the root, the oldest first
 abbrev pub audit_text : ℕ → List Numbered → List ℕ
-audit_text root live =
-    codes "ok AUDIT " ++ decimal root ++ 32 ∷ [] ++ decimal (length (about root live)) ++ 10 ∷ []
-    ++ flat_map numbered_line (about root live)
+audit_text root live = audited_text root (about root live)
 
 -- the instance of a live root
 abbrev pub instance_of : Core → ℕ → Option Instance

@@ -31,9 +31,7 @@ use Rattle.root_laws.specs.Becoming.{TakesIn, CompletesIn, HoldsIn}
 use Rattle.flow_model.specs.declared.graphs.Library.{Library}
 use Rattle.process_rules.specs.declared.catalog.Catalog.{Catalog}
 use Rattle.template_check.specs.Built.{AreSound}
-use Rattle.template_check.specs.Compiling.{IsNamedBy, IsMeantBy}
-use Rattle.template_check.specs.declared.compiling.Compiled.{Compiled}
-use Rattle.template_store.specs.Store.{with_compiled}
+use Rattle.template_store.specs.Store.{AddsText}
 use Rattle.process_rules.specs.Imports.{IsIndexed, newest_place}
 use Rattle.flow_core.specs.Answers.{instance_of}
 use Rattle.flow_core.specs.Summaries.{root_about}
@@ -261,13 +259,6 @@ taken_by t qs = qs
 abbrev pub LibraryAfter : Transaction → List Template → List Template → Type 0
 LibraryAfter (Import text) ts ts' = ((more : List Template) × (ts' ≡ ts ++ more)) × (AreSound ts → AreSound ts')
 LibraryAfter t ts ts' = ts' ≡ ts
-
--- what an import puts behind the library: the templates and the people that its text compiles to
-pub record AddsText (text : List ℕ) (old : Catalog) (new : Library) : Type 0 where
-  pub added : Compiled
-  pub named : IsNamedBy text added.templates
-  pub meant : IsMeantBy text old added.templates
-  pub behind : new ≡ with_compiled old.library added
 
 -- the library and its names after a transaction: an Import adds what its text compiles to; every other transaction
 -- leaves the templates, the people and where their names lead as they were

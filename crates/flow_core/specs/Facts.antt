@@ -21,6 +21,7 @@ use Rattle.navigator.specs.declared.instance.Instance.{Instance}
 use Rattle.flow_core.specs.Answers.{instance_of}
 use Rattle.flow_core.specs.Driving.{templates, activity_named, graph_now}
 use Rattle.flow_core.specs.Summaries.{root_about, is_root, started}
+pub use Rattle.live_history.specs.Transactions.{settings_in, start_settings}
 use Rattle.flow_core.specs.declared.state.Core.{Core}
 use Rattle.flow_core.specs.declared.views.RootFacts.{RootFacts}
 
@@ -69,16 +70,6 @@ fact_about c root n = if is_root root (root_about n.transaction) then fact_of c 
 -- the accepted completions of a root, in order
 abbrev pub accepted : Core → ℕ → List Fact
 accepted c root = filter_map (fact_about c root) c.live.items
-
-abbrev pub settings_in : Transaction → List Setting
-settings_in (Start root process version starter key settings) = settings
-settings_in t = []
-
--- the settings of the first Start of a root
-abbrev pub start_settings : ℕ → List Numbered → List Setting
-start_settings root [] = []
-start_settings root (n ∷ ns) =
-    if is_root root (started n.transaction) then settings_in n.transaction else start_settings root ns
 
 -- these are what the fates of a root follow from
 pub record AreFactsOf (c : Core) (root : ℕ) (f : RootFacts) : Type 0 where

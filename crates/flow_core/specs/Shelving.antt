@@ -95,8 +95,8 @@ abbrev pub without_rank : List ℕ → Standing → Standing
 without_rank own w name rank = if bytes_eq own rank then None else w name rank
 
 -- nothing of this root stands on any shelf
-abbrev pub without_root : ℕ → Standing → Standing
-without_root root w name rank = if begins_with root rank then None else w name rank
+abbrev pub without_items : ℕ → Standing → Standing
+without_items root w name rank = if begins_with root rank then None else w name rank
 
 -- a manual item that is there is listed as it stands; one that isn't changes nothing
 abbrev pub listed_if : Path → Option ItemLine → Option (List ℕ) → Standing → Standing
@@ -228,7 +228,7 @@ Shelves c (Take item take) c' = HoldShelves c item c'
 Shelves c (Restart item) c' = HoldShelves c item c'
 Shelves c (Done item who settings) c' = CompletesShelves c item (performer_named who) settings (item_of c item) c'
 Shelves c (Force item settings) c' = CompletesShelves c item None settings (item_of c item) c'
-Shelves c (Terminate root) c' = SameStanding (stands c') (without_root root (stands c))
+Shelves c (Terminate root) c' = SameStanding (stands c') (without_items root (stands c))
 Shelves c (Import text) c' = SameStanding (stands c') (stands c)
 Shelves c (Start root process version starter key settings) c' = SameStanding (stands c') (stands c)
 Shelves c (Suspend root) c' = SameStanding (stands c') (stands c)

@@ -8,6 +8,7 @@ use Rattle.flow_model.specs.declared.transactions.Transaction.TheVariants.{Trans
 use Rattle.flow_model.specs.declared.transactions.Transaction.TheVariants.{Suspend, Resume, Terminate, Delete, Clock}
 use Rattle.flow_model.specs.declared.transactions.Numbered.{Numbered}
 use Rattle.recover_queue.specs.Queues.{root_of as root_of_message}
+pub use Rattle.live_history.specs.Transactions.{root_about, is_root, deleted, started, without_root, live_by, live_after}
 use Rattle.flow_core.specs.declared.state.Core.{Core}
 
 -- how many queues there are, how many transactions there may be, how many there and how many roots there were so far,
@@ -32,51 +33,6 @@ summary c = record {
 -- the same, with the number up to which records are kept ones, and the last root of those
 abbrev pub noted : Core → ℕ × ℕ × Summary
 noted c = (c.kept, c.kept_root, summary c)
-
--- the root that a transaction is about
-abbrev pub root_about : Transaction → Option ℕ
-root_about (Import text) = None
-root_about (Start root process version starter key settings) = Some root
-root_about (Turn queue message) = Some (root_of_message message)
-root_about (Claim item who) = Some item.root
-root_about (Release item who) = Some item.root
-root_about (Transfer item who to) = Some item.root
-root_about (Take item take) = Some item.root
-root_about (Done item who settings) = Some item.root
-root_about (Force item settings) = Some item.root
-root_about (Restart item) = Some item.root
-root_about (Suspend root) = Some root
-root_about (Resume root) = Some root
-root_about (Terminate root) = Some root
-root_about (Delete root) = Some root
-root_about (Clock minutes) = None
-
-abbrev pub is_root : ℕ → Option ℕ → Bool
-is_root root None = false
-is_root root (Some other) = other == root
-
--- the root that a transaction deletes
-abbrev pub deleted : Transaction → Option ℕ
-deleted (Delete root) = Some root
-deleted t = None
-
--- the root that a transaction starts
-abbrev pub started : Transaction → Option ℕ
-started (Start root process version starter key settings) = Some root
-started t = None
-
--- the live transactions without those about a root
-abbrev pub without_root : ℕ → List Numbered → List Numbered
-without_root root live = filter (λ n. not (is_root root (root_about n.transaction))) live
-
--- the live transactions after one more: a Delete takes those about its root away and isn't live itself, every other one
--- stays
-abbrev pub live_by : Option ℕ → ℕ → Transaction → List Numbered → List Numbered
-live_by None number t live = live ++ record { number = number; transaction = t } ∷ []
-live_by (Some root) number t live = without_root root live
-
-abbrev pub live_after : ℕ → Transaction → List Numbered → List Numbered
-live_after number t live = live_by (deleted t) number t live
 
 -- the number of roots after one more transaction: a Start counts one that is greater
 abbrev pub roots_by : Option ℕ → ℕ → ℕ

@@ -17,13 +17,13 @@ ghost use Rattle.flow_core.specs.Summaries.{roots_after};
 ghost use Rattle.flow_core.specs.Verdicts.{IsFront};
 ghost use Rattle.flow_core.specs.declared.adopting.AdoptFault.TheVariants.{NoMemory, NotAllowed};
 
-use crate::applying::{deleted_root, started_root};
 use crate::items::{Known, settings_fit};
 use crate::judging::MOST_MINUTES;
 use crate::paths::same_message;
 use crate::refusals::Stop;
 use crate::state::Core;
 use flow_model::{Message, Name, Path, Setting, Transaction, Who};
+use live_history::{deleted_root, started_root};
 use std::alloc::AllocError;
 use template_check::ImportFault;
 use thiserror::Error;

@@ -209,7 +209,7 @@ impl Core {
             return self.refused(&Refusal::Root(root));
         }
         let mut out = Vec::new(self.alloc);
-        write_audit(&mut out, root, &self.live)?;
+        write_audit(&mut out, root, &self.live.about(root)?)?;
         Ok(out)
     }
 

@@ -18,14 +18,13 @@ ghost use Rattle.navigator.specs.declared.instance.HoldChange.TheVariants as hol
 ghost use Rattle.recover_queue.specs.Queues.{root_of as root_of_message};
 ghost use Rattle.root_laws.specs.Becoming.{TakesIn, CompletesIn, HoldsIn};
 ghost use Rattle.flow_core.specs.Answers.{instance_of};
-ghost use Rattle.flow_core.specs.Shelving.{line_now, stands, SameStanding, without_root, listed, all_listed, unlisted};
+ghost use Rattle.flow_core.specs.Shelving.{line_now, stands, SameStanding, without_items, listed, all_listed, unlisted};
 ghost use Rattle.flow_core.specs.Shelving.{MakesReady, CompletesReady, IfRootLive, TurnShelves, TakesGiving};
 ghost use Rattle.flow_core.specs.Shelving.{CompletesGiving, WhereLive, ExactTurn, CompletesExactly, IsExact};
 ghost use Rattle.flow_core.specs.Shelving.{CompletesShelves, HoldShelves, performer_named, Shelves};
 ghost use Rattle.flow_core.specs.Summaries.{summary, noted, next, with_transaction, with_root_of, without, kept_by};
-ghost use Rattle.flow_core.specs.Summaries.{root_about, is_root, deleted, started};
 
-use crate::paths::{queue_of, rank_of, root_of};
+use crate::paths::{queue_of, rank_of};
 use crate::refusals::copy_hold;
 use crate::state::{Core, Root};
 use containers::{fresh, with_settings};
@@ -33,6 +32,7 @@ use flow_model::{
     Bytes, Container, DoneBy, Fate, ItemLine, Library, List, Message, Mode, Name, Numbered, Path,
     Program, Setting, Transaction, Who,
 };
+use live_history::{deleted_root, root_of, started_root};
 use navigator::{HoldChange, Instance};
 use std::alloc::{AllocError, Global};
 use template_check::ImportFault;
@@ -56,85 +56,6 @@ pub enum Note {
 pub struct Applied {
     pub number: u64,
     pub note: Note,
-}
-
-/// The root that a transaction names.
-pub fn transaction_root(t: &Transaction) -> Option<u64>
-    ensures { result ≡ root_about t.now }
-{
-    match t {
-        Transaction::Import(_) => None,
-        Transaction::Clock(_) => None,
-        Transaction::Start(root, _, _, _, _, _) => Some(*root),
-        Transaction::Turn(_, message) => Some(root_of(message)),
-        Transaction::Claim(path, _) => Some(path.root),
-        Transaction::Release(path, _) => Some(path.root),
-        Transaction::Transfer(path, _, _) => Some(path.root),
-        Transaction::Take(path, _) => Some(path.root),
-        Transaction::Done(path, _, _) => Some(path.root),
-        Transaction::Force(path, _) => Some(path.root),
-        Transaction::Restart(path) => Some(path.root),
-        Transaction::Suspend(root) => Some(*root),
-        Transaction::Resume(root) => Some(*root),
-        Transaction::Terminate(root) => Some(*root),
-        Transaction::Delete(root) => Some(*root),
-    }
-}
-
-/// The root that a transaction starts.
-pub fn started_root(t: &Transaction) -> Option<u64>
-    ensures { result ≡ started t.now }
-{
-    match t {
-        Transaction::Import(_) => None,
-        Transaction::Start(root, _, _, _, _, _) => Some(*root),
-        Transaction::Turn(_, _) => None,
-        Transaction::Claim(_, _) => None,
-        Transaction::Release(_, _) => None,
-        Transaction::Transfer(_, _, _) => None,
-        Transaction::Take(_, _) => None,
-        Transaction::Done(_, _, _) => None,
-        Transaction::Force(_, _) => None,
-        Transaction::Restart(_) => None,
-        Transaction::Suspend(_) => None,
-        Transaction::Resume(_) => None,
-        Transaction::Terminate(_) => None,
-        Transaction::Delete(_) => None,
-        Transaction::Clock(_) => None,
-    }
-}
-
-/// The root that a transaction deletes.
-pub fn deleted_root(t: &Transaction) -> Option<u64>
-    ensures { result ≡ deleted t.now }
-{
-    match t {
-        Transaction::Import(_) => None,
-        Transaction::Start(_, _, _, _, _, _) => None,
-        Transaction::Turn(_, _) => None,
-        Transaction::Claim(_, _) => None,
-        Transaction::Release(_, _) => None,
-        Transaction::Transfer(_, _, _) => None,
-        Transaction::Take(_, _) => None,
-        Transaction::Done(_, _, _) => None,
-        Transaction::Force(_, _) => None,
-        Transaction::Restart(_) => None,
-        Transaction::Suspend(_) => None,
-        Transaction::Resume(_) => None,
-        Transaction::Terminate(_) => None,
-        Transaction::Delete(root) => Some(*root),
-        Transaction::Clock(_) => None,
-    }
-}
-
-/// Whether a transaction is about a root.
-pub fn is_about(root: u64, numbered: &Numbered) -> bool
-    ensures { result ≡ is_root root (root_about numbered.now.transaction) }
-{
-    match transaction_root(&numbered.transaction) {
-        Some(other) => other == root,
-        None => false,
-    }
 }
 
 /// An equal program.
@@ -638,7 +559,7 @@ impl Core {
     fn terminate(&mut self, root: u64) -> Result<Note, AllocError>
         ensures kept { noted self.new ≡ noted self.old }
         ensures drives { OnOk result (Drives self.old (made.Terminate root) self.new) }
-        ensures shelves { OnOk result (SameStanding (stands self.new) (without_root root (stands self.old))) }
+        ensures shelves { OnOk result (SameStanding (stands self.new) (without_items root (stands self.old))) }
         ensures note { IfOk result (λ n. n ≡ notes.Moded modes.Terminated) }
         ensures clock { OnOk result (self.new.clock ≡ self.old.clock) }
         ensures store { OnOk result (self.new.store.catalog ≡ self.old.store.catalog) }
@@ -777,7 +698,7 @@ impl Core {
         ensures forgets { noted self.new ≡ (self.old.kept, self.old.kept_root, without root (summary self.old)) }
         ensures rest { self.new ≡ record self.old { live = self.new.live } }
     {
-        self.live.retain(|numbered| !is_about(root, numbered));
+        self.live.remove(root);
     }
 
     /// Keeps a transaction where it is live; a Delete takes those of its root away.

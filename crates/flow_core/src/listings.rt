@@ -1,13 +1,12 @@
 //! Replies that list what is kept: a queue, a root's audited transactions, the templates, a worklist.
-ghost use Rattle.std.specs.Prelude.{◌≡◌, ◌≤◌, ◌++◌, length, OnOk};
+ghost use Rattle.std.specs.Prelude.{◌≡◌, ◌≤◌, ◌++◌, length, map, OnOk};
 ghost use Rattle.std.specs.List.{flat_map};
 ghost use Rattle.recover_queue.specs.Queues.{queue as messages_of};
 ghost use Rattle.flow_core.specs.Answers.{view_text, message_line, queue_text, template_line, templates_text};
 ghost use Rattle.flow_core.specs.Answers.{work_line, worklist_text, code_by as code_with, return_code as code_given};
-ghost use Rattle.flow_core.specs.Answers.{code_of as code_in, about, numbered_line, audit_text};
+ghost use Rattle.flow_core.specs.Answers.{code_of as code_in, numbered_line, audited_text};
 ghost use Rattle.flow_core.specs.Containing.{output_text, input_text};
 
-use crate::applying::is_about;
 use crate::words::{end_line, numbered};
 use audit_trail::{audit, write_message};
 use flow_model::{
@@ -198,30 +197,22 @@ fn code_of(t: &Transaction) -> i64
     }
 }
 
-fn count_about(root: u64, live: &[Numbered]) -> usize
-    ensures { result ≡ length (about root live.now) }
+fn put_audited(out: &mut Vec<u8>, entries: &[&Numbered]) -> Result<(), AllocError>
+    ensures { OnOk result (out.new.items ≡ out.old.items ++ flat_map numbered_line (map (λ n. n.now) entries.now)) }
 {
-    live.iter().filter(|entry| is_about(root, entry)).count()
-}
-
-fn put_audited(out: &mut Vec<u8>, root: u64, live: &[Numbered]) -> Result<(), AllocError>
-    ensures { OnOk result (out.new.items ≡ out.old.items ++ flat_map numbered_line (about root live.now)) }
-{
-    for entry in live {
-        if is_about(root, entry) {
-            let code = code_of(&entry.transaction);
-            audit(entry.number, &entry.transaction, code, out)?;
-        }
+    for entry in entries {
+        let code = code_of(&entry.transaction);
+        audit(entry.number, &entry.transaction, code, out)?;
     }
     Ok(())
 }
 
-/// Appends the reply that shows the audited transactions of a root.
-pub fn write_audit(out: &mut Vec<u8>, root: u64, live: &[Numbered]) -> Result<(), AllocError>
-    ensures { OnOk result (out.new.items ≡ out.old.items ++ audit_text root live.now) }
+/// Appends the reply that shows the audited transactions of a root, which are these.
+pub fn write_audit(out: &mut Vec<u8>, root: u64, entries: &[&Numbered]) -> Result<(), AllocError>
+    ensures { OnOk result (out.new.items ≡ out.old.items ++ audited_text root (map (λ n. n.now) entries.now)) }
 {
     numbered(out, b"ok AUDIT ", root)?;
-    numbered(out, b" ", count_about(root, live) as u64)?;
+    numbered(out, b" ", entries.len() as u64)?;
     end_line(out)?;
-    put_audited(out, root, live)
+    put_audited(out, entries)
 }

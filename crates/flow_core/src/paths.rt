@@ -93,13 +93,6 @@ pub fn queue_of(library: &Library, graph: &Graph, queues: u8, message: &Message)
     u8::try_from(count % queues + 1).unwrap_or(1)
 }
 
-/// The root of a message.
-pub fn root_of(message: &Message) -> u64
-    ensures { result ≡ root_in message.now }
-{
-    receiver(message).0
-}
-
 /// The graph inside the activity at a place; this one where it runs none.
 fn inner_graph<'a>(library: &'a Library, graph: &'a Graph, place: usize) -> &'a Graph
     ensures { result.now ≡ unwrap_or (graph_under library.now.templates graph.now (Some place)) graph.now }

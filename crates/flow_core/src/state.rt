@@ -6,8 +6,9 @@ ghost use Rattle.flow_core.specs.Answers.{instance_of, done_roots, has_message a
 ghost use Rattle.recover_queue.specs.Queues.{is_quiet as quiet_test};
 ghost use Rattle.flow_core.specs.Driving.{graph_now};
 
-use flow_model::{Graph, Library, Mode, Name, Numbered};
+use flow_model::{Graph, Library, Mode, Name};
 use indexmap::IndexMap;
+use live_history::History;
 use navigator::Instance;
 use recover_queue::Queues;
 use staff_worklists::Worklists;
@@ -37,7 +38,7 @@ pub struct Core {
     pub(crate) live_roots: BTreeMap<u64, Root>,
     pub(crate) keys: IndexMap<Vec<u8>, u64>,
     pub(crate) worklists: Worklists,
-    pub(crate) live: Vec<Numbered>,
+    pub(crate) live: History,
     /// The transactions that were so far when the state was resumed: records up to there are kept ones.
     pub(crate) kept: u64,
     /// The number of the last kept record that was adopted.
@@ -76,7 +77,7 @@ impl Core {
             live_roots: BTreeMap::new(alloc),
             keys: IndexMap::new(alloc),
             worklists: Worklists::new(alloc),
-            live: Vec::new(alloc),
+            live: History::new(alloc),
             kept: transactions,
             kept_number: 0,
             kept_root: 0,
@@ -135,8 +136,8 @@ impl Core {
     }
 
     /// The live transactions.
-    pub fn live(&self) -> &[Numbered]
-        ensures { result.now ≡ self.now.live.items }
+    pub fn live(&self) -> &History
+        ensures { result.now ≡ self.now.live }
     {
         &self.live
     }

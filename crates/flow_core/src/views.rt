@@ -1,5 +1,5 @@
 //! What the state shows to those who read it: the fates of a root, and what they follow from.
-ghost use Rattle.std.specs.Prelude.{◌≡◌, None, option_copied, IfOk, IfSome, IfNone};
+ghost use Rattle.std.specs.Prelude.{◌≡◌, None, map, option_copied, IfOk, IfSome, IfNone};
 ghost use Rattle.containers.specs.Settings.{filled};
 ghost use Rattle.flow_model.specs.Containers.{fresh as fresh_of};
 ghost use Rattle.flow_model.specs.declared.graphs.Graph.{out-Graph};
@@ -9,14 +9,13 @@ ghost use Rattle.flow_core.specs.Driving.{graph_now};
 ghost use Rattle.flow_core.specs.Facts.{activity_now, fact_at, fact_of as fact_in, fact_about as fact_told, accepted};
 ghost use Rattle.flow_core.specs.Facts.{settings_in, start_settings as settings_of_start, AreFactsOf};
 
-use crate::applying::{is_about, started_root};
-use crate::paths::{activity_along, same_path};
+use crate::paths::activity_along;
 use crate::state::Core;
 use containers::{fresh, with_settings};
 use flow_model::{
-    Activity, Container, Fact, Fate, FateRow, Graph, List, Name, Numbered, Path, Setting,
-    Transaction,
+    Activity, Container, Fact, Fate, FateRow, Graph, List, Numbered, Path, Setting, Transaction,
 };
+use live_history::{is_about, started_root};
 use std::alloc::{AllocError, Global};
 
 /// What the fates of a root follow from: its template, its input, and its accepted completions in order.
@@ -52,6 +51,19 @@ fn started_with(t: &Transaction) -> &[Setting]
     }
 }
 
+/// The settings of the START of a root among transactions; none where it isn't there.
+fn start_among<'a>(root: u64, entries: &[&'a Numbered]) -> &'a [Setting]
+    ensures { result.now ≡ settings_of_start root (map (λ n. n.now) entries.now) }
+{
+    for entry in entries {
+        let numbered = *entry;
+        if started_root(&numbered.transaction) == Some(root) {
+            return started_with(&numbered.transaction);
+        }
+    }
+    &[]
+}
+
 impl Core {
     /// The rows of the begun scopes of a root, in show order; None exactly where there is no live root of
     /// that number.
@@ -67,25 +79,6 @@ impl Core {
         } else {
             List::new(alloc)
         }))
-    }
-
-    /// The fate of an activity of a scope; None exactly where the scope isn't begun in a live root, or has
-    /// no such activity.
-    pub fn view(&self, scope: &Path, activity: &Name) -> Result<Option<Fate>, AllocError> {
-        let Some(rows) = self.begun_rows(self.alloc, scope.root)? else {
-            return Ok(None);
-        };
-        for row in rows.as_slice() {
-            if row.name.as_slice() == activity.as_slice() && same_path(&row.scope, scope) {
-                return Ok(Some(row.fate));
-            }
-        }
-        Ok(None)
-    }
-
-    /// The template of a live root; None exactly where there is no live root of that number.
-    pub fn root_template(&self, root: u64) -> Option<u32> {
-        Some(self.instance(root)?.template)
     }
 
     /// The activity of an item of a live root, by the names on its path.
@@ -162,7 +155,8 @@ impl Core {
         ensures { IfOk result (λ facts. facts ≡ accepted self.now root) }
     {
         let mut facts = List::new(alloc);
-        for entry in self.live() {
+        let about = self.live.about(root)?;
+        for entry in about.as_slice() {
             if let Some(fact) = self.fact_about(alloc, root, entry)? {
                 facts.push(fact)?;
             }
@@ -171,15 +165,11 @@ impl Core {
     }
 
     /// The settings with which a root was started.
-    fn start_settings(&self, root: u64) -> &[Setting]
-        ensures { result.now ≡ settings_of_start root self.now.live.items }
+    fn start_settings(&self, root: u64) -> Result<&[Setting], AllocError>
+        ensures { IfOk result (λ settings. settings.now ≡ settings_of_start root self.now.live.items) }
     {
-        for entry in self.live() {
-            if started_root(&entry.transaction) == Some(root) {
-                return started_with(&entry.transaction);
-            }
-        }
-        &[]
+        let about = self.live.about(root)?;
+        Ok(start_among(root, &about))
     }
 
     /// The input with which a root was started.
@@ -188,7 +178,7 @@ impl Core {
             ≡ filled (settings_of_start root self.now.live.items) (fresh_of (out-Graph graph.now).input)) }
     {
         let input = fresh(alloc, &graph.input)?;
-        with_settings(alloc, input, self.start_settings(root))
+        with_settings(alloc, input, self.start_settings(root)?)
     }
 
     /// What the fates of a root follow from; None exactly where there is no live root of that number.

@@ -1,12 +1,9 @@
 -- The value of a condition on a container: sums are exact whole numbers, texts are ordered by bytes.
-use Rattle.std.specs.Prelude.{◌≡◌, ℕ, ◌≤◌, ℤ, pos, ◌+ℤ◌, ◌-ℤ◌, Bool, true, false, not, ◌||◌, ◌&&◌, if◌then◌else◌, Option, Some, None, List, [], ◌∷◌, length, slice_get}
-use Rattle.std.specs.List.{All}
+use Rattle.std.specs.Prelude.{ℕ, ℤ, pos, ◌+ℤ◌, ◌-ℤ◌, Bool, true, false, not, ◌||◌, ◌&&◌, if◌then◌else◌, Option, Some, None, List, [], ◌∷◌, slice_get}
 use Rattle.std.specs.Ordering.{is_eq, is_ne, is_lt, is_le, is_gt, is_ge, int_cmp, nat_cmp}
 use Rattle.std.specs.Cmp.Lexicographic.{slice_cmp}
 use Rattle.std.specs.declared.cmp.Ordering.{Ordering}
 use Rattle.flow_model.specs.declared.graphs.Container.{Container}
-use Rattle.flow_model.specs.declared.graphs.Kind.{Kind}
-use Rattle.flow_model.specs.declared.graphs.Kind.TheVariants.{Long, Str}
 use Rattle.flow_model.specs.declared.graphs.Value.{Value}
 use Rattle.flow_model.specs.declared.graphs.Value.TheVariants.{Whole as WholeValue, Text as TextValue}
 use Rattle.flow_model.specs.declared.graphs.Operator.{Operator}
@@ -76,30 +73,3 @@ abbrev mutual
 abbrev pub holds : Option Expr → Container → Bool
 holds None c = true
 holds (Some e) c = truth e c
-
--- ---- what fits
-
-abbrev pub OperandFits : List Kind → Operand → Type 0
-OperandFits kinds (Number n) = Unit {0}
-OperandFits kinds (LeafOperand place) = slice_get kinds place ≡ Some Long
-
-abbrev pub SideFits : List Kind → TextSide → Type 0
-SideFits kinds (LeafSide place) = slice_get kinds place ≡ Some Str
-SideFits kinds (TextSide' text) = Unit {0}
-
--- a sum has at most 64 operands, and its leaves are numbers
-abbrev pub SumFits : List Kind → List Term → Type 0
-SumFits kinds terms = (length terms ≤ 64) × All (λ t. OperandFits kinds t.operand) terms
-
-abbrev mutual
-  -- each leaf of the expression is there, and has the kind that its side asks for
-  pub ExprFits : Expr → List Kind → Type 0
-  ExprFits (Or' shape members) kinds = RowFits members kinds
-  ExprFits (And' shape members) kinds = RowFits members kinds
-  ExprFits (Not' box e) kinds = ExprFits e kinds
-  ExprFits (Whole operator left right) kinds = SumFits kinds left × SumFits kinds right
-  ExprFits (Texts operator left right) kinds = SideFits kinds left × SideFits kinds right
-
-  pub RowFits : {m : _} → Row_of-Expr m → List Kind → Type 0
-  RowFits end_of-Expr kinds = Unit {0}
-  RowFits (more_of-Expr e members) kinds = ExprFits e kinds × RowFits members kinds

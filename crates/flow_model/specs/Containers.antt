@@ -1,6 +1,5 @@
 -- Containers: a value for each leaf, and maps that copy leaves.
-use Rattle.std.specs.Prelude.{◌≡◌, ℕ, pos, Option, Some, None, List, [], ◌∷◌, map, slice_get, slice_set}
-use Rattle.std.specs.List.{All}
+use Rattle.std.specs.Prelude.{ℕ, pos, Option, Some, None, List, [], ◌∷◌, map, slice_get, slice_set}
 use Rattle.flow_model.specs.declared.graphs.Container.{Container}
 use Rattle.flow_model.specs.declared.graphs.Value.{Value}
 use Rattle.flow_model.specs.declared.graphs.Value.TheVariants.{Whole, Text}
@@ -31,23 +30,3 @@ put (Some v) to target = record { values = slice_set target.values to v }
 abbrev pub mapped : List LeafMap → Container → Container → Container
 mapped [] source target = target
 mapped (m ∷ maps) source target = mapped maps source (put (slice_get source.values m.from) m.to target)
-
--- ---- what fits
-
-abbrev pub kind_of : Value → Kind
-kind_of (Whole n) = Long
-kind_of (Text t) = Str
-
--- one value for each leaf, of its kind
-abbrev pub Fits : Container → Leaves → Type 0
-Fits c of = map kind_of c.values ≡ map (λ leaf. leaf.kind) of.leaves
-
--- both leaves of a map are there, and have one kind
-abbrev pub JoinsKinds : List Kind → List Kind → LeafMap → Type 0
-JoinsKinds source target m = (k : Kind) × (slice_get source m.from ≡ Some k) × (slice_get target m.to ≡ Some k)
-
-abbrev pub kinds : Leaves → List Kind
-kinds of = map (λ leaf. leaf.kind) of.leaves
-
-abbrev pub MapsFit : List LeafMap → List Kind → List Kind → Type 0
-MapsFit maps source target = All (JoinsKinds source target) maps

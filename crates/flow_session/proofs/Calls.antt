@@ -23,51 +23,84 @@ take_past : (n : ℕ) (ts us : List Transaction) → (m : ℕ) × (take m (ts ++
 take_past n [] us = (n, refl)
 take_past n (t ∷ ts) us = let rest = take_past n ts us in (suc rest.0, ap (λ xs. t ∷ xs) rest.1)
 
-some_in_front : (s : Summary) (ts us : List Transaction) (c : Image) → StandsAfterSome s ts c → StandsAfterSome s (ts ++ us) c
-some_in_front s ts us c some = let m = take_front some.0 ts us in (m.0, subst (λ xs. StandsFor (after s xs) c) (sym m.1) some.1)
+some_in_front : (s : Summary) (ts us : List Transaction) (c : Image) → StandsAfterSome s ts c
+    → StandsAfterSome s (ts ++ us) c
+some_in_front s ts us c some =
+    let m = take_front some.0 ts us in
+    (m.0, subst (λ xs. StandsFor (after s xs) c) (sym m.1) some.1)
 
-some_behind : (s : Summary) (ts us : List Transaction) (c : Image) → StandsAfterSome (after s ts) us c → StandsAfterSome s (ts ++ us) c
+some_behind : (s : Summary) (ts us : List Transaction) (c : Image) → StandsAfterSome (after s ts) us c
+    → StandsAfterSome s (ts ++ us) c
 some_behind s ts us c some =
     let m = take_past some.0 ts us in
     (m.0, subst (λ x. StandsFor x c) (sym (ap (after s) m.1 ∙ after_append s ts (take some.0 us))) some.1)
 
 module _ {J : Type 0} (tells : Type 0) (moment : J → ℕ) (left_since : J → ℕ → Image → Type 0) where
   -- a call that makes no transaction
-  pub makes_none : (old new : J) (s : Summary) (IsEnd : Summary → Type 0) → (tells → LeavesOnly moment left_since old new (StandsFor s)) → IsEnd s → Makes tells moment left_since old new s IsEnd
+  pub makes_none : (old new : J) (s : Summary) (IsEnd : List Transaction → Type 0)
+      → (tells → LeavesOnly moment left_since old new (StandsFor s)) → IsEnd []
+      → Makes tells moment left_since old new s IsEnd
   makes_none old new s IsEnd leaves ended = record {
     transactions = [];
-    any_moment = λ told. weaker moment left_since (λ journal c. left_since journal 0 c) old new (StandsFor s) (StandsAfterSome s []) (leaves told) (λ c stands. (0, stands));
+    any_moment = λ told.
+        weaker moment left_since (λ journal c. left_since journal 0 c) old new (StandsFor s) (StandsAfterSome s [])
+        (leaves told) (λ c stands. (0, stands));
     ended = ended;
   }
 
   -- a call that makes one
-  pub makes_one : (old new : J) (s : Summary) (t : Transaction) (IsEnd : Summary → Type 0) → (tells → LeavesOnly moment left_since old new (WithOrWithout t s)) → IsEnd (next t s) → Makes tells moment left_since old new s IsEnd
+  pub makes_one : (old new : J) (s : Summary) (t : Transaction) (IsEnd : List Transaction → Type 0)
+      → (tells → LeavesOnly moment left_since old new (WithOrWithout t s)) → IsEnd (t ∷ [])
+      → Makes tells moment left_since old new s IsEnd
   makes_one old new s t IsEnd leaves ended = record {
     transactions = t ∷ [];
-    any_moment = λ told. weaker moment left_since (λ journal c. left_since journal 0 c) old new (WithOrWithout t s) (StandsAfterSome s (t ∷ [])) (leaves told)
+    any_moment = λ told.
+        weaker moment left_since (λ journal c. left_since journal 0 c) old new (WithOrWithout t s)
+        (StandsAfterSome s (t ∷ [])) (leaves told)
         (λ c may. ⊎_elim (λ stands. (0, stands)) (λ stands. (1, stands)) may);
     ended = ended;
   }
 
-  -- one call after another
-  pub makes_more : (old mid new : J) (s now : Summary) (IsEnd : Summary → Type 0) → Makes tells moment left_since old mid s (λ x. now ≡ x) → Makes tells moment left_since mid new now IsEnd → Makes tells moment left_since old new s IsEnd
-  makes_more old mid new s now IsEnd first second = record {
-    transactions = first.transactions ++ second.transactions;
-    any_moment = λ told.
-        joined moment left_since (λ journal c. left_since journal 0 c) old mid new (StandsAfterSome s (first.transactions ++ second.transactions))
-        (weaker moment left_since (λ journal c. left_since journal 0 c) old mid _ (StandsAfterSome s (first.transactions ++ second.transactions)) (first.any_moment told) (λ c some. some_in_front s first.transactions second.transactions c some))
-        (weaker moment left_since (λ journal c. left_since journal 0 c) mid new _ (StandsAfterSome s (first.transactions ++ second.transactions)) (second.any_moment told)
-        (λ c some. some_behind s first.transactions second.transactions c (subst (λ x. StandsAfterSome x second.transactions c) first.ended some)));
-    ended = subst IsEnd (ap (λ x. after x second.transactions) first.ended ∙ sym (after_append s first.transactions second.transactions)) second.ended;
-  }
+  -- one call after another: where the first one ends, the summary is the one after its transactions
+  pub makes_more : (old mid new : J) (s now : Summary) (IsFirst IsMid IsEnd : List Transaction → Type 0)
+      → Makes tells moment left_since old mid s IsFirst
+      → ((ts : List Transaction) → IsFirst ts → now ≡ after s ts)
+      → Makes tells moment left_since mid new now IsMid
+      → ((ts us : List Transaction) → IsFirst ts → IsMid us → IsEnd (ts ++ us))
+      → Makes tells moment left_since old new s IsEnd
+  makes_more old mid new s now IsFirst IsMid IsEnd first comes second leads =
+      let ts = first.transactions in
+      let us = second.transactions in
+      let came : now ≡ after s ts = comes ts first.ended in
+      record {
+        transactions = ts ++ us;
+        any_moment = λ told.
+            joined moment left_since (λ journal c. left_since journal 0 c) old mid new (StandsAfterSome s (ts ++ us))
+            (weaker moment left_since (λ journal c. left_since journal 0 c) old mid _ (StandsAfterSome s (ts ++ us))
+            (first.any_moment told) (λ c some. some_in_front s ts us c some))
+            (weaker moment left_since (λ journal c. left_since journal 0 c) mid new _ (StandsAfterSome s (ts ++ us))
+            (second.any_moment told)
+            (λ c some. some_behind s ts us c (subst (λ x. StandsAfterSome x us c) came some)));
+        ended = leads ts us first.ended second.ended;
+      }
 
   -- a call that leaves an open journal alone
-  pub makes_nothing : (holds : J → Summary → Type 0) → ((journal : J) (s : Summary) (c : Image) → tells → holds journal s → left_since journal (moment journal) c → StandsFor s c) → (journal : J) (s : Summary) (IsEnd : Summary → Type 0) → (tells → holds journal s) → IsEnd s → Makes tells moment left_since journal journal s IsEnd
+  pub makes_nothing : (holds : J → Summary → Type 0)
+      → ((journal : J) (s : Summary) (c : Image) → tells → holds journal s → left_since journal (moment journal) c
+      → StandsFor s c)
+      → (journal : J) (s : Summary) (IsEnd : List Transaction → Type 0) → (tells → holds journal s) → IsEnd []
+      → Makes tells moment left_since journal journal s IsEnd
   makes_nothing holds at_rest journal s IsEnd is ended =
-      makes_none journal journal s IsEnd (λ told. nothing_done moment left_since journal (StandsFor s) (λ c left. at_rest journal s c told (is told) left)) ended
+      makes_none journal journal s IsEnd
+      (λ told. nothing_done moment left_since journal (StandsFor s)
+      (λ c left. at_rest journal s c told (is told) left)) ended
 
-  -- one call after another, where the last one ends otherwise
-  pub makes_last : (old mid new : J) (s now : Summary) (IsMid IsEnd : Summary → Type 0) → Makes tells moment left_since old mid s (λ x. now ≡ x) → Makes tells moment left_since mid new now IsMid → ((x : Summary) → IsMid x → IsEnd x) → Makes tells moment left_since old new s IsEnd
-  makes_last old mid new s now IsMid IsEnd first second leads =
-      let all = makes_more old mid new s now IsMid first second in
-      record { transactions = all.transactions; any_moment = all.any_moment; ended = leads _ all.ended }
+  -- a call that ends otherwise
+  pub makes_so : (old new : J) (s : Summary) (IsEnd IsLast : List Transaction → Type 0)
+      → Makes tells moment left_since old new s IsEnd → ((ts : List Transaction) → IsEnd ts → IsLast ts)
+      → Makes tells moment left_since old new s IsLast
+  makes_so old new s IsEnd IsLast makes leads = record {
+    transactions = makes.transactions;
+    any_moment = makes.any_moment;
+    ended = leads makes.transactions makes.ended;
+  }

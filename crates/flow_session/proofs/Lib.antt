@@ -1,12 +1,16 @@
--- Read Summaries first, then Histories, Keeping, Calls and Runs.
+-- Read Summaries first, then Histories, Keeping, Calls, Leading and Runs; Replaying is of opening.
 pub mod Summaries
 pub mod Histories
 pub mod Keeping
+pub mod Queued
 pub mod Calls
+pub mod Rights
+pub mod Leading
+pub mod Replaying
 pub mod Runs
 pub mod Turns
-pub mod Rights
 pub mod Scripts
 pub mod Inputs
 pub mod Stopping
 pub mod Refusing
+pub mod Present

@@ -12,11 +12,11 @@ use Rattle.flow_core.specs.Answers.{has_message}
 use Rattle.flow_core.specs.Refusals.{first_of, queue_test, message_test, full_test}
 use Rattle.flow_core.specs.declared.refusals.Refusal.{Refusal}
 use Rattle.flow_core.specs.declared.state.Core.{Core}
-use Rattle.flow_core.specs.Driving.{Drives}
-use Rattle.flow_core.specs.Summaries.{Summary, summary, next}
+use Rattle.flow_core.specs.Summaries.{Summary}
 use Rattle.flow_core.specs.Judgements.{IsVerdict}
 use Rattle.flow_core.specs.declared.judging.Verdict.{Verdict}
 use Rattle.flow_core.specs.declared.judging.Verdict.TheVariants.{Do}
+use Rattle.machine_laws.specs.Applied.{Applied}
 use Rattle.flow_session.specs.Draining.{IsNextQueue, TakesFront, TakesInTurn, NoTurn, OneTurn, IsDrained, queues_before, queue_behind, turns_text, full_text}
 
 -- ---- which queue is next
@@ -141,20 +141,20 @@ behind_some count q = go (leb_tells (suc q) count)
     go (inr is) = rw is.0 (omega arith)
 
 -- the transaction to which a TURN is judged, where it is made, takes the front of its queue
-pub takes_front : {T E : Type 0} (r : Result T E) (old new : Core) (q : ℕ) (v : Verdict) (t : Transaction) → IsVerdict old (TurnCommand q) v → v ≡ Do t → OnOk r (Drives old t new) → OnOk r (summary new ≡ next t (summary old)) → OnOk r (TakesFront old new q)
-takes_front (Ok done) old new q v t verdict is drives came =
+pub takes_front : {T E : Type 0} (r : Result T E) (old new : Core) (q : ℕ) (v : Verdict) (t : Transaction)
+    → IsVerdict old (TurnCommand q) v → v ≡ Do t → OnOk r (Applied old t new) → OnOk r (TakesFront old new q)
+takes_front (Ok done) old new q v t verdict is applied =
     let made = (subst (IsVerdict old (TurnCommand q)) is verdict).1 in
     record {
       message = made.0;
       front = made.1;
-      drives = subst (λ u. Drives old u new) made.2 drives;
-      came = subst (λ u. summary new ≡ next u (summary old)) made.2 came;
+      applied = subst (λ (u : Transaction). Applied old u new) made.2 applied;
     }
-takes_front (Err e) old new q v t verdict is drives came = tt
+takes_front (Err e) old new q v t verdict is applied = tt
 
 -- a turn leaves one less up to the limit
 pub one_less : (old new : Core) (q : ℕ) → TakesFront old new q → (new.number ≡ old.number + 1) × (new.limit ≡ old.limit)
-one_less old new q takes = (ap (λ (s : Summary). s.transactions) takes.came, ap (λ (s : Summary). s.limit) takes.came)
+one_less old new q takes = (ap (λ (s : Summary). s.transactions) takes.applied.came, ap (λ (s : Summary). s.limit) takes.applied.came)
 
 -- the turns so far, counted as far as 64 bits go
 pub record HasTaken (old now : Core) (n turn : ℕ) : Type 0 where

@@ -5,10 +5,9 @@ use Rattle.recover_queue.specs.Queues.{is_quiet}
 use Rattle.flow_model.specs.declared.instances.Message.{Message}
 use Rattle.flow_model.specs.declared.transactions.Transaction.TheVariants.{Turn}
 use Rattle.flow_core.specs.Answers.{has_message}
-use Rattle.flow_core.specs.Driving.{Drives}
-use Rattle.flow_core.specs.Summaries.{summary, next}
 use Rattle.flow_core.specs.Verdicts.{IsFront}
 use Rattle.flow_core.specs.declared.state.Core.{Core}
+use Rattle.machine_laws.specs.Applied.{Applied}
 
 -- how many queues come before this one, in turn from another one on
 abbrev pub queues_before : ℕ → ℕ → ℕ → ℕ
@@ -23,12 +22,11 @@ pub record IsNextQueue (c : Core) (from queue : ℕ) : Type 0 where
 abbrev pub queue_behind : ℕ → ℕ → ℕ
 queue_behind count queue = if nat_lt queue count then queue + 1 else 1
 
--- the message at the front of a queue is taken
+-- the message at the front of a queue is taken, as a TURN
 pub record TakesFront (old new : Core) (queue : ℕ) : Type 0 where
   pub message : Message
   pub front : IsFront old queue message
-  pub drives : Drives old (Turn queue message) new
-  pub came : summary new ≡ next (Turn queue message) (summary old)
+  pub applied : Applied old (Turn queue message) new
 
 -- so many messages are taken, one after another; then the turn is at this queue
 pub data TakesInTurn (c : Core) : ℕ → ℕ → Core → Type 0 where

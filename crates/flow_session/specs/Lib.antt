@@ -5,6 +5,8 @@ pub mod Runs
 pub mod Stopping
 pub mod Refusing
 pub mod Serving
+pub mod Leading
+pub mod Replaying
 pub mod Replying
 pub mod Draining
 pub mod Inputs

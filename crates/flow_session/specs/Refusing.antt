@@ -12,10 +12,10 @@ use Rattle.txn_log.specs.Opening.{IsVerdict}
 use Rattle.txn_log.specs.Records.{reach}
 use Rattle.txn_log.specs.Stores.{Counts, store_of}
 use Rattle.flow_core.specs.Admitting.{IsAdmitted, IsRefused}
-use Rattle.flow_core.specs.Allowing.{IsBlank}
-use Rattle.flow_core.specs.Driving.{Drives}
-use Rattle.flow_core.specs.Summaries.{summary, taken_up}
+use Rattle.flow_core.specs.Allowing.{IsAllowed, IsBlank, CountsRoot}
+use Rattle.flow_core.specs.Summaries.{summary}
 use Rattle.flow_core.specs.declared.state.Core.{Core}
+use Rattle.machine_laws.specs.Applied.{Adopted}
 use Rattle.flow_session.specs.Histories.{under}
 
 -- ---- records that are admitted
@@ -26,14 +26,15 @@ pub record Begins (h : Header) (c : Core) : Type 0 where
   pub counts : summary c ≡ under h
   pub kept : c.kept ≡ h.transactions
 
--- a payload is the record of a transaction that is admitted, which drives the state and is taken up
+-- a payload is the record of a transaction that is admitted, and adopted under its number
 pub record AdmitsOne (old : Core) (payload : List ℕ) (new : Core) : Type 0 where
   pub number : ℕ
   pub transaction : Transaction
   pub spelled : record_bytes number transaction ≡ payload
   pub admitted : IsAdmitted old number transaction
-  pub drives : Drives old transaction new
-  pub taken : summary new ≡ taken_up old.kept (record { number = number; transaction = transaction }) (summary old)
+  pub allowed : IsAllowed old transaction
+  pub adopted : Adopted old number transaction new
+  pub counts : CountsRoot old transaction new
   pub kept : new.kept ≡ old.kept
 
 -- records with these payloads are admitted, one after the other

@@ -7,20 +7,19 @@ use Rattle.flow_core.specs.declared.applying.Note.{Note}
 use Rattle.flow_core.specs.declared.judging.Verdict.TheVariants.{Do, Same, Refused}
 use Rattle.flow_core.specs.declared.refusals.Refusal.{Refusal}
 use Rattle.flow_core.specs.declared.state.Core.{Core}
-use Rattle.flow_core.specs.Driving.{Drives}
 use Rattle.flow_core.specs.Judgements.{IsVerdict}
 use Rattle.flow_core.specs.Replies.{applied_text, refusal_text}
-use Rattle.flow_core.specs.Summaries.{summary, next}
 use Rattle.flow_core.specs.Verdicts.{IsNoteOf}
+use Rattle.machine_laws.specs.Applied.{Applied}
 
--- a command makes the transaction to which it is judged, which drives the state, and the reply has its number and what came of it
+-- a command makes the transaction to which it is judged: it is applied to the state, and the reply has its number and
+-- what came of it
 pub record IsMade (old new : Core) (command : Command) (reply : List ℕ) : Type 0 where
   pub transaction : Transaction
   pub note : Note
   pub judged : IsVerdict old command (Do transaction)
-  pub drives : Drives old transaction new
+  pub applied : Applied old transaction new
   pub noted : IsNoteOf old transaction new note
-  pub came : summary new ≡ next transaction (summary old)
   pub told : reply ≡ applied_text (record { number = old.number + 1; note = note })
 
 -- the reply of a START with the key of a live root
@@ -30,7 +29,8 @@ same_text root = codes "ok SAME " ++ decimal root ++ 10 ∷ []
 -- it is judged to be refused, or to be the START of a live root, and the reply says so
 abbrev pub IsUnmade : Core → Command → List ℕ → Type 0
 IsUnmade c command reply =
-    ((refusal : Refusal) × IsVerdict c command (Refused refusal) × (reply ≡ refusal_text refusal)) ⊎ ((root : ℕ) × IsVerdict c command (Same root) × (reply ≡ same_text root))
+    ((refusal : Refusal) × IsVerdict c command (Refused refusal) × (reply ≡ refusal_text refusal))
+    ⊎ ((root : ℕ) × IsVerdict c command (Same root) × (reply ≡ same_text root))
 
 -- a command makes its transaction, or nothing changes
 abbrev pub IsObeyed : Core → Core → Command → List ℕ → Type 0

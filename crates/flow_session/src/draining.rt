@@ -5,7 +5,7 @@ ghost use Rattle.recover_queue.specs.Queues.{is_quiet};
 ghost use Rattle.flow_core.specs.Answers.{has_message};
 ghost use Rattle.flow_core.specs.Summaries.{summary};
 ghost use Rattle.flow_session.specs.Draining.{IsNextQueue, TakesFront, IsDrained, queue_behind, turns_text, full_text};
-ghost use Rattle.flow_session.specs.Serving.{Makes};
+ghost use Rattle.flow_session.specs.Leading.{MakesSteps};
 ghost use Rattle.flow_session.specs.Stopping.{IsStopCause};
 ghost use Rattle.flow_session.specs.declared.serving.Stop.TheVariants.{NoMemory};
 
@@ -25,9 +25,12 @@ impl Session {
 
     /// The first queue with a message, from one up to before another one.
     fn queue_within(&self, from: u64, to: u64) -> Option<u64>
-        ensures some { IfSome result (λ queue. (from ≤ queue) × (queue < to) × (has_message self.now.core queue ≡ true)) }
-        ensures first { IfSome result (λ queue. (other : ℕ) → from ≤ other → other < queue → has_message self.now.core other ≡ false) }
-        ensures none { result ≡ None → (other : ℕ) → from ≤ other → other < to → has_message self.now.core other ≡ false }
+        ensures some { IfSome result (λ queue. (from ≤ queue) × (queue < to)
+            × (has_message self.now.core queue ≡ true)) }
+        ensures first { IfSome result (λ queue. (other : ℕ) → from ≤ other → other < queue
+            → has_message self.now.core other ≡ false) }
+        ensures none { result ≡ None
+            → (other : ℕ) → from ≤ other → other < to → has_message self.now.core other ≡ false }
     {
         for queue in from..to {
             if self.waits(queue) {
@@ -67,9 +70,11 @@ impl Session {
         requires room { self.old.core.number < self.old.core.limit }
         requires has { has_message self.old.core queue ≡ true }
         ensures kept { J.tells → OnOk result (J.holds journal.new (summary self.new.core)) }
-        ensures cause { MatchResult result (λ _. J.faults journal.new ≡ J.faults journal.old) (IsStopCause (J.faults journal.old) (J.faults journal.new)) }
+        ensures cause { MatchResult result (λ _. J.faults journal.new ≡ J.faults journal.old)
+            (IsStopCause (J.faults journal.old) (J.faults journal.new)) }
         ensures place { J.place journal.new ≡ J.place journal.old }
-        ensures makes { Makes J.tells J.moment J.left_since journal.old journal.new (summary self.old.core) (λ s. OnOk result (summary self.new.core ≡ s)) }
+        ensures makes { MakesSteps J.tells J.moment J.left_since journal.old journal.new
+            self.old.core self.new.core result }
         ensures right { IsRightAndListed self.old.core → OnOk result (IsRightAndListed self.new.core) }
         ensures gathers { OnOk result (self.new.gathered ≡ self.old.gathered) }
         ensures turned { OnOk result (TakesFront self.old.core self.new.core queue) }
@@ -87,7 +92,8 @@ impl Session {
 
     /// The reply of a DRAIN that made so many turns.
     fn drained(&self, turns: u64) -> Result<Vec<u8>, Stop>
-        ensures said { IfOk result (λ reply. reply.items ≡ (if is_quiet self.now.core.queues then turns_text turns else full_text self.now.core.limit turns)) }
+        ensures said { IfOk result (λ reply. reply.items ≡ (if is_quiet self.now.core.queues
+            then turns_text turns else full_text self.now.core.limit turns)) }
         ensures silent { IfErr result (λ stop. stop ≡ NoMemory) }
     {
         if self.core.is_quiet() {
@@ -105,9 +111,11 @@ impl Session {
     pub(crate) fn drain<J: Journal>(&mut self, journal: &mut J) -> Result<Vec<u8>, Stop>
         requires { J.tells → J.holds journal.old (summary self.old.core) }
         ensures kept { J.tells → OnOk result (J.holds journal.new (summary self.new.core)) }
-        ensures cause { MatchResult result (λ _. J.faults journal.new ≡ J.faults journal.old) (IsStopCause (J.faults journal.old) (J.faults journal.new)) }
+        ensures cause { MatchResult result (λ _. J.faults journal.new ≡ J.faults journal.old)
+            (IsStopCause (J.faults journal.old) (J.faults journal.new)) }
         ensures place { J.place journal.new ≡ J.place journal.old }
-        ensures makes { Makes J.tells J.moment J.left_since journal.old journal.new (summary self.old.core) (λ s. OnOk result (summary self.new.core ≡ s)) }
+        ensures makes { MakesSteps J.tells J.moment J.left_since journal.old journal.new
+            self.old.core self.new.core result }
         ensures right { IsRightAndListed self.old.core → OnOk result (IsRightAndListed self.new.core) }
         ensures gathers { OnOk result (self.new.gathered ≡ self.old.gathered) }
         ensures replied { IfOk result (λ reply. IsDrained self.old.core self.new.core reply.items) }

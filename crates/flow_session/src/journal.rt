@@ -53,12 +53,14 @@ pub trait Journal {
     /// more; then nothing was done.
     fn keep(&mut self, payload: &[u8]) -> Result<(), Stop>
         requires open { tells → (s : Summary) × holds self.old s }
-        ensures kept { (s : Summary) (t : TransactionOf) → tells → holds self.old s → payload.now ≡ record_bytes (s.transactions + 1) t
-            → OnOk result (holds self.new (next t s)) }
-        ensures any_moment { (s : Summary) (t : TransactionOf) → tells → holds self.old s → payload.now ≡ record_bytes (s.transactions + 1) t
+        ensures kept { (s : Summary) (t : TransactionOf) → tells → holds self.old s
+            → payload.now ≡ record_bytes (s.transactions + 1) t → OnOk result (holds self.new (next t s)) }
+        ensures any_moment { (s : Summary) (t : TransactionOf) → tells → holds self.old s
+            → payload.now ≡ record_bytes (s.transactions + 1) t
             → LeavesOnly moment left_since self.old self.new (WithOrWithout t s) }
         ensures place { place self.new ≡ place self.old }
-        ensures cause { MatchResult result (λ _. faults self.new ≡ faults self.old) (IsStopCause (faults self.old) (faults self.new)) };
+        ensures cause { MatchResult result (λ _. faults self.new ≡ faults self.old)
+            (IsStopCause (faults self.old) (faults self.new)) };
 
     /// Keeps the live transactions alone from now on. `StoreFault` comes where its count of faults rose; then a
     /// crash leaves the same history. `NoMemory` comes where there is no memory, and where it can't move; then
@@ -68,7 +70,8 @@ pub trait Journal {
         ensures kept { tells → OnOk result (holds self.new (summary core.now)) }
         ensures moved { OnOk result (moved self.old self.new (summary core.now)) }
         ensures any_moment { tells → LeavesOnly moment left_since self.old self.new (StandsFor (summary core.now)) }
-        ensures cause { MatchResult result (λ _. faults self.new ≡ faults self.old) (IsStopCause (faults self.old) (faults self.new)) };
+        ensures cause { MatchResult result (λ _. faults self.new ≡ faults self.old)
+            (IsStopCause (faults self.old) (faults self.new)) };
 
     /// At one moment a crash leaves what it may leave then.
     ghost at_rest: { (journal : Self) (s : Summary) (c : Image) → tells → holds journal s → left_since journal (moment journal) c → StandsFor s c };

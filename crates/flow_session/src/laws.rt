@@ -1,18 +1,24 @@
-//! Laws of a script: what is answered is kept, and the state stays right.
+//! Laws of a script: what is answered is kept, the state stays right, and what is made is a run of the machine.
 //!
 //! Each function here takes nothing and does nothing; its `ensures` is a statement about the definitions,
 //! which is proved.
-ghost use Rattle.flow_session.specs.Scripts.{AnsweredIsKept, ScriptsKeepRight};
+ghost use Rattle.flow_session.specs.Scripts.{AnsweredIsKept, ScriptsAreRuns, ScriptsKeepRight};
 
 use crate::journal::Journal;
 
 /// After any number of replies of a script, whatever a crash leaves stands for the state after their inputs,
 /// with some of the transactions that come later, from the first on.
 pub fn answered_is_kept<J: Journal>()
-    ensures { AnsweredIsKept J.tells J.holds J.moment J.left_since }
+    ensures { AnsweredIsKept J.tells J.holds J.moment J.left_since J.place J.moved }
 {}
 
 /// A script keeps a right state right.
 pub fn scripts_keep_right<J: Journal>()
-    ensures { ScriptsKeepRight J.tells J.holds J.moment J.left_since }
+    ensures { ScriptsKeepRight J.tells J.holds J.moment J.left_since J.place J.moved }
+{}
+
+/// A script makes one list of transactions: from a right state they are a run of the machine from its first state to
+/// its last one, and a crash at any moment leaves the history with some of them, from the first on.
+pub fn scripts_are_runs<J: Journal>()
+    ensures { ScriptsAreRuns J.tells J.holds J.moment J.left_since J.place J.moved }
 {}

@@ -11,6 +11,7 @@ ghost use Rattle.flow_core.specs.Summaries.{summary, taken_up, Follows};
 ghost use Rattle.flow_session.specs.Inputs.{unended};
 ghost use Rattle.flow_session.specs.Keeping.{IsOpen, ComesTo};
 ghost use Rattle.flow_session.specs.Refusing.{AdmitsOne, LeadsTo, IsUnopened, StopsAt, StopsIn};
+ghost use Rattle.flow_session.specs.Replaying.{Replays};
 ghost use Rattle.flow_session.specs.Stopping.{IsOpenCause};
 
 use crate::serving::Session;
@@ -30,7 +31,8 @@ fn adopt(
     payload: &[u8],
 ) -> Result<(), LogStop>
     ensures taken { OnOk result ((n : NumberedOf) × (record_bytes n.number n.transaction ≡ payload.now)
-        × Follows core.old.kept (summary core.old) n × (summary core.new ≡ taken_up core.old.kept n (summary core.old))) }
+        × Follows core.old.kept (summary core.old) n
+        × (summary core.new ≡ taken_up core.old.kept n (summary core.old))) }
     ensures kept { OnOk result (core.new.kept ≡ core.old.kept) }
     ensures right { IsRightAndListed core.old → OnOk result (IsRightAndListed core.new) }
     ensures admitted { IsInOrder core.old → OnOk result (AdmitsOne core.old payload.now core.new) }
@@ -79,18 +81,21 @@ fn state_of(alloc: Global, opened: &Opened) -> Result<Core, LogStop>
 /// Opens a store: the state that its records give, and what its slot that counts holds.
 ///
 /// `Unmade`, `Foreign` and `Damaged` come by the slots, and `Damaged` at the gate of the first record that isn't in
-/// the grammar of records or isn't admitted there, as `specs/Refusing.antt` says. The disk isn't written. `StoreFault` comes only where its count of
-/// faults rose.
+/// the grammar of records or isn't admitted there, as `specs/Refusing.antt` says. The disk isn't written. `StoreFault`
+/// comes only where its count of faults rose. The state is what the records come to by the steps of the machine, as
+/// `specs/Replaying.antt` says.
 pub fn open<D: Disk>(alloc: Global, disk: &mut D) -> Result<(Core, Opened), LogStop>
     ensures open { IfOk result (λ r. D.tells → IsOpen D.seen D.images r.1.log disk.new (summary r.0)) }
     ensures right { IfOk result (λ r. 1 ≤ (summary r.0).queues → IsRightAndListed r.0) }
     ensures opened { IfOk result (λ r. D.tells → IsOpened (D.seen disk.new) r.1) }
     ensures comes { IfOk result (λ r. ComesTo r.1 (summary r.0)) }
     ensures admitted { IfOk result (λ r. LeadsTo r.1.header (payloads_of r.1.records) r.0) }
+    ensures state { IfOk result (λ r. D.tells → Replays (D.seen disk.old) r.0) }
     ensures refused { IfErr result (λ stop. D.tells → IsUnopened (D.seen disk.old) stop) }
     ensures seen { OnOk result (D.seen disk.new ≡ D.seen disk.old) }
     ensures any_moment { LeavesOnly D.moment D.left_since disk.old disk.new (D.images disk.old) }
-    ensures cause { MatchResult result (λ _. D.faults disk.new ≡ D.faults disk.old) (IsOpenCause (D.faults disk.old) (D.faults disk.new)) }
+    ensures cause { MatchResult result (λ _. D.faults disk.new ≡ D.faults disk.old)
+        (IsOpenCause (D.faults disk.old) (D.faults disk.new)) }
 {
     let opened = Log::reopen(alloc, disk)?;
     let core = state_of(alloc, &opened)?;
@@ -102,10 +107,12 @@ pub fn reopen<D: Disk>(alloc: Global, disk: &mut D) -> Result<(Session, Log), Lo
     ensures open { IfOk result (λ r. D.tells → IsOpen D.seen D.images r.1 disk.new (summary r.0.core)) }
     ensures right { IfOk result (λ r. 1 ≤ (summary r.0.core).queues → IsRightAndListed r.0.core) }
     ensures outside { IfOk result (λ r. unended r.0 ≡ None) }
+    ensures state { IfOk result (λ r. D.tells → Replays (D.seen disk.old) r.0.core) }
     ensures refused { IfErr result (λ stop. D.tells → IsUnopened (D.seen disk.old) stop) }
     ensures seen { OnOk result (D.seen disk.new ≡ D.seen disk.old) }
     ensures any_moment { LeavesOnly D.moment D.left_since disk.old disk.new (D.images disk.old) }
-    ensures cause { MatchResult result (λ _. D.faults disk.new ≡ D.faults disk.old) (IsOpenCause (D.faults disk.old) (D.faults disk.new)) }
+    ensures cause { MatchResult result (λ _. D.faults disk.new ≡ D.faults disk.old)
+        (IsOpenCause (D.faults disk.old) (D.faults disk.new)) }
 {
     let (core, opened) = open(alloc, disk)?;
     let Opened {

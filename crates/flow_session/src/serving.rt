@@ -6,15 +6,18 @@ ghost use Rattle.flow_model.specs.declared.commands.Command.TheVariants.{Checkpo
 ghost use Rattle.flow_core.specs.declared.applying.Note.{Note as NoteOf};
 ghost use Rattle.worklist_laws.specs.Asking.{AsksOpen};
 ghost use Rattle.worklist_laws.specs.Shelved.{IsRightAndListed};
-ghost use Rattle.flow_core.specs.Allowing.{IsAllowed};
+ghost use Rattle.flow_core.specs.Allowing.{IsAllowed, CountsRoot};
 ghost use Rattle.flow_core.specs.Replies.{applied_text, refusal_text};
-ghost use Rattle.flow_core.specs.Summaries.{summary, next};
-ghost use Rattle.flow_core.specs.Driving.{Drives};
+ghost use Rattle.flow_core.specs.Summaries.{summary};
 ghost use Rattle.flow_core.specs.Verdicts.{IsNoteOf};
 ghost use Rattle.flow_core.specs.Queries.{IsAnswer};
+ghost use Rattle.machine.specs.States.{blank};
+ghost use Rattle.machine_laws.specs.Applied.{Applied};
+ghost use Rattle.machine_laws.specs.Viewed.{view};
 ghost use Rattle.flow_session.specs.Inputs.{given, Line, SaysCheckpoint, AsksCheckpoint, unended_in, no_lines, is_end, with_line, unended, long_text, Answers, IsCommanded, ServesLine, ServesText, ServesInside, IsServed};
 ghost use Rattle.flow_session.specs.Replying.{IsObeyed, checkpoint_text};
-ghost use Rattle.flow_session.specs.Serving.{Makes, WithOrWithout};
+ghost use Rattle.flow_session.specs.Leading.{MakesSteps};
+ghost use Rattle.flow_session.specs.Serving.{WithOrWithout};
 ghost use Rattle.flow_session.specs.Stopping.{IsStopCause};
 ghost use Rattle.flow_session.specs.declared.serving.Stop.TheVariants.{NoMemory};
 
@@ -122,7 +125,8 @@ fn ends_import(line: &[u8]) -> bool
 impl Gathered {
     /// Adds a line, as far as the text is judged.
     fn add(&mut self, line: &[u8]) -> Result<(), AllocError>
-        ensures { OnOk result (unended_in self.new ≡ record (unended_in self.old) { text = with_line self.old.text.items line.now }) }
+        ensures { OnOk result (unended_in self.new
+            ≡ record (unended_in self.old) { text = with_line self.old.text.items line.now }) }
     {
         if self.text.len() <= MOST_TEXT {
             self.text.extend_from_slice(line)?;
@@ -135,7 +139,9 @@ impl Gathered {
 impl Session {
     /// A session over the empty history.
     pub fn fresh(alloc: Global, queues: u8, limit: u64) -> Result<Session, AllocError>
-        ensures begins { IfOk result (λ session. summary session.core ≡ record { queues = queues; limit = limit; transactions = 0; roots = 0; live = [] }) }
+        ensures begins { IfOk result (λ session. summary session.core
+            ≡ record { queues = queues; limit = limit; transactions = 0; roots = 0; live = [] }) }
+        ensures state { IfOk result (λ session. view session.core ≡ blank queues limit) }
         ensures right { 1 ≤ queues → IfOk result (λ session. IsRightAndListed session.core) }
         ensures outside { IfOk result (λ session. unended session ≡ None) }
     {
@@ -176,16 +182,20 @@ impl Session {
         requires room { self.old.core.number < self.old.core.limit }
         requires open { J.tells → J.holds journal.old (summary self.old.core) }
         requires allowed { IsAllowed self.old.core t }
-        ensures made { OnOk result (summary self.new.core ≡ next t (summary self.old.core)) }
-        ensures right { AsksOpen self.old.core t → IsRightAndListed self.old.core → OnOk result (IsRightAndListed self.new.core) }
+        ensures applied { OnOk result (Applied self.old.core t self.new.core) }
+        ensures counts { OnOk result (CountsRoot self.old.core t self.new.core) }
+        ensures right { AsksOpen self.old.core t → IsRightAndListed self.old.core
+            → OnOk result (IsRightAndListed self.new.core) }
         ensures gathers { OnOk result (self.new.gathered ≡ self.old.gathered) }
-        ensures drives { OnOk result (Drives self.old.core t self.new.core) }
         ensures told { OnOk result ((note : NoteOf) × IsNoteOf self.old.core t self.new.core note
-            × (out.new.items ≡ out.old.items ++ applied_text (record { number = self.old.core.number + 1; note = note }))) }
+            × (out.new.items
+            ≡ out.old.items ++ applied_text (record { number = self.old.core.number + 1; note = note }))) }
         ensures kept { J.tells → OnOk result (J.holds journal.new (summary self.new.core)) }
-        ensures cause { MatchResult result (λ _. J.faults journal.new ≡ J.faults journal.old) (IsStopCause (J.faults journal.old) (J.faults journal.new)) }
+        ensures cause { MatchResult result (λ _. J.faults journal.new ≡ J.faults journal.old)
+            (IsStopCause (J.faults journal.old) (J.faults journal.new)) }
         ensures place { J.place journal.new ≡ J.place journal.old }
-        ensures any_moment { J.tells → LeavesOnly J.moment J.left_since journal.old journal.new (WithOrWithout t (summary self.old.core)) }
+        ensures any_moment { J.tells → LeavesOnly J.moment J.left_since journal.old journal.new
+            (WithOrWithout t (summary self.old.core)) }
     {
         let payload = journal.payload(self.core.next_number(), &t)?;
         let applied = self.core.apply(t)?;
@@ -197,12 +207,15 @@ impl Session {
     fn obey<J: Journal>(&mut self, journal: &mut J, command: &Command) -> Result<Vec<u8>, Stop>
         requires { J.tells → J.holds journal.old (summary self.old.core) }
         ensures kept { J.tells → OnOk result (J.holds journal.new (summary self.new.core)) }
-        ensures cause { MatchResult result (λ _. J.faults journal.new ≡ J.faults journal.old) (IsStopCause (J.faults journal.old) (J.faults journal.new)) }
+        ensures cause { MatchResult result (λ _. J.faults journal.new ≡ J.faults journal.old)
+            (IsStopCause (J.faults journal.old) (J.faults journal.new)) }
         ensures place { J.place journal.new ≡ J.place journal.old }
-        ensures makes { Makes J.tells J.moment J.left_since journal.old journal.new (summary self.old.core) (λ s. OnOk result (summary self.new.core ≡ s)) }
+        ensures makes { MakesSteps J.tells J.moment J.left_since journal.old journal.new
+            self.old.core self.new.core result }
         ensures right { IsRightAndListed self.old.core → OnOk result (IsRightAndListed self.new.core) }
         ensures gathers { OnOk result (self.new.gathered ≡ self.old.gathered) }
-        ensures replied { IfOk result (λ reply. IsObeyed self.old.core self.new.core command.now reply.items) }
+        ensures replied { IfOk result (λ reply.
+            IsObeyed self.old.core self.new.core command.now reply.items) }
     {
         match self.core.judge(command) {
             Ok(Verdict::Do(t)) => {
@@ -220,8 +233,10 @@ impl Session {
     fn checkpoint<J: Journal>(&mut self, journal: &mut J) -> Result<Vec<u8>, Stop>
         requires { J.tells → J.holds journal.old (summary self.old.core) }
         ensures kept { J.tells → OnOk result (J.holds journal.new (summary self.new.core)) }
-        ensures cause { MatchResult result (λ _. J.faults journal.new ≡ J.faults journal.old) (IsStopCause (J.faults journal.old) (J.faults journal.new)) }
-        ensures makes { Makes J.tells J.moment J.left_since journal.old journal.new (summary self.old.core) (λ s. OnOk result (summary self.new.core ≡ s)) }
+        ensures cause { MatchResult result (λ _. J.faults journal.new ≡ J.faults journal.old)
+            (IsStopCause (J.faults journal.old) (J.faults journal.new)) }
+        ensures makes { MakesSteps J.tells J.moment J.left_since journal.old journal.new
+            self.old.core self.new.core result }
         ensures right { IsRightAndListed self.old.core → OnOk result (IsRightAndListed self.new.core) }
         ensures gathers { OnOk result (self.new.gathered ≡ self.old.gathered) }
         ensures same { self.new.core ≡ self.old.core }
@@ -245,13 +260,16 @@ impl Session {
         requires open { J.tells → J.holds journal.old (summary self.old.core) }
         requires outside { self.old.gathered ≡ None }
         ensures kept { J.tells → OnOk result (J.holds journal.new (summary self.new.core)) }
-        ensures cause { MatchResult result (λ _. J.faults journal.new ≡ J.faults journal.old) (IsStopCause (J.faults journal.old) (J.faults journal.new)) }
+        ensures cause { MatchResult result (λ _. J.faults journal.new ≡ J.faults journal.old)
+            (IsStopCause (J.faults journal.old) (J.faults journal.new)) }
         ensures place { (command.now ≡ Checkpoint → ⊥) → J.place journal.new ≡ J.place journal.old }
-        ensures makes { Makes J.tells J.moment J.left_since journal.old journal.new (summary self.old.core) (λ s. OnOk result (summary self.new.core ≡ s)) }
+        ensures makes { MakesSteps J.tells J.moment J.left_since journal.old journal.new
+            self.old.core self.new.core result }
         ensures right { IsRightAndListed self.old.core → OnOk result (IsRightAndListed self.new.core) }
         ensures moved { command.now ≡ Checkpoint
             → OnOk result (J.moved journal.old journal.new (summary self.old.core)) }
-        ensures served { IfOk result (λ reply. IsCommanded self.old.core self.new.core command.now (unended self.new) reply.items) }
+        ensures served { IfOk result (λ reply.
+            IsCommanded self.old.core self.new.core command.now (unended self.new) reply.items) }
     {
         match command {
             Command::Import(_) => {
@@ -273,13 +291,16 @@ impl Session {
         requires open { J.tells → J.holds journal.old (summary self.old.core) }
         requires outside { self.old.gathered ≡ None }
         ensures kept { J.tells → OnOk result (J.holds journal.new (summary self.new.core)) }
-        ensures cause { MatchResult result (λ _. J.faults journal.new ≡ J.faults journal.old) (IsStopCause (J.faults journal.old) (J.faults journal.new)) }
+        ensures cause { MatchResult result (λ _. J.faults journal.new ≡ J.faults journal.old)
+            (IsStopCause (J.faults journal.old) (J.faults journal.new)) }
         ensures place { (SaysCheckpoint (Line line.now) → ⊥) → J.place journal.new ≡ J.place journal.old }
-        ensures makes { Makes J.tells J.moment J.left_since journal.old journal.new (summary self.old.core) (λ s. OnOk result (summary self.new.core ≡ s)) }
+        ensures makes { MakesSteps J.tells J.moment J.left_since journal.old journal.new
+            self.old.core self.new.core result }
         ensures right { IsRightAndListed self.old.core → OnOk result (IsRightAndListed self.new.core) }
         ensures moved { SaysCheckpoint (Line line.now)
             → OnOk result (J.moved journal.old journal.new (summary self.old.core)) }
-        ensures served { IfOk result (λ reply. ServesLine line.now self.old.core self.new.core (unended self.new) reply.items) }
+        ensures served { IfOk result (λ reply.
+            ServesLine line.now self.old.core self.new.core (unended self.new) reply.items) }
     {
         if line.len() > MOST_LINE {
             return words(self.alloc, b"no LINE\n");
@@ -299,11 +320,14 @@ impl Session {
         requires open { J.tells → J.holds journal.old (summary self.old.core) }
         requires outside { self.old.gathered ≡ None }
         ensures kept { J.tells → OnOk result (J.holds journal.new (summary self.new.core)) }
-        ensures cause { MatchResult result (λ _. J.faults journal.new ≡ J.faults journal.old) (IsStopCause (J.faults journal.old) (J.faults journal.new)) }
+        ensures cause { MatchResult result (λ _. J.faults journal.new ≡ J.faults journal.old)
+            (IsStopCause (J.faults journal.old) (J.faults journal.new)) }
         ensures place { J.place journal.new ≡ J.place journal.old }
-        ensures makes { Makes J.tells J.moment J.left_since journal.old journal.new (summary self.old.core) (λ s. OnOk result (summary self.new.core ≡ s)) }
+        ensures makes { MakesSteps J.tells J.moment J.left_since journal.old journal.new
+            self.old.core self.new.core result }
         ensures right { IsRightAndListed self.old.core → OnOk result (IsRightAndListed self.new.core) }
-        ensures served { IfOk result (λ reply. ServesText gathered.has_long gathered.text.items self.old.core self.new.core (unended self.new) reply.items) }
+        ensures served { IfOk result (λ reply. ServesText gathered.has_long gathered.text.items
+            self.old.core self.new.core (unended self.new) reply.items) }
     {
         let Gathered { text, has_long } = gathered;
         if has_long {
@@ -323,11 +347,14 @@ impl Session {
         requires open { J.tells → J.holds journal.old (summary self.old.core) }
         requires outside { self.old.gathered ≡ None }
         ensures kept { J.tells → OnOk result (J.holds journal.new (summary self.new.core)) }
-        ensures cause { MatchResult result (λ _. J.faults journal.new ≡ J.faults journal.old) (IsStopCause (J.faults journal.old) (J.faults journal.new)) }
+        ensures cause { MatchResult result (λ _. J.faults journal.new ≡ J.faults journal.old)
+            (IsStopCause (J.faults journal.old) (J.faults journal.new)) }
         ensures place { J.place journal.new ≡ J.place journal.old }
-        ensures makes { Makes J.tells J.moment J.left_since journal.old journal.new (summary self.old.core) (λ s. OnOk result (summary self.new.core ≡ s)) }
+        ensures makes { MakesSteps J.tells J.moment J.left_since journal.old journal.new
+            self.old.core self.new.core result }
         ensures right { IsRightAndListed self.old.core → OnOk result (IsRightAndListed self.new.core) }
-        ensures served { IfOk result (λ reply. ServesInside (unended_in gathered) (given input.entry) self.old.core self.new.core (unended self.new) reply.items) }
+        ensures served { IfOk result (λ reply. ServesInside (unended_in gathered) (given input.entry)
+            self.old.core self.new.core (unended self.new) reply.items) }
     {
         let mut gathered = gathered;
         match input {
@@ -354,9 +381,11 @@ impl Session {
     pub fn serve<J: Journal>(&mut self, journal: &mut J, input: Input<'_>) -> Result<Vec<u8>, Stop>
         requires { J.tells → J.holds journal.old (summary self.old.core) }
         ensures kept { J.tells → OnOk result (J.holds journal.new (summary self.new.core)) }
-        ensures cause { MatchResult result (λ _. J.faults journal.new ≡ J.faults journal.old) (IsStopCause (J.faults journal.old) (J.faults journal.new)) }
+        ensures cause { MatchResult result (λ _. J.faults journal.new ≡ J.faults journal.old)
+            (IsStopCause (J.faults journal.old) (J.faults journal.new)) }
         ensures place { (AsksCheckpoint self.old (given input.entry) → ⊥) → J.place journal.new ≡ J.place journal.old }
-        ensures makes { Makes J.tells J.moment J.left_since journal.old journal.new (summary self.old.core) (λ s. OnOk result (summary self.new.core ≡ s)) }
+        ensures makes { MakesSteps J.tells J.moment J.left_since journal.old journal.new
+            self.old.core self.new.core result }
         ensures right { IsRightAndListed self.old.core → OnOk result (IsRightAndListed self.new.core) }
         ensures moved { AsksCheckpoint self.old (given input.entry)
             → OnOk result (J.moved journal.old journal.new (summary self.old.core)) }

@@ -8,6 +8,7 @@ ghost use Rattle.txn_log.specs.Standing.{HasRecord, IsAt, MayHaveRecord, StandsO
 ghost use Rattle.txn_log.specs.Stored.{InRange};
 ghost use Rattle.checkpoint.specs.Compacting.{IsCompacted, MayBeCompacted};
 ghost use Rattle.flow_core.specs.Summaries.{summary};
+ghost use Rattle.live_history.specs.Rows.{present};
 ghost use Rattle.flow_session.specs.Checkpoints.{IsCheckpointed};
 ghost use Rattle.flow_session.specs.Histories.{payloads as payloads_of, IsHeaderOf};
 ghost use Rattle.flow_session.specs.Keeping.{IsOpen, rests};
@@ -44,13 +45,16 @@ fn is_payload(payload: &[u8]) -> bool
     !payload.is_empty() && payload.len() <= MAX_PAYLOAD
 }
 
-/// The payloads of the live transactions.
-fn payloads(alloc: Global, live: &[Numbered]) -> Result<Option<List<Bytes>>, AllocError>
+/// The payloads of the live transactions, which are those of the rows.
+fn payloads(alloc: Global, rows: &[Option<Numbered>]) -> Result<Option<List<Bytes>>, AllocError>
     ensures range { IfOk result (λ kept. IfSome kept (All IsPayload)) }
-    ensures bytes { IfOk result (λ kept. IfSome kept (λ kept. kept ≡ payloads_of live.now)) }
+    ensures bytes { IfOk result (λ kept. IfSome kept (λ kept. kept ≡ payloads_of (present rows.now))) }
 {
     let mut kept = List::new(alloc);
-    for numbered in live {
+    for row in rows {
+        let Some(numbered) = row else {
+            continue;
+        };
         let payload = encode(alloc, numbered.number, &numbered.transaction)?;
         if !is_payload(&payload) {
             return Ok(None);
@@ -62,7 +66,8 @@ fn payloads(alloc: Global, live: &[Numbered]) -> Result<Option<List<Bytes>>, All
 
 /// The header of the next generation; None where it has none.
 fn next_header(log: &Log, core: &Core) -> Option<Header>
-    ensures { IfSome result (λ header. InRange header × (header.generation ≡ log.now.generation + 1) × IsHeaderOf header (summary core.now)) }
+    ensures { IfSome result (λ header. InRange header × (header.generation ≡ log.now.generation + 1)
+        × IsHeaderOf header (summary core.now)) }
 {
     let generation = log.generation();
     let (queues, limit) = (core.queue_count(), core.limit());
@@ -114,7 +119,8 @@ fn append<D: Disk>(log: &mut Log, disk: &mut D, payload: &[u8]) -> Result<(), St
     ensures durable { OnOk result (Only (D.seen disk.new) (D.images disk.new)) }
     ensures alive { OnOk result (log.new.failed ≡ false) }
     ensures same { (log.new.slot ≡ log.old.slot) × (log.new.generation ≡ log.old.generation) }
-    ensures cause { MatchResult result (λ _. D.faults disk.new ≡ D.faults disk.old) (IsStopCause (D.faults disk.old) (D.faults disk.new)) }
+    ensures cause { MatchResult result (λ _. D.faults disk.new ≡ D.faults disk.old)
+        (IsStopCause (D.faults disk.old) (D.faults disk.new)) }
     ensures any_moment { D.tells → Only (D.seen disk.old) (D.images disk.old)
         → LeavesOnly D.moment D.left_since disk.old disk.new (MayHaveRecord payload.now (D.seen disk.old)) }
 {
@@ -141,14 +147,17 @@ fn move_log<D: Disk>(
     requires next { header.now.generation ≡ log.old.generation + 1 }
     requires stands { D.tells → StandsOn log.old (D.seen disk.old) }
     ensures stands { OnOk result (D.tells → StandsOn log.new (D.seen disk.new)) }
-    ensures compacted { OnOk result (D.tells → IsCompacted (opposite log.old.slot) header.now kept.now (D.seen disk.new)) }
+    ensures compacted { OnOk result (D.tells
+        → IsCompacted (opposite log.old.slot) header.now kept.now (D.seen disk.new)) }
     ensures durable { OnOk result (Only (D.seen disk.new) (D.images disk.new)) }
     ensures alive { OnOk result (log.new.failed ≡ false) }
     ensures log { OnOk result (IsAt (opposite log.old.slot) header.now.generation
         (length kept.now) (reach 42 kept.now) log.new) }
-    ensures cause { MatchResult result (λ _. D.faults disk.new ≡ D.faults disk.old) (IsStopCause (D.faults disk.old) (D.faults disk.new)) }
+    ensures cause { MatchResult result (λ _. D.faults disk.new ≡ D.faults disk.old)
+        (IsStopCause (D.faults disk.old) (D.faults disk.new)) }
     ensures any_moment { D.tells → Only (D.seen disk.old) (D.images disk.old)
-        → LeavesOnly D.moment D.left_since disk.old disk.new (MayBeCompacted (opposite log.old.slot) header.now kept.now (D.seen disk.old)) }
+        → LeavesOnly D.moment D.left_since disk.old disk.new
+        (MayBeCompacted (opposite log.old.slot) header.now kept.now (D.seen disk.old)) }
 {
     if log.has_failed() || kept.len() as u64 >= MOST_RECORDS {
         return Err(Stop::NoMemory);
@@ -194,7 +203,7 @@ impl<D: Disk + Drop> Journal for Stored<D> {
         let Some(header) = next_header(&self.log, core) else {
             return Err(Stop::NoMemory);
         };
-        let Some(kept) = payloads(self.alloc, core.live())? else {
+        let Some(kept) = payloads(self.alloc, core.live().rows())? else {
             return Err(Stop::NoMemory);
         };
         move_log(&mut self.log, &mut self.disk, &header, &kept)?;

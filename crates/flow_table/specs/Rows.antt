@@ -1,4 +1,4 @@
--- The rows of each table, codes counted from 1.
+-- The rows of the table of keywords, codes counted from 1.
 use Rattle.std.specs.Prelude.{ℕ, List, [], ◌∷◌, codes}
 
 -- the words of the process language and of the commands
@@ -70,75 +70,4 @@ keyword_rows =
     (codes "AUDIT", 64) ∷
     (codes "TEMPLATES", 65) ∷
     (codes "AT_LEAST", 66) ∷
-    []
-
--- the causes of a refusal
-unfoldable pub refusal_rows : List (List ℕ × ℕ)
-refusal_rows =
-    (codes "LINE", 1) ∷
-    (codes "UNENDED", 2) ∷
-    (codes "WORD", 3) ∷
-    (codes "RULE", 4) ∷
-    (codes "PERSON", 5) ∷
-    (codes "PROCESS", 6) ∷
-    (codes "ROOT", 7) ∷
-    (codes "ITEM", 8) ∷
-    (codes "QUEUE", 9) ∷
-    (codes "MODE", 10) ∷
-    (codes "STATE", 11) ∷
-    (codes "OWNER", 12) ∷
-    (codes "TAKE", 13) ∷
-    (codes "ELIGIBLE", 14) ∷
-    (codes "VALUE", 15) ∷
-    (codes "EMPTY", 16) ∷
-    (codes "QUEUED", 17) ∷
-    (codes "CLOCK", 18) ∷
-    (codes "FULL", 19) ∷
-    []
-
--- the kinds of a transaction
-unfoldable pub record_rows : List (List ℕ × ℕ)
-record_rows =
-    (codes "IMPORT", 1) ∷
-    (codes "START", 2) ∷
-    (codes "TURN", 3) ∷
-    (codes "CLAIM", 4) ∷
-    (codes "RELEASE", 5) ∷
-    (codes "TRANSFER", 6) ∷
-    (codes "TAKE", 7) ∷
-    (codes "DONE", 8) ∷
-    (codes "FORCE", 9) ∷
-    (codes "RESTART", 10) ∷
-    (codes "SUSPEND", 11) ∷
-    (codes "RESUME", 12) ∷
-    (codes "TERMINATE", 13) ∷
-    (codes "DELETE", 14) ∷
-    (codes "CLOCK", 15) ∷
-    []
-
--- the kinds of a message
-unfoldable pub message_rows : List (List ℕ × ℕ)
-message_rows =
-    (codes "BEGIN", 1) ∷
-    (codes "SIGNAL", 2) ∷
-    (codes "END", 3) ∷
-    []
-
--- the fates and phases of an activity
-unfoldable pub fate_rows : List (List ℕ × ℕ)
-fate_rows =
-    (codes "WAITING", 1) ∷
-    (codes "READY", 2) ∷
-    (codes "RUNNING", 3) ∷
-    (codes "FINISHED", 4) ∷
-    (codes "DEAD", 5) ∷
-    []
-
--- the modes of a root
-unfoldable pub mode_rows : List (List ℕ × ℕ)
-mode_rows =
-    (codes "ACTIVE", 1) ∷
-    (codes "SUSPENDED", 2) ∷
-    (codes "DONE", 3) ∷
-    (codes "TERMINATED", 4) ∷
     []

@@ -1,6 +1,6 @@
-//! The six tables.
+//! The table of keywords.
 ghost use Rattle.std.specs.Prelude.{◌≡◌};
-ghost use Rattle.flow_table.specs.Rows.{keyword_rows, refusal_rows, record_rows, message_rows, fate_rows, mode_rows};
+ghost use Rattle.flow_table.specs.Rows.{keyword_rows};
 
 use crate::keyword;
 use crate::table::{Row, Table};
@@ -85,107 +85,6 @@ pub fn keywords() -> Table<66>
             b"AUDIT" => keyword::AUDIT,
             b"TEMPLATES" => keyword::TEMPLATES,
             b"AT_LEAST" => keyword::AT_LEAST,
-        ],
-    }
-}
-
-/// The causes of a refusal.
-#[tactic(auto, unfolding(crate::specs::Rows::refusal_rows))]
-pub fn codes() -> Table<19>
-    ensures { result ≡ refusal_rows }
-{
-    Table {
-        rows: rows![
-            b"LINE" => 1,
-            b"UNENDED" => 2,
-            b"WORD" => 3,
-            b"RULE" => 4,
-            b"PERSON" => 5,
-            b"PROCESS" => 6,
-            b"ROOT" => 7,
-            b"ITEM" => 8,
-            b"QUEUE" => 9,
-            b"MODE" => 10,
-            b"STATE" => 11,
-            b"OWNER" => 12,
-            b"TAKE" => 13,
-            b"ELIGIBLE" => 14,
-            b"VALUE" => 15,
-            b"EMPTY" => 16,
-            b"QUEUED" => 17,
-            b"CLOCK" => 18,
-            b"FULL" => 19,
-        ],
-    }
-}
-
-/// The kinds of a transaction.
-#[tactic(auto, unfolding(crate::specs::Rows::record_rows))]
-pub fn records() -> Table<15>
-    ensures { result ≡ record_rows }
-{
-    Table {
-        rows: rows![
-            b"IMPORT" => 1,
-            b"START" => 2,
-            b"TURN" => 3,
-            b"CLAIM" => 4,
-            b"RELEASE" => 5,
-            b"TRANSFER" => 6,
-            b"TAKE" => 7,
-            b"DONE" => 8,
-            b"FORCE" => 9,
-            b"RESTART" => 10,
-            b"SUSPEND" => 11,
-            b"RESUME" => 12,
-            b"TERMINATE" => 13,
-            b"DELETE" => 14,
-            b"CLOCK" => 15,
-        ],
-    }
-}
-
-/// The kinds of a message.
-#[tactic(auto, unfolding(crate::specs::Rows::message_rows))]
-pub fn messages() -> Table<3>
-    ensures { result ≡ message_rows }
-{
-    Table {
-        rows: rows![
-            b"BEGIN" => 1,
-            b"SIGNAL" => 2,
-            b"END" => 3,
-        ],
-    }
-}
-
-/// The fates and phases of an activity.
-#[tactic(auto, unfolding(crate::specs::Rows::fate_rows))]
-pub fn fate_names() -> Table<5>
-    ensures { result ≡ fate_rows }
-{
-    Table {
-        rows: rows![
-            b"WAITING" => 1,
-            b"READY" => 2,
-            b"RUNNING" => 3,
-            b"FINISHED" => 4,
-            b"DEAD" => 5,
-        ],
-    }
-}
-
-/// The modes of a root.
-#[tactic(auto, unfolding(crate::specs::Rows::mode_rows))]
-pub fn modes() -> Table<4>
-    ensures { result ≡ mode_rows }
-{
-    Table {
-        rows: rows![
-            b"ACTIVE" => 1,
-            b"SUSPENDED" => 2,
-            b"DONE" => 3,
-            b"TERMINATED" => 4,
         ],
     }
 }

@@ -6,16 +6,10 @@ use Rattle.flow_disk.specs.Images.{Image}
 use Rattle.flow_disk.specs.Moments.{Only}
 use Rattle.txn_log.specs.Opening.{MayBeMade, first_header}
 use Rattle.txn_log.specs.Stores.{Counts, store_of}
-use Rattle.flow_core.specs.Summaries.{Summary}
 use Rattle.flow_session.specs.Histories.{StandsFor, IsLive}
-use Rattle.flow_session.specs.Serving.{Makes}
 use Rattle.flow_session.proofs.Keeping.{nothing_done}
 use Rattle.flow_words.specs.declared.status.Status.{Status}
 use Rattle.flow_words.specs.Crashes.{IsFailing, EndsDone, empty_history, MakesStore}
-
--- a call that ends otherwise
-pub makes_so : {J : Type 0} (tells : Type 0) (moment : J → ℕ) (left_since : J → ℕ → Image → Type 0) (old new : J) (s : Summary) (IsEnd IsLast : Summary → Type 0) → Makes tells moment left_since old new s IsEnd → ((x : Summary) → IsEnd x → IsLast x) → Makes tells moment left_since old new s IsLast
-makes_so tells moment left_since old new s IsEnd IsLast makes leads = record { transactions = makes.transactions; any_moment = makes.any_moment; ended = leads _ makes.ended }
 
 -- what is so under Ok, and later
 pub later_ok : {T E : Type 0} (r : Result T E) (T' P : Type 0) → (T' → OnOk r P) → OnOk r (T' → P)

@@ -1,16 +1,18 @@
 -- A script that is served in memory, one part behind the other.
-use Rattle.std.proofs.Common.{◌≡◌, ℕ, suc, ◌+◌, ◌<◌, if◌then◌else◌, Bool, true, false, Result, Ok, Err, IfOk, List, [], ◌∷◌, ◌++◌, length, map, take, get_or, sym, ap, subst, ◌∙◌, append_assoc, append-nil, add-one, arith}
+use Rattle.std.proofs.Common.{◌≡◌, ℕ, suc, ◌+◌, ◌<◌, if◌then◌else◌, Bool, true, false, Option, Some, None, Result, Ok, Err, IfOk, List, [], ◌∷◌, ◌++◌, length, map, take, get_or, sym, ap, subst, ◌∙◌, append_assoc, append-nil, add-one, arith}
 use Rattle.std.specs.Borrow.{Bor}
 use Rattle.std.specs.Global.{Vec}
 use Rattle.std.proofs.lemmas.List.{length-append, take_more, map-append}
-use Rattle.std.proofs.lemmas.List.Sums.{count_by_more_yes, count_by_more_no}
-use Rattle.std.proofs.lemmas.Grind.{flat_map-append}
+use Rattle.std.proofs.lemmas.Grind.{common_steps, flat_map-append}
 use Rattle.flow_core.specs.declared.state.Core.{Core}
 use Rattle.flow_model.specs.declared.transactions.Numbered.{Numbered}
+use Rattle.flow_disk.specs.declared.disk.Slot.TheVariants.{A}
 use Rattle.flow_session.specs.Inputs.{Given, Line}
 use Rattle.flow_session.specs.Scripts.{ServesOne, NoInput, OneMore}
 use Rattle.flow_session.specs.declared.journal.NoJournal.{NoJournal}
 use Rattle.flow_session.specs.declared.serving.Session.{Session}
+use Rattle.flow_session.proofs.Present.{present_some, present_none}
+use Rattle.live_history.specs.Rows.{HistoryRow, present}
 use Rattle.flow_words.specs.Loading.{ServesInMemory, Serves, lines, next_number, number_of, amount_by, is_above, above, root_script, roots_script, import_script, is_turn, turns_of, done_in, load_line, IsSummary, IsLoaded}
 use Rattle.flow_words.specs.Scripts.{all_replies, IsFresh}
 use Rattle.flow_words.specs.declared.load.Loading.{Loading}
@@ -29,7 +31,7 @@ pub serves_none : (load : Loading) → Serves [] load load
 serves_none load = record { replies = []; served = NoInput; counted = omega arith }
 
 -- one input
-pub serves_one : (input : Given) (reply : List ℕ) (old new : Loading) → ServesOne ⊥ (λ _ _. ⊥) (λ _. 0) (λ _ _ _. ⊥) input reply old.session new.session old.journal new.journal → new.bytes ≡ old.bytes + length reply → Serves (input ∷ []) old new
+pub serves_one : (input : Given) (reply : List ℕ) (old new : Loading) → ServesOne ⊥ (λ _ _. ⊥) (λ _. 0) (λ _ _ _. ⊥) (λ _. (A, 0)) (λ _ _ _. Unit {0}) input reply old.session new.session old.journal new.journal → new.bytes ≡ old.bytes + length reply → Serves (input ∷ []) old new
 serves_one input reply old new one counted = record {
   replies = reply ∷ [];
   served = OneMore NoInput one;
@@ -79,12 +81,21 @@ serves_root seed root amount old mid new given before one =
 -- ---- the line
 
 -- one transaction more
-pub turns_more : (live : List Numbered) (i : ℕ) (n : Numbered) (count count' one : ℕ) → n ≡ get_or live i n → i < length live → count ≡ turns_of (take i live) → one ≡ (if is_turn n.transaction then 1 else 0) → count' ≡ count + one → count' ≡ turns_of (take (i + 1) live)
-turns_more live i n count count' one is within before added more = go (is_turn n.transaction) (ap (λ (m : Numbered). is_turn m.transaction) (sym is)) added
-  where
-    go : (b : Bool) → is_turn (get_or live i n).transaction ≡ b → one ≡ (if b then 1 else 0) → count' ≡ turns_of (take (i + 1) live)
-    go true e added = more ∙ ap (λ (k : ℕ). count + k) added ∙ ap (λ (k : ℕ). k + 1) before ∙ sym (count_by_more_yes (λ (m : Numbered). is_turn m.transaction) live i n within e)
-    go false e added = let same = count_by_more_no (λ (m : Numbered). is_turn m.transaction) live i n within e in omega (arith, more, added, before, same)
+turns_push : (live : List Numbered) (n : Numbered) → turns_of (live ++ n ∷ []) ≡ turns_of live + (if is_turn n.transaction then 1 else 0)
+turns_push [] n = grind (arith, common_steps)
+turns_push (m ∷ live) n = grind (arith, common_steps, turns_push live n)
+
+pub turns_more : (rows : List HistoryRow) (i : ℕ) (row : HistoryRow) (n : Numbered) → i < length rows → row ≡ get_or rows i row → row ≡ Some n
+    → (count count' one : ℕ) → count ≡ turns_of (present (take i rows)) → one ≡ (if is_turn n.transaction then 1 else 0) → count' ≡ count + one
+    → count' ≡ turns_of (present (take (i + 1) rows))
+turns_more rows i row n less is some count count' one before added more =
+    more ∙ ap (λ (k : ℕ). k + one) before ∙ ap (λ (k : ℕ). turns_of (present (take i rows)) + k) added
+    ∙ sym (turns_push (present (take i rows)) n) ∙ ap turns_of (sym (present_some rows i row n less is some))
+
+-- a row without one
+pub turns_same : (rows : List HistoryRow) (i : ℕ) (row : HistoryRow) → i < length rows → row ≡ get_or rows i row → row ≡ None
+    → (count : ℕ) → count ≡ turns_of (present (take i rows)) → count ≡ turns_of (present (take (i + 1) rows))
+turns_same rows i row less is none count before = before ∙ ap turns_of (sym (present_none rows i row less is none))
 
 pub sums_up : {E : Type 0} (r : Result (Vec ℕ) E) (load : Loading) (core : Core) (seed roots number turns done over : ℕ) → core ≡ load.session.core → number ≡ core.number → turns ≡ turns_of core.live.items → done ≡ done_in core
     → IfOk r (λ text. text.items ≡ load_line (seed ∷ roots ∷ number ∷ turns ∷ done ∷ over ∷ load.bytes ∷ [])) → IfOk r (λ text. IsSummary seed roots over load text.items)

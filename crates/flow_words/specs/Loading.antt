@@ -7,6 +7,7 @@ use Rattle.flow_core.specs.declared.state.Core.{Core}
 use Rattle.flow_model.specs.declared.transactions.Numbered.{Numbered}
 use Rattle.flow_model.specs.declared.transactions.Transaction.{Transaction}
 use Rattle.flow_model.specs.declared.transactions.Transaction.TheVariants.{Turn}
+use Rattle.flow_disk.specs.declared.disk.Slot.TheVariants.{A}
 use Rattle.flow_session.specs.Inputs.{Given, Line}
 use Rattle.flow_session.specs.Scripts.{ServesAll}
 use Rattle.flow_session.specs.declared.journal.NoJournal.{NoJournal}
@@ -100,7 +101,7 @@ load_script seed roots = import_script ++ roots_script seed roots
 
 -- inputs are served in memory, one after the other, with these replies
 abbrev pub ServesInMemory : Session → NoJournal → List Given → List (List ℕ) → Session → NoJournal → Type 0
-ServesInMemory s j inputs replies s' j' = ServesAll ⊥ (λ _ _. ⊥) (λ _. 0) (λ _ _ _. ⊥) s j inputs replies s' j'
+ServesInMemory s j inputs replies s' j' = ServesAll ⊥ (λ _ _. ⊥) (λ _. 0) (λ _ _ _. ⊥) (λ _. (A, 0)) (λ _ _ _. Unit {0}) s j inputs replies s' j'
 
 -- ---- the line
 

@@ -7,6 +7,7 @@ use Rattle.flow_disk.specs.Moments.{Only}
 use Rattle.flow_core.specs.Summaries.{summary}
 use Rattle.flow_core.specs.declared.state.Core.{Core}
 use Rattle.flow_session.specs.Histories.{StandsFor}
+use Rattle.flow_session.specs.Replaying.{Replays}
 use Rattle.flow_session.specs.Runs.{KeepsStore}
 use Rattle.worklist_laws.specs.Shelved.{IsRightAndListed}
 use Rattle.deadlines.specs.Texts.{IsOverdueText}
@@ -19,11 +20,14 @@ use Rattle.flow_words.specs.Printed.{Prints, IsUnanswered}
 use Rattle.flow_words.specs.declared.status.Status.{Status}
 use Rattle.flow_words.specs.declared.status.Status.TheVariants.{Done, Usage, Refused}
 
--- A store is opened, which leaves what was there, and this is printed of the state for which it stands.
-pub record LooksInto {D : Type 0} (tells : Type 0) (moment : D → ℕ) (left_since : D → ℕ → Image → Type 0) (seen : D → Image) (images : D → Image → Type 0) (disk disk' : D) (IsPrinted : Core → Type 0) : Type 0 where
+-- A store is opened, which leaves what was there, and this is printed of the state for which it stands: the one to which
+-- its records come by the steps of the machine.
+pub record LooksInto {D : Type 0} (tells : Type 0) (moment : D → ℕ) (left_since : D → ℕ → Image → Type 0)
+    (seen : D → Image) (images : D → Image → Type 0) (disk disk' : D) (IsPrinted : Core → Type 0) : Type 0 where
   pub core : Core
   pub keeps : Only (seen disk) (images disk) → KeepsStore moment left_since seen disk disk'
   pub stood : tells → StandsFor (summary core) (seen disk)
+  pub state : tells → Replays (seen disk) core
   pub right : 1 ≤ (summary core).queues → IsRightAndListed core
   pub printed : IsPrinted core
 

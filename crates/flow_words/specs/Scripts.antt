@@ -1,8 +1,10 @@
 -- A script that is served: its inputs, and what is printed.
-use Rattle.std.specs.Prelude.{◌≡◌, ◌⊎◌, ℕ, ◌≤◌, Option, None, Some, IfSome, List, [], ◌++◌, map, codes, Result, Ok, Err}
+use Rattle.std.specs.Prelude.{◌≡◌, ◌⊎◌, ℕ, ◌<◌, ◌≤◌, length, Option, None, Some, IfSome, List, [], ◌++◌, map, codes, Result, Ok, Err}
 use Rattle.std.specs.List.{flat_map}
 use Rattle.std.specs.Io.KnownBytes.{Appends, Keeps}
 use Rattle.flow_disk.specs.Images.{Image}
+use Rattle.flow_disk.specs.declared.disk.Slot.{Slot}
+use Rattle.flow_disk.specs.declared.disk.Slot.TheVariants.{A}
 use Rattle.flow_disk.specs.Moments.{Only}
 use Rattle.txn_log.specs.declared.log.Log.{Log}
 use Rattle.flow_io.specs.Inputs.{Input as LineInput, Served, PassedOver, AtEnd, inputs}
@@ -12,10 +14,15 @@ use Rattle.flow_session.specs.Serving.{Makes}
 use Rattle.flow_session.specs.declared.serving.Session.{Session}
 use Rattle.flow_session.specs.Histories.{StandsFor}
 use Rattle.flow_session.specs.Inputs.{Given, Line, Long, End, unended}
+use Rattle.flow_session.specs.Checkpoints.{IsCheckpointed}
 use Rattle.flow_session.specs.Keeping.{IsOpen}
+use Rattle.flow_session.specs.Leading.{LeadsBy}
+use Rattle.flow_session.specs.Replaying.{Replays}
 use Rattle.flow_session.specs.Runs.{KeepsStore}
 use Rattle.flow_session.specs.declared.store.Stored.{Stored}
 use Rattle.flow_session.specs.declared.journal.NoJournal.{NoJournal}
+use Rattle.machine.specs.States.{blank}
+use Rattle.machine_laws.specs.Viewed.{view}
 use Rattle.worklist_laws.specs.Shelved.{IsRightAndListed}
 use Rattle.flow_words.specs.Crashes.{empty_history}
 use Rattle.flow_words.specs.Numbers.{AreSettings, NameNoSettings}
@@ -25,7 +32,7 @@ use Rattle.flow_words.specs.Printed.{PrintsPart, Prints}
 use Rattle.flow_words.specs.declared.pure.Word.{Word}
 use Rattle.flow_words.specs.declared.pure.Word.TheVariants.{Check, Fate, Try, Load}
 use Rattle.flow_words.specs.declared.status.Status.{Status}
-use Rattle.flow_words.specs.declared.status.Status.TheVariants.{Done, Usage, NoMemory}
+use Rattle.flow_words.specs.declared.status.Status.TheVariants.{Done, Usage, NoMemory, ScriptTooLong}
 
 -- what a session is given of a line
 abbrev pub input_of : LineInput → Given
@@ -41,59 +48,92 @@ script_inputs bytes = map input_of (inputs bytes 268435456)
 abbrev pub AreFirst : Option (List ℕ) → List Given → List Given → Type 0
 AreFirst left first others = IfSome left (λ bytes. script_inputs bytes ≡ first ++ others)
 
+-- a script has at most so many bytes, where the source tells them
+abbrev pub IsWithinLimit : Option (List ℕ) → Type 0
+IsWithinLimit left = IfSome left (λ bytes. length bytes ≤ 268435456)
+
+-- it has more
+abbrev pub IsBeyondLimit : Option (List ℕ) → Type 0
+IsBeyondLimit left = IfSome left (λ bytes. 268435456 < length bytes)
+
 -- the replies one behind the other
 abbrev pub all_replies : List (List ℕ) → List ℕ
 all_replies replies = flat_map (λ reply. reply) replies
 
--- An input is served and its reply printed; or the call fails before it replies, and nothing is printed; or the sink fails behind a front part of the reply.
-abbrev pub ServesAndPrints : {J : Type 0} → Type 0 → (J → Summary → Type 0) → (J → ℕ) → (J → ℕ → Image → Type 0) → Option (List ℕ) → Option (List ℕ) → Given → Session → Session → J → J → Result (Unit {0}) Status → Type 0
-ServesAndPrints tells holds moment left_since held held' input s s' j j' (Ok done) =
-    (reply : List ℕ) × ServesOne tells holds moment left_since input reply s s' j j' × Appends held held' reply
-ServesAndPrints tells holds moment left_since held held' input s s' j j' (Err status) =
+-- An input is served and its reply printed; or the call fails before it replies, and nothing is printed; or the sink
+-- fails behind a front part of the reply.
+abbrev pub ServesAndPrints : {J : Type 0} → Type 0 → (J → Summary → Type 0) → (J → ℕ) → (J → ℕ → Image → Type 0)
+    → (J → Slot × ℕ) → (J → J → Summary → Type 0) → Option (List ℕ) → Option (List ℕ) → Given → Session → Session
+    → J → J → Result (Unit {0}) Status → Type 0
+ServesAndPrints tells holds moment left_since place moved held held' input s s' j j' (Ok done) =
+    (reply : List ℕ) × ServesOne tells holds moment left_since place moved input reply s s' j j'
+    × Appends held held' reply
+ServesAndPrints tells holds moment left_since place moved held held' input s s' j j' (Err status) =
     (Keeps held held' × Makes tells moment left_since j j' (summary s.core) (λ _. Unit {0}))
-    ⊎ ((reply : List ℕ) × ServesOne tells holds moment left_since input reply s s' j j' × PrintsPart held held' reply)
+    ⊎ ((reply : List ℕ) × ServesOne tells holds moment left_since place moved input reply s s' j j'
+    × PrintsPart held held' reply)
 
--- The first inputs of a script are served one after the other, each reply printed before the next input is read; then the run ends, within the call under way where it fails.
-pub record ServesScript {J : Type 0} (tells : Type 0) (holds : J → Summary → Type 0) (moment : J → ℕ) (left_since : J → ℕ → Image → Type 0) (left held held' : Option (List ℕ)) (s s' : Session) (j j' : J) (ended : Result (Unit {0}) Status) : Type 0 where
+-- The first inputs of a script are served one after the other, each reply printed before the next input is read; then
+-- the run ends, within the call under way where it fails. What the served inputs make is one list of transactions, which
+-- leads from the first state to the last one. The run ends well only where the script isn't too long, and as too long
+-- only where it is, behind all inputs that count.
+pub record ServesScript {J : Type 0} (tells : Type 0) (holds : J → Summary → Type 0) (moment : J → ℕ)
+    (left_since : J → ℕ → Image → Type 0) (place : J → Slot × ℕ) (moved : J → J → Summary → Type 0)
+    (left held held' : Option (List ℕ)) (s s' : Session) (j j' : J) (ended : Result (Unit {0}) Status) : Type 0 where
   pub first : List Given
   pub others : List Given
   pub replies : List (List ℕ)
   pub last : Session
   pub journal : J
   pub inputs : AreFirst left first others
-  pub served : ServesAll tells holds moment left_since s j first replies last journal
+  pub served : ServesAll tells holds moment left_since place moved s j first replies last journal
+  pub leads : Makes tells moment left_since j journal (summary s.core) (λ ts. LeadsBy s.core ts last.core)
   pub under_way : Makes tells moment left_since journal j' (summary last.core) (λ _. Unit {0})
   pub printed : PrintsPart held held' (all_replies replies)
   pub whole : ended ≡ Ok tt → (others ≡ []) × (s' ≡ last) × (j' ≡ journal) × Appends held held' (all_replies replies)
+      × IsWithinLimit left
+  pub too_long : ended ≡ Err ScriptTooLong → (others ≡ []) × IsBeyondLimit left
 
--- a session over the empty history of a store with so many queues and this limit
+-- a session over the empty history of a store with so many queues and this limit: the blank state of the machine
 pub record IsFresh (queues limit : ℕ) (s : Session) : Type 0 where
   pub empty : summary s.core ≡ empty_history queues limit
+  pub state : view s.core ≡ blank queues limit
   pub outside : unended s ≡ None
   pub right : 1 ≤ queues → IsRightAndListed s.core
 
--- `try`: a session over the empty history serves the script, in memory alone; without memory for the session nothing is printed
+-- `try`: a session over the empty history serves the script, in memory alone; without memory for the session nothing is
+-- printed
 abbrev pub IsTried : ℕ → ℕ → Option (List ℕ) → Option (List ℕ) → Option (List ℕ) → Result (Unit {0}) Status → Type 0
 IsTried queues limit left held held' ended =
     ((ended ≡ Err NoMemory) × Keeps held held')
-    ⊎ ((s : Session) × (s' : Session) × (j : NoJournal) × (j' : NoJournal) × IsFresh queues limit s × ServesScript ⊥ (λ _ _. ⊥) (λ _. 0) (λ _ _ _. ⊥) left held held' s s' j j' ended)
+    ⊎ ((s : Session) × (s' : Session) × (j : NoJournal) × (j' : NoJournal) × IsFresh queues limit s
+    × ServesScript ⊥ (λ _ _. ⊥) (λ _. 0) (λ _ _ _. ⊥) (λ _. (A, 0)) (λ _ _ _. Unit {0})
+    left held held' s s' j j' ended)
 
 -- A session serves the script over the log of an opened store, and gives the disk back.
-pub record ServesOver {D : Type 0} (tells : Type 0) (moment : D → ℕ) (left_since : D → ℕ → Image → Type 0) (seen : D → Image) (images : D → Image → Type 0) (left held held' : Option (List ℕ)) (s : Session) (log : Log) (disk disk' : D) (ended : Result (Unit {0}) Status) : Type 0 where
+pub record ServesOver {D : Type 0} (tells : Type 0) (moment : D → ℕ) (left_since : D → ℕ → Image → Type 0)
+    (seen : D → Image) (images : D → Image → Type 0) (left held held' : Option (List ℕ)) (s : Session) (log : Log)
+    (disk disk' : D) (ended : Result (Unit {0}) Status) : Type 0 where
   pub s' : Session
   pub journal : Stored D
   pub journal' : Stored D
-  pub script : ServesScript tells (λ j. IsOpen seen images j.log j.disk) (λ j. moment j.disk) (λ j. left_since j.disk) left held held' s s' journal journal' ended
+  pub script : ServesScript tells (λ j. IsOpen seen images j.log j.disk) (λ j. moment j.disk) (λ j. left_since j.disk)
+      (λ j. (j.log.slot, j.log.generation)) (λ j j' now. IsCheckpointed tells seen images j.log j'.log j'.disk now)
+      left held held' s s' journal journal' ended
   pub over : (journal.log ≡ log) × (journal.disk ≡ disk)
   pub given_back : disk' ≡ journal'.disk
 
--- A store is opened, which leaves what was there, and a session over the state that it stands for serves the script.
-pub record ServesStoreScript {D : Type 0} (tells : Type 0) (moment : D → ℕ) (left_since : D → ℕ → Image → Type 0) (seen : D → Image) (images : D → Image → Type 0) (left held held' : Option (List ℕ)) (disk disk' : D) (ended : Result (Unit {0}) Status) : Type 0 where
+-- A store is opened, which leaves what was there, and a session over the state that it stands for serves the script:
+-- the state to which the records of the store come by the steps of the machine.
+pub record ServesStoreScript {D : Type 0} (tells : Type 0) (moment : D → ℕ) (left_since : D → ℕ → Image → Type 0)
+    (seen : D → Image) (images : D → Image → Type 0) (left held held' : Option (List ℕ)) (disk disk' : D)
+    (ended : Result (Unit {0}) Status) : Type 0 where
   pub s : Session
   pub log : Log
   pub opened : D
   pub keeps : Only (seen disk) (images disk) → KeepsStore moment left_since seen disk opened
   pub stood : tells → StandsFor (summary s.core) (seen disk)
+  pub state : tells → Replays (seen disk) s.core
   pub outside : unended s ≡ None
   pub right : 1 ≤ (summary s.core).queues → IsRightAndListed s.core
   pub serves : ServesOver tells moment left_since seen images left held held' s log opened disk' ended

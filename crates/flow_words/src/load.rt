@@ -4,6 +4,7 @@ ghost use Rattle.std.specs.List.{flat_map};
 ghost use Rattle.flow_session.specs.Inputs.{Line as LineOf};
 ghost use Rattle.flow_words.specs.Loading.{next_number as number_behind, amount_by, is_above as above_test, above as above_in, drained as drained_lines, force_line as force_of, force_with, start_line as start_of, root_script, roots_script, import_script, lines as lines_of, is_turn as turn_test, turns_of, load_line, Serves, IsSummary, IsLoaded};
 ghost use Rattle.flow_words.specs.Scripts.{IsFresh};
+ghost use Rattle.live_history.specs.Rows.{present};
 
 use flow_model::{Numbered, Transaction};
 use flow_session::{Input, NoJournal, Session};
@@ -235,12 +236,15 @@ fn turn_of(numbered: &Numbered) -> u64
     }
 }
 
-/// The Turns among transactions.
-fn turns(live: &[Numbered]) -> Result<u64, AllocError>
-    ensures { IfOk result (λ turns. turns ≡ turns_of live.now) }
+/// The Turns among the transactions of these rows.
+fn turns(rows: &[Option<Numbered>]) -> Result<u64, AllocError>
+    ensures { IfOk result (λ turns. turns ≡ turns_of (present rows.now)) }
 {
     let mut turns = 0u64;
-    for numbered in live {
+    for row in rows {
+        let Some(numbered) = row else {
+            continue;
+        };
         turns = with_more(turns, turn_of(numbered))?;
     }
     Ok(turns)
@@ -264,7 +268,7 @@ fn summary(load: &Loading, seed: u64, roots: u64, above: u64) -> Result<Vec<u8>,
     ensures { IfOk result (λ text. IsSummary seed roots above load.now text.items) }
 {
     let core = load.session.core();
-    let taken = turns(core.live())?;
+    let taken = turns(core.live().rows())?;
     let numbers = [
         seed,
         roots,

@@ -3,7 +3,7 @@ ghost use Rattle.std.specs.Prelude.{◌≡◌, MatchResult, IfErr, OnOk};
 ghost use Rattle.std.specs.Io.KnownBytes.{Appends};
 ghost use Rattle.flow_core.specs.Summaries.{summary};
 ghost use Rattle.flow_session.specs.Inputs.{given};
-ghost use Rattle.flow_session.specs.Serving.{Makes};
+ghost use Rattle.flow_session.specs.Leading.{MakesSteps};
 ghost use Rattle.flow_words.specs.Crashes.{IsFailing};
 ghost use Rattle.flow_words.specs.Endings.{PrintCause, ServeCause, RunCause, StopsScript, status_of, status_of_stop};
 ghost use Rattle.flow_words.specs.Printed.{PrintsPart};
@@ -20,11 +20,13 @@ use text_words::MOST_BYTES;
 
 /// Prints a text.
 pub fn print<K: Sink>(out: &mut K, text: &[u8]) -> Result<(), Status>
-    ensures cause { MatchResult result (λ _. K.faults out.new ≡ K.faults out.old) (PrintCause (K.faults out.old) (K.faults out.new)) }
+    ensures cause { MatchResult result (λ _. K.faults out.new ≡ K.faults out.old)
+        (PrintCause (K.faults out.old) (K.faults out.new)) }
     ensures fails { IfErr result IsFailing }
     ensures stops { IfErr result StopsScript }
     ensures whole { OnOk result (Appends (K.held out.old) (K.held out.new) text.now) }
-    ensures part { IfErr result (λ status. (status ≡ WriteFaultStatus) × PrintsPart (K.held out.old) (K.held out.new) text.now) }
+    ensures part { IfErr result (λ status. (status ≡ WriteFaultStatus)
+        × PrintsPart (K.held out.old) (K.held out.new) text.now) }
 {
     match put_all(out, text) {
         Ok(()) => Ok(()),
@@ -77,12 +79,16 @@ fn serve_one<J: Journal, K: Sink>(
 ) -> Result<(), Status>
     requires open { J.tells → J.holds journal.old (summary session.old.core) }
     ensures kept { J.tells → OnOk result (J.holds journal.new (summary session.new.core)) }
-    ensures makes { Makes J.tells J.moment J.left_since journal.old journal.new (summary session.old.core) (λ s. OnOk result (summary session.new.core ≡ s)) }
+    ensures makes { MakesSteps J.tells J.moment J.left_since journal.old journal.new
+        session.old.core session.new.core result }
     ensures fails { IfErr result IsFailing }
     ensures stops { IfErr result StopsScript }
-    ensures cause { MatchResult result (λ _. (K.faults out.new ≡ K.faults out.old) × (J.faults journal.new ≡ J.faults journal.old))
+    ensures cause { MatchResult result (λ _. (K.faults out.new ≡ K.faults out.old)
+        × (J.faults journal.new ≡ J.faults journal.old))
         (ServeCause (K.faults out.old) (K.faults out.new) (J.faults journal.old) (J.faults journal.new)) }
-    ensures served { ServesAndPrints J.tells J.holds J.moment J.left_since (K.held out.old) (K.held out.new) (given input.entry) session.old session.new journal.old journal.new result }
+    ensures served { ServesAndPrints J.tells J.holds J.moment J.left_since J.place J.moved
+        (K.held out.old) (K.held out.new) (given input.entry)
+        session.old session.new journal.old journal.new result }
 {
     match session.serve(journal, input) {
         Err(stop) => Err(stop_status(stop)),
@@ -106,11 +112,15 @@ pub fn serve_all<S: Source, K: Sink, J: Journal>(
 ) -> Result<(), Status>
     requires open { J.tells → J.holds journal.old (summary session.old.core) }
     ensures kept { J.tells → OnOk result (J.holds journal.new (summary session.new.core)) }
-    ensures makes { Makes J.tells J.moment J.left_since journal.old journal.new (summary session.old.core) (λ s. OnOk result (summary session.new.core ≡ s)) }
+    ensures makes { MakesSteps J.tells J.moment J.left_since journal.old journal.new
+        session.old.core session.new.core result }
     ensures fails { IfErr result IsFailing }
     ensures stops { IfErr result StopsScript }
-    ensures cause { IfErr result (RunCause (S.faults src.old) (S.faults src.new) (K.faults out.old) (K.faults out.new) (J.faults journal.old) (J.faults journal.new)) }
-    ensures serves { ServesScript J.tells J.holds J.moment J.left_since (S.left src.old) (K.held out.old) (K.held out.new) session.old session.new journal.old journal.new result }
+    ensures cause { IfErr result (RunCause (S.faults src.old) (S.faults src.new)
+        (K.faults out.old) (K.faults out.new) (J.faults journal.old) (J.faults journal.new)) }
+    ensures serves { ServesScript J.tells J.holds J.moment J.left_since J.place J.moved
+        (S.left src.old) (K.held out.old) (K.held out.new)
+        session.old session.new journal.old journal.new result }
 {
     let mut lines = match Lines::new(alloc, MOST_BYTES) {
         Ok(lines) => lines,
@@ -136,9 +146,11 @@ pub fn try_script<S: Source, K: Sink>(
     src: &mut S,
     out: &mut K,
 ) -> Result<(), Status>
-    ensures cause { IfErr result (RunCause (S.faults src.old) (S.faults src.new) (K.faults out.old) (K.faults out.new) 0 0) }
+    ensures cause { IfErr result (RunCause (S.faults src.old) (S.faults src.new)
+        (K.faults out.old) (K.faults out.new) 0 0) }
     ensures stops { IfErr result StopsScript }
-    ensures tries { IsTried settings.queues settings.limit (S.left src.old) (K.held out.old) (K.held out.new) result }
+    ensures tries { IsTried settings.queues settings.limit
+        (S.left src.old) (K.held out.old) (K.held out.new) result }
 {
     match Session::fresh(alloc, settings.queues, settings.limit) {
         Err(_) => Err(Status::NoMemory),

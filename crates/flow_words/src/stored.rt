@@ -3,7 +3,7 @@ ghost use Rattle.std.specs.Prelude.{◌≡◌, ◌≢◌, ℕ, Some, None, List,
 ghost use Rattle.flow_disk.specs.Images.{Image};
 ghost use Rattle.flow_disk.specs.Moments.{Only};
 ghost use Rattle.flow_core.specs.Summaries.{summary};
-ghost use Rattle.flow_session.specs.Histories.{StandsFor};
+ghost use Rattle.flow_session.specs.Histories.{StandsFor, after};
 ghost use Rattle.flow_session.specs.Keeping.{IsOpen};
 ghost use Rattle.flow_session.specs.Runs.{KeepsStore, KeepsOrServes};
 ghost use Rattle.flow_session.specs.Serving.{Makes};
@@ -177,7 +177,8 @@ fn serve_store<S: Source, K: Sink, D: Disk + Drop>(
     disk: D,
 ) -> (Result<(), Status>, D)
     requires open { D.tells → IsOpen D.seen D.images log disk (summary session.core) }
-    ensures makes { Makes D.tells D.moment D.left_since disk result.1 (summary session.core) (λ s. IsOk result.0 → D.tells → (c : Image) → D.images result.1 c → StandsFor s c) }
+    ensures makes { Makes D.tells D.moment D.left_since disk result.1 (summary session.core) (λ ts. IsOk result.0
+        → D.tells → (c : Image) → D.images result.1 c → StandsFor (after (summary session.core) ts) c) }
     ensures fails { IfErr result.0 IsFailing }
     ensures stops { IfErr result.0 StopsScript }
     ensures cause { IfErr result.0 (RunCause (S.faults src.old) (S.faults src.new) (K.faults out.old) (K.faults out.new) (D.faults disk) (D.faults result.1)) }

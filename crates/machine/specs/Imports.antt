@@ -7,7 +7,7 @@ use Rattle.flow_model.specs.declared.transactions.Transaction.{Transaction}
 use Rattle.flow_model.specs.declared.transactions.Transaction.TheVariants.{Import}
 use Rattle.process_rules.specs.Imports.{IsIndexed}
 use Rattle.process_rules.specs.declared.catalog.Catalog.{Catalog}
-use Rattle.template_check.specs.Compiling.{IsNamedBy, IsMeantBy}
+use Rattle.template_check.specs.Compiling.{HasPeopleOf, IsNamedBy, IsMeantBy}
 use Rattle.template_check.specs.Judged.{IsFaultless}
 
 -- the templates and people that an Import adds
@@ -26,9 +26,8 @@ with_added added library = record {
   people = library.people ++ added.people;
 }
 
--- what a text that breaks no rule means behind a library; open: nothing is said of the versions, depths and sizes of
--- its
--- templates, nor of its people
+-- what a text that breaks no rule means behind a library: the templates of its processes, with their versions, depths
+-- and sizes, and the persons that it declares
 pub record IsMeaning (library : Library) (text : List ℕ) (added : Added) : Type 0 where
   pub faultless : IsFaultless library text
   pub named : IsNamedBy text added.templates
@@ -36,6 +35,7 @@ pub record IsMeaning (library : Library) (text : List ℕ) (added : Added) : Typ
   pub of : catalog.library ≡ library
   pub indexed : IsIndexed catalog
   pub meant : IsMeantBy text catalog added.templates
+  pub people : HasPeopleOf text added.people
 
 -- what a transaction adds: an Import what its text means, every other one nothing
 abbrev pub Adds : Library → Transaction → Added → Type 0

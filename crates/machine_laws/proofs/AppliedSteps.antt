@@ -129,6 +129,7 @@ module _ (c c' : Core) (runs : ℕ → List Event) (right : IsRightState c runs)
           of = refl;
           indexed = right.indexed;
           meant = applied.store.meant;
+          people = applied.store.people;
         };
         next =
             allowed c runs right c' (Import text) added is opens tt

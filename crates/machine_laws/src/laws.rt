@@ -4,7 +4,7 @@ ghost use Rattle.machine_laws.specs.Laws.{DeletesAreSteps, ImportsAreSteps, Clai
 ghost use Rattle.machine_laws.specs.Laws.{DonesAreSteps, ForcesAreSteps, StartsAreSteps, ReleasesAreSteps};
 ghost use Rattle.machine_laws.specs.Laws.{TransfersAreSteps, AgentTakesAreSteps, RestartsAreSteps, ItemsAreSeen};
 ghost use Rattle.machine_laws.specs.Shown.{RowsAreShown};
-ghost use Rattle.machine_laws.specs.Applied.{AppliedAreSteps};
+ghost use Rattle.machine_laws.specs.Applied.{AppliedAreSteps, AdoptedAreSteps, VerdictsAreGood, AdmittedAreGood};
 ghost use Rattle.machine_laws.specs.Right.{AllowedAreSteps};
 ghost use Rattle.machine_laws.specs.One.{VerdictsAreOne, CommandsAreOne, ScriptsAreOne};
 
@@ -111,6 +111,21 @@ pub fn allowed_are_steps()
 /// Law: in a right state, what `apply` says of an allowed transaction is a step of the machine.
 pub fn applied_are_steps()
     ensures { AppliedAreSteps }
+{}
+
+/// Law: in a right state, what `adopt` says of an allowed transaction is a step under the number of its record.
+pub fn adopted_are_steps()
+    ensures { AdoptedAreSteps }
+{}
+
+/// Law: the transaction to which a command is judged is good: an Import breaks no rule, a Start has the newest version.
+pub fn verdicts_are_good()
+    ensures { VerdictsAreGood }
+{}
+
+/// Law: so is the transaction of a record that is admitted.
+pub fn admitted_are_good()
+    ensures { AdmittedAreGood }
 {}
 
 /// Law: the rows of a view are those of the scopes that show it.

@@ -1,11 +1,12 @@
 -- The library of the imports so far, and where the newest of each name stands in it.
-use Rattle.std.specs.Prelude.{◌≡◌, ℕ, ◌+◌, Bool, if◌then◌else◌, Option, Some, None, option_map, List, [], ◌∷◌, bytes_eq, slice_get}
+use Rattle.std.specs.Prelude.{◌≡◌, ℕ, ◌+◌, ◌-◌, ◌^◌, min, Bool, if◌then◌else◌, Option, Some, None, option_map, List, [], ◌∷◌, bytes_eq, slice_get}
 use Rattle.std.specs.Option.{option_or, option_and_then}
 use Rattle.std.specs.HashMap as hash
 use Rattle.std.specs.HashMap.{HashMap}
 use Rattle.std.specs.Global.{Vec}
 use Rattle.flow_model.specs.declared.graphs.Library.{Library}
 use Rattle.flow_model.specs.declared.graphs.PersonDef.{PersonDef}
+use Rattle.flow_model.specs.declared.graphs.Template.{Template}
 use Rattle.process_rules.specs.declared.catalog.Catalog.{Catalog}
 
 -- the place of the last element that passes
@@ -16,6 +17,16 @@ last_place test (x ∷ xs) = option_or (option_map (λ place. place + 1) (last_p
 -- the place of the newest template of a name
 abbrev pub newest_place : Library → List ℕ → Option ℕ
 newest_place library name = last_place (λ t. bytes_eq t.name name) library.templates
+
+-- one more than the version of a template, as far as 32 bits tell it; 1 where there is none
+abbrev pub version_behind : Option Template → ℕ
+version_behind None = 1
+version_behind (Some t) = min (t.version + 1) (2 ^ 32 - 1)
+
+-- the version of the next template of a name
+abbrev pub next_version : Library → List ℕ → ℕ
+next_version library name =
+    version_behind (option_and_then (λ place. slice_get library.templates place) (newest_place library name))
 
 -- the place of the latest declaration of a person
 abbrev pub latest_place : Library → List ℕ → Option ℕ

@@ -1,6 +1,6 @@
 //! The library of the imports so far, with its names.
 ghost use Rattle.std.specs.Prelude.{◌≡◌, ◌≤◌, ◌<◌, ◌-◌, ◌^◌, ◌++◌, ◌∷◌, [], min, length, slice_get, option_copied, OnOk};
-ghost use Rattle.process_rules.specs.Imports.{IsIndexed, newest_place, newest_listed, latest_place, latest_person};
+ghost use Rattle.process_rules.specs.Imports.{IsIndexed, newest_place, next_version, newest_listed, latest_place, latest_person};
 
 use flow_model::{Library, List, Name, PersonDef, Template};
 use indexmap::IndexMap;
@@ -60,7 +60,9 @@ impl Catalog {
     }
 
     /// The version that the next template of this name has.
-    pub fn next_version(&self, name: &Name) -> u32 {
+    pub fn next_version(&self, name: &Name) -> u32
+        ensures { IsIndexed self.now → result ≡ next_version self.now.library name.now }
+    {
         match self.newest(name) {
             None => 1,
             Some(place) => match self.template(place) {

@@ -4,6 +4,5 @@ mod Ended
 mod Fronts
 mod Ahead
 mod Parts
-mod Queued
 mod Going
 mod Unopened

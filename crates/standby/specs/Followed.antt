@@ -4,6 +4,7 @@ use Rattle.flow_disk.specs.Images.{Image}
 use Rattle.flow_core.specs.Summaries.{summary}
 use Rattle.flow_core.specs.declared.state.Core.{Core}
 use Rattle.flow_session.specs.Histories.{StandsFor}
+use Rattle.flow_session.specs.Replaying.{Replays}
 use Rattle.txn_log.specs.declared.stops.LogStop.{LogStop}
 use Rattle.standby.specs.Stages.{FollowsSource}
 use Rattle.standby.specs.declared.following.Followed.{Followed}
@@ -22,9 +23,15 @@ IsEndBy stop (Store found) = found ≡ stop
 IsEndBy stop NoMemory = Unit {0}
 IsEndBy stop ended = ⊥
 
--- A store is opened, and a stream is followed from its state on. Where the disk tells its bytes, that is what they stand for, and where the stream ends, whatever the disk may leave then stands for the state at the last stage.
-pub record FollowsOpened (tells : Type 0) (seen : Image) (images : Image → Type 0) (left left' : Option (List ℕ)) (result : Result Followed FollowStop) : Type 0 where
+-- A store is opened, and a stream is followed from its state on. Where the disk tells its bytes, that is what they stand
+-- for, and what its records come to by the steps of the machine; and where the stream ends, whatever the disk may leave
+-- then stands for the state at the last stage.
+pub record FollowsOpened (tells : Type 0) (seen : Image) (images : Image → Type 0) (left left' : Option (List ℕ))
+    (result : Result Followed FollowStop) : Type 0 where
   pub core : Core
   pub stood : tells → StandsFor (summary core) seen
+  pub state : tells → Replays seen core
   pub queued : tells → 1 ≤ (summary core).queues
-  pub follows : 1 ≤ (summary core).queues → FollowsSource (λ now. tells → (image : Image) → images image → StandsFor (summary now) image) core left left' result
+  pub follows : 1 ≤ (summary core).queues
+      → FollowsSource (λ now. tells → (image : Image) → images image → StandsFor (summary now) image) core left left'
+      result

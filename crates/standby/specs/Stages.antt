@@ -7,9 +7,12 @@ use Rattle.flow_model.specs.declared.transactions.Transaction.{Transaction}
 use Rattle.flow_txn.specs.Ranges.{IsInRange}
 use Rattle.flow_txn.specs.Records.{record_bytes}
 use Rattle.flow_core.specs.Admitting.{IsAdmitted, IsRefused}
-use Rattle.flow_core.specs.Summaries.{summary, next}
+use Rattle.flow_core.specs.Summaries.{summary}
 use Rattle.flow_core.specs.declared.state.Core.{Core}
 use Rattle.core_laws.specs.RightStates.{Makes}
+use Rattle.machine.specs.Steps.{Steps}
+use Rattle.machine_laws.specs.Applied.{Applied}
+use Rattle.machine_laws.specs.Viewed.{view}
 use Rattle.standby.specs.Frames.{IsCut, IsBroken, ReadsPart, ReadsAll}
 use Rattle.standby.specs.Fronts.{FrontJudged}
 use Rattle.standby.specs.Readers.{Reader, GoesOn, Gives, ahead}
@@ -21,12 +24,14 @@ use Rattle.standby.specs.declared.stops.FollowStop.TheVariants.{Store, Frame, Cu
 
 -- ---- the transaction of a frame
 
--- a transaction that the store doesn't have is admitted under its number, and makes the next state
+-- a transaction that the store doesn't have is admitted under its number, and makes the next state, which is a step of
+-- the machine
 pub record Adopts (c : Core) (number : ℕ) (t : Transaction) (c' : Core) : Type 0 where
   pub beyond : c.number < number
   pub admitted : IsAdmitted c number t
   pub makes : Makes c t c'
-  pub comes_to : summary c' ≡ next t (summary c)
+  pub applied : Applied c t c'
+  pub steps : Steps (view c) t (view c')
 
 -- a transaction is passed over where the store has it, else it is adopted and counted as taken
 abbrev pub Takes : ℕ → Transaction → Core → ℕ → Core → ℕ → Type 0

@@ -9,9 +9,10 @@ ghost use Rattle.flow_core.specs.Admitting.{IsAdmitted};
 ghost use Rattle.flow_core.specs.Summaries.{summary};
 ghost use Rattle.flow_core.specs.declared.state.Core.{Core as CoreOf};
 ghost use Rattle.core_laws.specs.RightStates.{IsRightCore};
-ghost use Rattle.flow_session.specs.Histories.{StandsFor};
+ghost use Rattle.flow_session.specs.Histories.{StandsFor, after};
 ghost use Rattle.flow_session.specs.Keeping.{IsOpen};
 ghost use Rattle.flow_session.specs.Runs.{KeepsOrServes};
+ghost use Rattle.flow_session.specs.Leading.{MakesSteps};
 ghost use Rattle.flow_session.specs.Serving.{Makes};
 ghost use Rattle.flow_session.specs.Stopping.{IsStopCause};
 ghost use Rattle.standby.specs.Endings.{FollowEnd};
@@ -60,9 +61,14 @@ fn follow_from<S: Source, D: Disk + Drop>(
     disk: D,
 ) -> (Result<Followed, FollowStop>, D)
     requires open { D.tells → IsOpen D.seen D.images log disk (summary core) }
-    ensures makes { Makes D.tells D.moment D.left_since disk result.1 (summary core) (λ s. IsOk result.0 → D.tells → (c : Image) → D.images result.1 c → StandsFor s c) }
-    ensures cause { MatchResult result.0 (λ _. (S.faults src.new ≡ S.faults src.old) × (D.faults result.1 ≡ D.faults disk)) (FollowEnd (S.faults src.old) (S.faults src.new) (D.faults disk) (D.faults result.1)) }
-    ensures follows { IsRightCore core → FollowsSource (λ core'. D.tells → (c : Image) → D.images result.1 c → StandsFor (summary core') c) core (S.left src.old) (S.left src.new) result.0 }
+    ensures makes { Makes D.tells D.moment D.left_since disk result.1 (summary core) (λ ts. IsOk result.0
+        → D.tells → (c : Image) → D.images result.1 c → StandsFor (after (summary core) ts) c) }
+    ensures cause { MatchResult result.0 (λ _. (S.faults src.new ≡ S.faults src.old)
+        × (D.faults result.1 ≡ D.faults disk))
+        (FollowEnd (S.faults src.old) (S.faults src.new) (D.faults disk) (D.faults result.1)) }
+    ensures follows { IsRightCore core → FollowsSource (λ core'. D.tells
+        → (c : Image) → D.images result.1 c → StandsFor (summary core') c)
+        core (S.left src.old) (S.left src.new) result.0 }
 {
     let mut standby = Standby {
         alloc,
@@ -83,7 +89,8 @@ fn follow_from<S: Source, D: Disk + Drop>(
 /// Why following ends where the journal keeps no record.
 fn unkept(stop: Stop) -> FollowStop
     ensures cause { (source disk disk' : ℕ) → IsStopCause disk disk' stop → FollowEnd source source disk disk' result }
-    ensures stops { (core : CoreOf) (number : ℕ) (t : TransactionOf) → core.number < number → IsAdmitted core number t → StopsTaking core number t result }
+    ensures stops { (core : CoreOf) (number : ℕ) (t : TransactionOf) → core.number < number
+        → IsAdmitted core number t → StopsTaking core number t result }
 {
     match stop {
         Stop::StoreFault => FollowStop::Store(LogStop::StoreFault),
@@ -94,15 +101,22 @@ fn unkept(stop: Stop) -> FollowStop
 impl<D: Disk + Drop> Standby<D> {
     /// Takes a transaction: it is passed over where the store has it, else adopted and then appended.
     fn take(&mut self, numbered: Numbered, payload: &[u8]) -> Result<(), FollowStop>
-        requires open { D.tells → IsOpen D.seen D.images self.old.journal.log self.old.journal.disk (summary self.old.core) }
+        requires open { D.tells
+            → IsOpen D.seen D.images self.old.journal.log self.old.journal.disk (summary self.old.core) }
         requires spelled { record_bytes numbered.number numbered.transaction ≡ payload.now }
         requires room { self.old.taken < 2 ^ 64 - 1 }
-        ensures kept { OnOk result (D.tells → IsOpen D.seen D.images self.new.journal.log self.new.journal.disk (summary self.new.core)) }
-        ensures makes { Makes D.tells D.moment D.left_since self.old.journal.disk self.new.journal.disk (summary self.old.core) (λ s. OnOk result (summary self.new.core ≡ s)) }
-        ensures cause { MatchResult result (λ _. D.faults self.new.journal.disk ≡ D.faults self.old.journal.disk) (λ stop. (source : ℕ) → FollowEnd source source (D.faults self.old.journal.disk) (D.faults self.new.journal.disk) stop) }
+        ensures kept { OnOk result (D.tells
+            → IsOpen D.seen D.images self.new.journal.log self.new.journal.disk (summary self.new.core)) }
+        ensures makes { MakesSteps D.tells D.moment D.left_since self.old.journal.disk self.new.journal.disk
+            self.old.core self.new.core result }
+        ensures cause { MatchResult result (λ _. D.faults self.new.journal.disk ≡ D.faults self.old.journal.disk)
+            (λ stop. (source : ℕ) → FollowEnd source source
+            (D.faults self.old.journal.disk) (D.faults self.new.journal.disk) stop) }
         ensures count { OnOk result (self.new.taken ≤ self.old.taken + 1) }
-        ensures takes { IsRightCore self.old.core → OnOk result (Takes numbered.number numbered.transaction self.old.core self.old.taken self.new.core self.new.taken) }
-        ensures stops { IsRightCore self.old.core → IfErr result (StopsTaking self.old.core numbered.number numbered.transaction) }
+        ensures takes { IsRightCore self.old.core → OnOk result (Takes numbered.number numbered.transaction
+            self.old.core self.old.taken self.new.core self.new.taken) }
+        ensures stops { IsRightCore self.old.core
+            → IfErr result (StopsTaking self.old.core numbered.number numbered.transaction) }
     {
         let Numbered {
             number,
@@ -126,14 +140,21 @@ impl<D: Disk + Drop> Standby<D> {
 
     /// Takes the payload of the frame at a place, which has to be the record of this number.
     fn take_payload(&mut self, place: u64, number: u64, payload: &[u8]) -> Result<(), FollowStop>
-        requires open { D.tells → IsOpen D.seen D.images self.old.journal.log self.old.journal.disk (summary self.old.core) }
+        requires open { D.tells
+            → IsOpen D.seen D.images self.old.journal.log self.old.journal.disk (summary self.old.core) }
         requires room { self.old.taken < 2 ^ 64 - 1 }
-        ensures kept { OnOk result (D.tells → IsOpen D.seen D.images self.new.journal.log self.new.journal.disk (summary self.new.core)) }
-        ensures makes { Makes D.tells D.moment D.left_since self.old.journal.disk self.new.journal.disk (summary self.old.core) (λ s. OnOk result (summary self.new.core ≡ s)) }
-        ensures cause { MatchResult result (λ _. D.faults self.new.journal.disk ≡ D.faults self.old.journal.disk) (λ stop. (source : ℕ) → FollowEnd source source (D.faults self.old.journal.disk) (D.faults self.new.journal.disk) stop) }
+        ensures kept { OnOk result (D.tells
+            → IsOpen D.seen D.images self.new.journal.log self.new.journal.disk (summary self.new.core)) }
+        ensures makes { MakesSteps D.tells D.moment D.left_since self.old.journal.disk self.new.journal.disk
+            self.old.core self.new.core result }
+        ensures cause { MatchResult result (λ _. D.faults self.new.journal.disk ≡ D.faults self.old.journal.disk)
+            (λ stop. (source : ℕ) → FollowEnd source source
+            (D.faults self.old.journal.disk) (D.faults self.new.journal.disk) stop) }
         ensures count { OnOk result (self.new.taken ≤ self.old.taken + 1) }
-        ensures takes { IsRightCore self.old.core → OnOk result (TakesPayload number payload.now self.old.core self.old.taken self.new.core self.new.taken) }
-        ensures stops { IsRightCore self.old.core → IfErr result (StopsPayload place number payload.now self.old.core) }
+        ensures takes { IsRightCore self.old.core → OnOk result (TakesPayload number payload.now
+            self.old.core self.old.taken self.new.core self.new.taken) }
+        ensures stops { IsRightCore self.old.core
+            → IfErr result (StopsPayload place number payload.now self.old.core) }
     {
         match decode(self.alloc, payload) {
             Ok(numbered) if numbered.number == number => self.take(numbered, payload),
@@ -146,14 +167,21 @@ impl<D: Disk + Drop> Standby<D> {
     /// Takes the payload of the frame at a place, which has to be the record of the number behind the last one;
     /// answers that number.
     fn take_next(&mut self, place: u64, last: u64, payload: &[u8]) -> Result<u64, FollowStop>
-        requires open { D.tells → IsOpen D.seen D.images self.old.journal.log self.old.journal.disk (summary self.old.core) }
+        requires open { D.tells
+            → IsOpen D.seen D.images self.old.journal.log self.old.journal.disk (summary self.old.core) }
         requires room { self.old.taken < 2 ^ 64 - 1 }
-        ensures kept { OnOk result (D.tells → IsOpen D.seen D.images self.new.journal.log self.new.journal.disk (summary self.new.core)) }
-        ensures makes { Makes D.tells D.moment D.left_since self.old.journal.disk self.new.journal.disk (summary self.old.core) (λ s. OnOk result (summary self.new.core ≡ s)) }
-        ensures cause { MatchResult result (λ _. D.faults self.new.journal.disk ≡ D.faults self.old.journal.disk) (λ stop. (source : ℕ) → FollowEnd source source (D.faults self.old.journal.disk) (D.faults self.new.journal.disk) stop) }
+        ensures kept { OnOk result (D.tells
+            → IsOpen D.seen D.images self.new.journal.log self.new.journal.disk (summary self.new.core)) }
+        ensures makes { MakesSteps D.tells D.moment D.left_since self.old.journal.disk self.new.journal.disk
+            self.old.core self.new.core result }
+        ensures cause { MatchResult result (λ _. D.faults self.new.journal.disk ≡ D.faults self.old.journal.disk)
+            (λ stop. (source : ℕ) → FollowEnd source source
+            (D.faults self.old.journal.disk) (D.faults self.new.journal.disk) stop) }
         ensures count { OnOk result (self.new.taken ≤ self.old.taken + 1) }
-        ensures takes { IsRightCore self.old.core → OnOk result (TakesPayload (last + 1) payload.now self.old.core self.old.taken self.new.core self.new.taken) }
-        ensures stops { IsRightCore self.old.core → IfErr result (StopsPayload place (last + 1) payload.now self.old.core) }
+        ensures takes { IsRightCore self.old.core → OnOk result (TakesPayload (last + 1) payload.now
+            self.old.core self.old.taken self.new.core self.new.taken) }
+        ensures stops { IsRightCore self.old.core
+            → IfErr result (StopsPayload place (last + 1) payload.now self.old.core) }
         ensures number { IfOk result (λ number. number ≡ last + 1) }
     {
         let Some(number) = last.checked_add(1) else {
@@ -192,12 +220,20 @@ impl<D: Disk + Drop> Standby<D> {
         blocks: &mut Blocks,
         from: u64,
     ) -> Result<(), FollowStop>
-        requires open { D.tells → IsOpen D.seen D.images self.old.journal.log self.old.journal.disk (summary self.old.core) }
+        requires open { D.tells
+            → IsOpen D.seen D.images self.old.journal.log self.old.journal.disk (summary self.old.core) }
         requires counted { self.old.taken ≤ blocks.old.place }
-        ensures kept { OnOk result (D.tells → IsOpen D.seen D.images self.new.journal.log self.new.journal.disk (summary self.new.core)) }
-        ensures makes { Makes D.tells D.moment D.left_since self.old.journal.disk self.new.journal.disk (summary self.old.core) (λ s. OnOk result (summary self.new.core ≡ s)) }
-        ensures cause { MatchResult result (λ _. (S.faults src.new ≡ S.faults src.old) × (D.faults self.new.journal.disk ≡ D.faults self.old.journal.disk)) (FollowEnd (S.faults src.old) (S.faults src.new) (D.faults self.old.journal.disk) (D.faults self.new.journal.disk)) }
-        ensures follows { IsRightCore self.old.core → FollowsFrames (stage self.old.core self.old.taken from blocks.old (S.left src.old)) (ahead blocks.new (S.left src.new)) self.new.core self.new.taken result }
+        ensures kept { OnOk result (D.tells
+            → IsOpen D.seen D.images self.new.journal.log self.new.journal.disk (summary self.new.core)) }
+        ensures makes { MakesSteps D.tells D.moment D.left_since self.old.journal.disk self.new.journal.disk
+            self.old.core self.new.core result }
+        ensures cause { MatchResult result (λ _. (S.faults src.new ≡ S.faults src.old)
+            × (D.faults self.new.journal.disk ≡ D.faults self.old.journal.disk))
+            (FollowEnd (S.faults src.old) (S.faults src.new)
+            (D.faults self.old.journal.disk) (D.faults self.new.journal.disk)) }
+        ensures follows { IsRightCore self.old.core
+            → FollowsFrames (stage self.old.core self.old.taken from blocks.old (S.left src.old))
+            (ahead blocks.new (S.left src.new)) self.new.core self.new.taken result }
         ensures dry { IfErr result (λ e. e ≡ stop.ReadFault → blocks.new.held ≡ []) }
     {
         let mut payload = Vec::new(self.alloc);
@@ -213,12 +249,19 @@ impl<D: Disk + Drop> Standby<D> {
 
     /// Takes a stream.
     fn take_stream<S: Source>(&mut self, src: &mut S) -> Result<Followed, FollowStop>
-        requires open { D.tells → IsOpen D.seen D.images self.old.journal.log self.old.journal.disk (summary self.old.core) }
+        requires open { D.tells
+            → IsOpen D.seen D.images self.old.journal.log self.old.journal.disk (summary self.old.core) }
         requires none { self.old.taken ≡ 0 }
-        ensures kept { OnOk result (D.tells → IsOpen D.seen D.images self.new.journal.log self.new.journal.disk (summary self.new.core)) }
-        ensures makes { Makes D.tells D.moment D.left_since self.old.journal.disk self.new.journal.disk (summary self.old.core) (λ s. OnOk result (summary self.new.core ≡ s)) }
-        ensures cause { MatchResult result (λ _. (S.faults src.new ≡ S.faults src.old) × (D.faults self.new.journal.disk ≡ D.faults self.old.journal.disk)) (FollowEnd (S.faults src.old) (S.faults src.new) (D.faults self.old.journal.disk) (D.faults self.new.journal.disk)) }
-        ensures follows { IsRightCore self.old.core → FollowsSource (λ core. core ≡ self.new.core) self.old.core (S.left src.old) (S.left src.new) result }
+        ensures kept { OnOk result (D.tells
+            → IsOpen D.seen D.images self.new.journal.log self.new.journal.disk (summary self.new.core)) }
+        ensures makes { MakesSteps D.tells D.moment D.left_since self.old.journal.disk self.new.journal.disk
+            self.old.core self.new.core result }
+        ensures cause { MatchResult result (λ _. (S.faults src.new ≡ S.faults src.old)
+            × (D.faults self.new.journal.disk ≡ D.faults self.old.journal.disk))
+            (FollowEnd (S.faults src.old) (S.faults src.new)
+            (D.faults self.old.journal.disk) (D.faults self.new.journal.disk)) }
+        ensures follows { IsRightCore self.old.core → FollowsSource (λ core. core ≡ self.new.core)
+            self.old.core (S.left src.old) (S.left src.new) result }
     {
         let mut blocks = Blocks::new(self.alloc)?;
         let mut bytes = Vec::new(self.alloc);
@@ -243,9 +286,13 @@ pub fn follow<S: Source, D: Disk + Drop>(
     src: &mut S,
     disk: D,
 ) -> (Result<Followed, FollowStop>, D)
-    ensures kept { D.tells → Only (D.seen disk) (D.images disk) → KeepsOrServes D.tells D.moment D.left_since D.seen D.images disk result.1 (IsOk result.0) }
-    ensures cause { MatchResult result.0 (λ _. (S.faults src.new ≡ S.faults src.old) × (D.faults result.1 ≡ D.faults disk)) (FollowEnd (S.faults src.old) (S.faults src.new) (D.faults disk) (D.faults result.1)) }
-    ensures follows { (MatchResult result.0 (λ _. ⊥) (IsNotOpened (λ stop. D.tells → IsUnopened (D.seen disk) stop)) × Keeps (S.left src.old) (S.left src.new))
+    ensures kept { D.tells → Only (D.seen disk) (D.images disk)
+        → KeepsOrServes D.tells D.moment D.left_since D.seen D.images disk result.1 (IsOk result.0) }
+    ensures cause { MatchResult result.0 (λ _. (S.faults src.new ≡ S.faults src.old)
+        × (D.faults result.1 ≡ D.faults disk))
+        (FollowEnd (S.faults src.old) (S.faults src.new) (D.faults disk) (D.faults result.1)) }
+    ensures follows { (MatchResult result.0 (λ _. ⊥) (IsNotOpened (λ stop. D.tells → IsUnopened (D.seen disk) stop))
+        × Keeps (S.left src.old) (S.left src.new))
         ⊎ FollowsOpened D.tells (D.seen disk) (D.images result.1) (S.left src.old) (S.left src.new) result.0 }
 {
     let mut disk = disk;

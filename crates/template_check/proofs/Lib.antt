@@ -10,6 +10,7 @@ pub mod Calling
 pub mod ProcessNames
 pub mod Together
 pub mod Meaning
+pub mod Numbers
 pub mod Resolutions
 pub mod Walking
 pub mod Performers

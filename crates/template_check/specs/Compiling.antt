@@ -1,21 +1,28 @@
 -- What a text compiles to: a template for each of its processes, in the order of the text.
-use Rattle.std.specs.Prelude.{◌≡◌, ℕ, List, length, map}
+use Rattle.std.specs.Prelude.{◌≡◌, ℕ, ◌-◌, ◌^◌, min, Some, List, length, map, slice_get}
 use Rattle.fdl_lexer.specs.Tokens.{AreTokens}
 use Rattle.fdl_lexer.specs.declared.kinds.Token.{Token}
 use Rattle.fdl_parser.specs.Items.{IsTree}
 use Rattle.fdl_parser.specs.Tokens.{spell}
+use Rattle.flow_model.specs.declared.graphs.Library.{Library}
+use Rattle.flow_model.specs.declared.graphs.PersonDef.{PersonDef}
 use Rattle.flow_model.specs.declared.graphs.Template.{Template}
 use Rattle.flow_model.specs.declared.trees.ItemTree.{ItemTree}
+use Rattle.flow_model.specs.declared.trees.PersonTree.{PersonTree}
+use Rattle.flow_model.specs.declared.trees.ProcessTree.{ProcessTree}
 use Rattle.flow_model.specs.declared.trees.Tree.{Tree}
 use Rattle.template_check.specs.Built.{AreSoundBehind}
-use Rattle.process_rules.specs.Imports.{IsIndexed}
+use Rattle.process_rules.specs.Imports.{IsIndexed, next_version}
 use Rattle.process_rules.specs.Knowing.{place_named}
+use Rattle.process_rules.specs.Shapes.{shape_at, shapes_of}
 use Rattle.process_rules.specs.declared.catalog.Catalog.{Catalog}
+use Rattle.process_rules.specs.declared.sizes.Shape.{Shape}
 use Rattle.template_check.specs.Meant.{Reading, AreMeantFrom}
 use Rattle.leaf_rules.specs.StructureLeaves.{Leafing, leaves_in}
 use Rattle.leaf_rules.specs.Tables.{HasContainers}
 use Rattle.text_graphs.specs.Graphs.{GraphAt, IsGraphOf}
-use Rattle.text_graphs.specs.Texts.{processes_in, structures_in}
+use Rattle.text_graphs.specs.Texts.{people_in, processes_in, structures_in}
+use Rattle.template_check.specs.declared.compiling.Compiled.{Compiled}
 
 -- this is the tree of a text
 pub record HasTree (text : List ℕ) (tree : Tree) : Type 0 where
@@ -41,13 +48,35 @@ pub record IsReading (earlier : Catalog) (items : List ItemTree) (reading : Read
   pub leaves : AreLeavesOf items reading.leaves
   pub places : IsIndexed earlier → (number : ℕ) (name : List ℕ) → reading.place number name ≡ place_named earlier (processes_in items) number name
 
--- templates that a tree compiles to behind a library: sound, named as the processes, and their graphs meant by them
-pub record AreBuilt (earlier : Catalog) (items : List ItemTree) (ts : List Template) : Type 0 where
-  pub sound : AreSoundBehind (length earlier.library.templates) ts
-  pub named : template_names ts ≡ process_names items
+-- a template has the depth and the size of this shape, as far as 32 bits tell them
+pub record HasShape (t : Template) (shape : Shape) : Type 0 where
+  pub depth : t.depth ≡ min shape.depth (2 ^ 32 - 1)
+  pub size : t.size ≡ min shape.size (2 ^ 32 - 1)
+
+-- templates have the versions that come next behind a library, and the depths and sizes of the processes of the text
+pub record HaveNumbers (library : Library) (processes : List ProcessTree) (ts : List Template) : Type 0 where
+  pub versions : map (λ t. t.version) ts ≡ map (λ p. next_version library p.name.name) processes
+  pub shaped : (number : ℕ) (t : Template) → slice_get ts number ≡ Some t
+      → HasShape t (shape_at (shapes_of library processes) number)
+
+-- the person that an item declares, with its roles in order
+abbrev pub declared_person : PersonTree → PersonDef
+declared_person p = record { name = p.name.name; roles = map (λ role. role.name) p.roles }
+
+-- the persons of a text, in order; of two of one name the later is in force
+abbrev pub declared_people : List ItemTree → List PersonDef
+declared_people items = map declared_person (people_in items)
+
+-- what a tree compiles to behind a library: templates that are sound, named as the processes and numbered, whose graphs
+-- are meant by them, and the persons that it declares
+pub record AreBuilt (earlier : Catalog) (items : List ItemTree) (compiled : Compiled) : Type 0 where
+  pub people : compiled.people ≡ declared_people items
+  pub numbered : IsIndexed earlier → HaveNumbers earlier.library (processes_in items) compiled.templates
+  pub sound : AreSoundBehind (length earlier.library.templates) compiled.templates
+  pub named : template_names compiled.templates ≡ process_names items
   pub reading : Reading
   pub read : IsReading earlier items reading
-  pub meant : AreMeantFrom reading 0 (processes_in items) ts
+  pub meant : AreMeantFrom reading 0 (processes_in items) compiled.templates
 
 -- what a text compiles to is named as its processes
 pub record IsNamedBy (text : List ℕ) (ts : List Template) : Type 0 where
@@ -56,10 +85,17 @@ pub record IsNamedBy (text : List ℕ) (ts : List Template) : Type 0 where
   pub named : template_names ts ≡ process_names tree.items
 
 -- the graphs of what a text compiles to are those of its processes, in order: there is one reading of its names, the same
--- for all of them, by which each is meant
+-- for all of them, by which each is meant; their versions, depths and sizes are those that the library and the text give
 pub record IsMeantBy (text : List ℕ) (earlier : Catalog) (ts : List Template) : Type 0 where
   pub tree : Tree
   pub has : HasTree text tree
   pub reading : Reading
   pub read : IsReading earlier tree.items reading
   pub meant : AreMeantFrom reading 0 (processes_in tree.items) ts
+  pub numbered : IsIndexed earlier → HaveNumbers earlier.library (processes_in tree.items) ts
+
+-- the persons of what a text compiles to are those that it declares
+pub record HasPeopleOf (text : List ℕ) (people : List PersonDef) : Type 0 where
+  pub tree : Tree
+  pub has : HasTree text tree
+  pub declared : people ≡ declared_people tree.items

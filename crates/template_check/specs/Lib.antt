@@ -4,3 +4,4 @@ pub mod Built
 pub mod Meant
 pub mod Compiling
 pub mod Judged
+pub mod Numbered

@@ -4,6 +4,9 @@ ghost use Rattle.std.specs.List.{All};
 ghost use Rattle.template_check.specs.Built.{end_in, IsDrawn, IsSound, IsSoundAlone, IsSoundInside, IsSoundWork};
 ghost use Rattle.conditions.specs.Resolving.{IsResolved};
 ghost use Rattle.text_graphs.specs.Attributes.{first_said, join_said, joined_by, expires_said, expires_by, exit_said, doer_said, done_by, program_by};
+ghost use Rattle.process_rules.specs.Imports.{IsIndexed, next_version};
+ghost use Rattle.template_check.specs.Compiling.{declared_person};
+ghost use Rattle.template_check.specs.Numbered.{HasToldShape};
 ghost use Rattle.process_rules.specs.Calling.{place_behind, place_meant, IsCalling, IsCallingWork};
 ghost use Rattle.text_graphs.specs.GraphTexts.{text_of, process_text};
 ghost use Rattle.leaf_rules.specs.Leaves.{table_leaves, with_code, output_leaves, line_source, line_target};
@@ -546,6 +549,9 @@ impl<'a> Builder<'a> {
         ensures sound { IfOk result (λ template. IsSoundAlone template.graph) }
         ensures calls { IfOk result (λ template. IsCalling (place_behind self.now.known.catalog.now number) template.graph) }
         ensures meant { IfOk result (λ template. IsMeant (reading_of self.now) (process_text number process.now) template.graph) }
+        ensures version { IsIndexed self.now.known.catalog.now
+            → IfOk result (λ template. template.version ≡ next_version self.now.known.catalog.now.library process.now.name.name) }
+        ensures shape { IfOk result (λ template. HasToldShape template shape) }
     {
         let (input, output) = (&process.input, &process.output);
         let elements = process.elements.as_slice();
@@ -560,7 +566,9 @@ impl<'a> Builder<'a> {
     }
 
     /// A person with the roles.
-    pub fn person(&self, person: &'a PersonTree) -> Result<PersonDef, AllocError> {
+    pub fn person(&self, person: &'a PersonTree) -> Result<PersonDef, AllocError>
+        ensures { IfOk result (λ made. made ≡ declared_person person.now) }
+    {
         let mut roles = List::new(self.alloc);
         for role in person.roles.as_slice() {
             roles.push(role.name.copy(self.alloc)?)?;

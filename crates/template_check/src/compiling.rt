@@ -9,9 +9,9 @@ ghost use Rattle.leaf_rules.specs.Tables.{HasContainers};
 ghost use Rattle.process_rules.specs.Doers.{NamesNoPerformer};
 ghost use Rattle.process_rules.specs.Imports.{IsIndexed};
 ghost use Rattle.process_rules.specs.Knowing.{IsKnowing};
-ghost use Rattle.process_rules.specs.Shapes.{shapes_of, told_shape};
+ghost use Rattle.process_rules.specs.Shapes.{shape_at, shapes_of, told_shape};
 ghost use Rattle.template_check.specs.Built.{AreSoundBehind, AreSoundWithin, IsSound};
-ghost use Rattle.template_check.specs.Compiling.{AreBuilt, AreLeavesOf, HasTree, IsNamedBy, IsMeantBy};
+ghost use Rattle.template_check.specs.Compiling.{AreBuilt, AreLeavesOf, HasPeopleOf, HasTree, IsNamedBy, IsMeantBy};
 ghost use Rattle.template_check.specs.Judged.{line_at, IsFault, IsEarlyFault, IsJudged};
 ghost use Rattle.template_check.specs.Rules.{fault_in, from_callees, from_connectors, from_leaves, from_sizes, later_rules, IsFirstBroken};
 ghost use Rattle.text_graphs.specs.Blocks.{lists_of, IsCovered};
@@ -100,7 +100,9 @@ fn built<'a>(
     requires performers { (p : ℕ) → InGraphs tree.now.items NamesNoPerformer p → ⊥ }
     requires leaves { AreLeavesOf tree.now.items (table_leaves builder.now.table) }
     requires knowing { IsKnowing builder.now.known (processes_in tree.now.items) }
-    ensures { IfOk result (λ compiled. AreBuilt builder.now.known.catalog.now tree.now.items compiled.templates) }
+    requires shapes { IsIndexed builder.now.known.catalog.now
+        → shapes.now ≡ map told_shape (shapes_of builder.now.known.catalog.now.library (processes_in tree.now.items)) }
+    ensures { IfOk result (AreBuilt builder.now.known.catalog.now tree.now.items) }
 {
     let mut templates = List::new(builder.alloc);
     let mut people = List::new(builder.alloc);
@@ -120,7 +122,9 @@ fn built<'a>(
 }
 
 /// The shape of the process of this number.
-fn shape_of(shapes: &[Shape], number: usize) -> Shape {
+fn shape_of(shapes: &[Shape], number: usize) -> Shape
+    ensures { result ≡ shape_at shapes.now number }
+{
     let shape = shapes.get(number).copied();
     shape.unwrap_or(Shape { depth: 0, size: 0 })
 }
@@ -145,7 +149,7 @@ fn sized_and_built<'a>(
     requires leaves { AreLeavesOf tree.now.items (table_leaves builder.now.table) }
     requires knowing { IsKnowing builder.now.known (processes_in tree.now.items) }
     requires shapes { IsIndexed builder.now.known.catalog.now → shapes.now ≡ map told_shape (shapes_of builder.now.known.catalog.now.library (processes_in tree.now.items)) }
-    ensures built { IfOk result (λ judged. IfOk judged (λ compiled. AreBuilt builder.now.known.catalog.now tree.now.items compiled.templates)) }
+    ensures built { IfOk result (λ judged. IfOk judged (AreBuilt builder.now.known.catalog.now tree.now.items)) }
     ensures first { IsIndexed builder.now.known.catalog.now → IfOk result (λ judged. IsFirstBroken (from_sizes builder.now.known.catalog.now.library tree.now.items) (fault_in judged)) }
 {
     let known = &builder.known;
@@ -175,7 +179,7 @@ fn called_and_built<'a>(
     requires sound { AreSoundWithin scopes.now (processes_in tree.now.items) }
     requires structures { behind table.structures.definitions.items ≡ structures_in tree.now.items }
     requires leaves { All (λ s. HasContainers (leaves_in (structures_in tree.now.items)) (table_leaves table) (graph_at s)) scopes.now }
-    ensures built { IfOk result (λ judged. IfOk judged (λ compiled. AreBuilt earlier.now tree.now.items compiled.templates)) }
+    ensures built { IfOk result (λ judged. IfOk judged (AreBuilt earlier.now tree.now.items)) }
     ensures first { IsIndexed earlier.now → IfOk result (λ judged. IsFirstBroken (from_callees earlier.now.library tree.now.items) (fault_in judged)) }
 {
     let known = Known::new(alloc, tree, earlier)?;
@@ -208,7 +212,7 @@ fn read_and_built<'a>(
     requires covered { All (λ p. IsCovered (lists_of scopes.now) p.elements) (processes_in tree.now.items) }
     requires named { All (λ s. AreNamesApart s.elements.now) scopes.now }
     requires connected { All (λ s. IsConnected s.elements.now) scopes.now }
-    ensures built { IfOk result (λ judged. IfOk judged (λ compiled. AreBuilt earlier.now tree.now.items compiled.templates)) }
+    ensures built { IfOk result (λ judged. IfOk judged (AreBuilt earlier.now tree.now.items)) }
     ensures first { IsIndexed earlier.now → IfOk result (λ judged. IsFirstBroken (from_leaves earlier.now.library tree.now.items) (fault_in judged)) }
 {
     let table = LeafTable::new(alloc, structures, scopes)?;
@@ -234,7 +238,7 @@ fn connected_and_built<'a>(
     requires counted { AreCounted (behind structures.definitions.items) structures.counts.items }
     requires covered { All (λ p. IsCovered (lists_of scopes.now) p.elements) (processes_in tree.now.items) }
     requires named { All (λ s. AreNamesApart s.elements.now) scopes.now }
-    ensures built { IfOk result (λ judged. IfOk judged (λ compiled. AreBuilt earlier.now tree.now.items compiled.templates)) }
+    ensures built { IfOk result (λ judged. IfOk judged (AreBuilt earlier.now tree.now.items)) }
     ensures first { IsIndexed earlier.now → IfOk result (λ judged. IsFirstBroken (from_connectors earlier.now.library tree.now.items) (fault_in judged)) }
 {
     match first_of_connectors(alloc, tree, scopes)? {
@@ -245,7 +249,7 @@ fn connected_and_built<'a>(
 
 /// What a tree adds to the library, or the first rule from 4 on that it breaks.
 fn compile_tree(alloc: Global, tree: &Tree, earlier: &Catalog) -> Result<Judged, AllocError>
-    ensures built { IfOk result (λ judged. IfOk judged (λ compiled. AreBuilt earlier.now tree.now.items compiled.templates)) }
+    ensures built { IfOk result (λ judged. IfOk judged (AreBuilt earlier.now tree.now.items)) }
     ensures first { IsIndexed earlier.now → IfOk result (λ judged. IsFirstBroken (later_rules earlier.now.library tree.now.items) (fault_in judged)) }
 {
     let scopes = text_scopes(alloc, tree)?;
@@ -266,6 +270,7 @@ pub fn compile(alloc: Global, text: &[u8], earlier: &Catalog) -> Result<Compiled
     ensures sound { IfOk result (λ compiled. AreSoundBehind (length earlier.now.library.templates) compiled.templates) }
     ensures named { IfOk result (λ compiled. IsNamedBy text.now compiled.templates) }
     ensures meant { IfOk result (λ compiled. IsMeantBy text.now earlier.now compiled.templates) }
+    ensures people { IfOk result (λ compiled. HasPeopleOf text.now compiled.people) }
     ensures judged { IsIndexed earlier.now → IsJudged earlier.now.library text.now result }
 {
     let tree = syntax_tree(alloc, text)?;

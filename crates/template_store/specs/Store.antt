@@ -1,8 +1,7 @@
 -- The library of the imports, and what an import adds to it.
 use Rattle.std.specs.Prelude.{◌≡◌, ℕ, ◌==◌, ◌^◌, ◌≤◌, ◌&&◌, Bool, true, false, Result, Ok, Err, Option, List, ◌++◌, length, position, bytes_eq}
 use Rattle.flow_model.specs.declared.graphs.Library.{Library}
-use Rattle.flow_model.specs.declared.graphs.Template.{Template}
-use Rattle.template_check.specs.Compiling.{IsNamedBy, IsMeantBy}
+use Rattle.template_check.specs.Compiling.{HasPeopleOf, IsNamedBy, IsMeantBy}
 use Rattle.process_rules.specs.Imports.{IsIndexed}
 use Rattle.process_rules.specs.declared.catalog.Catalog.{Catalog}
 use Rattle.template_check.specs.declared.faults.ImportFault.{ImportFault}
@@ -17,13 +16,15 @@ version_place library name version = position (λ t. t.version == version && byt
 abbrev pub with_compiled : Library → Compiled → Library
 with_compiled library added = record { templates = library.templates ++ added.templates; people = library.people ++ added.people }
 
--- a library gets the templates of the processes of a text behind those that it has: they are named as these processes, and
--- their graphs are what the text means, where its names are looked up in it and then in the library before
-pub record AddsProcessesOf (text : List ℕ) (old : Catalog) (new : Library) : Type 0 where
-  pub added : List Template
-  pub named : IsNamedBy text added
-  pub meant : IsMeantBy text old added
-  pub behind : new.templates ≡ old.library.templates ++ added
+-- A library gets what a text compiles to behind what it has: the templates of its processes, named as these, whose graphs
+-- are what the text means, where its names are looked up in it and then in the library before, with their versions,
+-- depths and sizes; and the persons that it declares.
+pub record AddsText (text : List ℕ) (old : Catalog) (new : Library) : Type 0 where
+  pub added : Compiled
+  pub named : IsNamedBy text added.templates
+  pub meant : IsMeantBy text old added.templates
+  pub people : HasPeopleOf text added.people
+  pub behind : new ≡ with_compiled old.library added
 
 -- a text is refused for a rule that it breaks
 abbrev pub is_refusal : {X : Type 0} → Result X ImportFault → Bool

@@ -1,11 +1,11 @@
 //! The imports so far.
 ghost use Rattle.std.specs.Prelude.{◌≡◌, ◌-◌, ◌^◌, ◌<◌, ◌≤◌, ◌+◌, [], ◌++◌, min, length, slice_get, option_copied, Some, OnOk, IfOk, IfSome, ◌==◌, ◌&&◌, position, bytes_eq, true};
 ghost use Rattle.template_check.specs.Built.{AreSound, AreSoundBehind};
-ghost use Rattle.template_check.specs.Compiling.{IsNamedBy, IsMeantBy};
+ghost use Rattle.template_check.specs.Compiling.{HasPeopleOf, IsNamedBy, IsMeantBy};
 ghost use Rattle.template_check.specs.Judged.{IsJudged};
 ghost use Rattle.process_rules.specs.Imports.{IsIndexed, newest_place, latest_person};
 ghost use Rattle.template_check.specs.declared.compiling.Compiled.{Compiled as Added};
-ghost use Rattle.template_store.specs.Store.{version_place, with_compiled, is_refusal, AddsProcessesOf, IsSmall, KeepsIndex};
+ghost use Rattle.template_store.specs.Store.{version_place, with_compiled, is_refusal, AddsText, IsSmall, KeepsIndex};
 
 use flow_model::{Library, Name, PersonDef, Template};
 use std::alloc::{AllocError, Global};
@@ -34,6 +34,7 @@ impl TemplateStore {
         ensures sound { IfOk result (λ compiled. AreSoundBehind (length self.now.catalog.library.templates) compiled.templates) }
         ensures named { IfOk result (λ compiled. IsNamedBy text.now compiled.templates) }
         ensures meant { IfOk result (λ compiled. IsMeantBy text.now self.now.catalog compiled.templates) }
+        ensures people { IfOk result (λ compiled. HasPeopleOf text.now compiled.people) }
         ensures judged { IsIndexed self.now.catalog → IsJudged self.now.catalog.library text.now result }
     {
         compile(alloc, text, &self.catalog)
@@ -44,7 +45,7 @@ impl TemplateStore {
     /// been added, the last one with no name that leads to it.
     pub fn import(&mut self, alloc: Global, text: &[u8]) -> Result<u32, ImportFault>
         ensures added { IfOk result (λ count. (added : Added) × (count ≡ min (length added.templates) (2 ^ 32 - 1)) × (self.new.catalog.library ≡ with_compiled self.old.catalog.library added)) }
-        ensures of_text { OnOk result (AddsProcessesOf text.now self.old.catalog self.new.catalog.library) }
+        ensures of_text { OnOk result (AddsText text.now self.old.catalog self.new.catalog.library) }
         ensures indexed { OnOk result (IsIndexed self.old.catalog → IsIndexed self.new.catalog) }
         ensures refused { is_refusal result ≡ true → self.new ≡ self.old }
         ensures judged { IsIndexed self.old.catalog → IsJudged self.old.catalog.library text.now result }

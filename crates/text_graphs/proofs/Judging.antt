@@ -1,8 +1,6 @@
 -- What the rules on connectors and data lines tell of the edges of a graph.
 use Rattle.std.proofs.Common.{◌≡◌, ℕ, zero, suc, ◌<◌, ◌≤◌, true, List, [], ◌∷◌, length, get_or, map, Option, Some, None, Bor, refl, sym, ap, subst, ◌∙◌, arith}
 use Rattle.std.specs.List.{All, AllWithin, Contains, filter_map, cons_option}
-use Rattle.std.specs.Option.{is_some}
-use Rattle.std.specs.Prelude.{MatchOption}
 use Rattle.std.proofs.Math.ListN.{get_or-map}
 use Rattle.std.proofs.lemmas.List.{length-map}
 use Rattle.std.proofs.lemmas.List.Elements.{All-contains, All-map, All-same, All-from_all_within, AllWithin-upto}
@@ -10,8 +8,7 @@ use Rattle.flow_model.specs.declared.trees.ElementTree.{ElementTree}
 use Rattle.flow_model.specs.declared.trees.EndTree.TheVariants.{Border, Activity as At}
 use Rattle.flow_model.specs.declared.trees.EndsTree.{EndsTree}
 use Rattle.flow_model.specs.declared.trees.EndsTree.TheVariants as ends
-use Rattle.graph_check.proofs.NoReturn.{no_return}
-use Rattle.graph_check.specs.Walks.{HasEdge, IsWalk, IsClosedWalk, Reaches, AreNodes, IsOrder}
+use Rattle.graph_check.specs.Walks.{HasEdge, IsWalk, IsClosedWalk, Reaches}
 use Rattle.text_graphs.specs.ClosedWalks.{IsAcyclic, IsCyclic}
 use Rattle.text_graphs.specs.Texts.{activities_in, controls_in, number_in, pair_of, line_edge, edge_of, edges_in, IsNotClosing}
 use Rattle.text_graphs.proofs.Naming.{first_below}
@@ -90,16 +87,6 @@ never_cyclic edges acyclic cyclic = go cyclic.0 cyclic.1
     go : (walk : List ℕ) → IsClosedWalk edges walk → ⊥
     go [] h = h
     go (a ∷ through) h = acyclic a (through, h)
-
-pub acyclic_by_order : (nodes : ℕ) (edges : List (ℕ × ℕ)) (order : List ℕ) → AreNodes nodes edges → IsOrder nodes edges order → IsAcyclic edges
-acyclic_by_order nodes edges order within ordered a closed =
-    let first = begins edges a closed.0 closed.1 in
-    let inside = All-contains (λ (e : ℕ × ℕ). (e.0 < nodes) × (e.1 < nodes)) edges (a, first.0) within first.1 in
-    no_return nodes edges order ordered a inside.0 closed
-
-pub acyclic_where_found : (nodes : ℕ) (edges : List (ℕ × ℕ)) (found : Option (List ℕ)) → AreNodes nodes edges → MatchOption found (IsCyclic edges) (IsOrder nodes edges) → is_some found ≡ true → IsAcyclic edges
-acyclic_where_found nodes edges None within h some = cc
-acyclic_where_found nodes edges (Some order) within h some = acyclic_by_order nodes edges order within h
 
 pub acyclic_by_controls : (elements : List ElementTree) → All (IsNotClosing elements) (controls_in elements) → IsAcyclic (edges_in elements)
 acyclic_by_controls elements all a closed =

@@ -27,7 +27,7 @@ use Rattle.process_rules.specs.Imports.{IsIndexed}
 use Rattle.process_rules.specs.Knowing.{place_named, stored_named}
 use Rattle.text_graphs.specs.Texts.{processes_in}
 use Rattle.process_rules.specs.declared.catalog.Catalog.{Catalog}
-use Rattle.template_store.specs.Store.{AddsProcessesOf}
+use Rattle.template_store.specs.Store.{AddsText}
 use Rattle.template_check.proofs.Together.{laid_together, well_together}
 use Rattle.text_words.specs.Answers.{Refuses}
 use Rattle.text_words.specs.FateAnswers.{fates_text, fates_by, number_named, TellsFates, IsMeantAlone, IsOfLast}
@@ -66,7 +66,7 @@ pub record HasFates (ts : List Template) (g : Graph) (input : Container) (facts 
 
 module _ {E : Type 0} (r : Result Answer E) (ts : List Template) (t : Template) (read : Read) (input : Container) (facts : List Fact) where
   -- a completion isn't ready
-  pub answers_not_ready : (fault : FateFault) (n line : ℕ) → slice_get ts (length ts - 1) ≡ Some t → input ≡ fresh (out-Graph t.graph).input → facts ≡ read.facts.items → fault ≡ NotReady n
+  pub answers_not_ready : (fault : FateFault) (n line : ℕ) → slice_get ts (length ts - 1) ≡ Some t → input ≡ fresh (out-Graph t.graph).input → facts ≡ read.counted.facts.items → fault ≡ NotReady n
       → line ≡ unwrap_or (slice_get read.lines.items n) 0 → HasFault ts t.graph input facts fault
       → IfOk r (λ answer. Refuses answer (codes "NOTREADY") (line ∷ []))
       → IfOk r (λ answer. IsOfLast answer ts t read)
@@ -74,7 +74,7 @@ module _ {E : Type 0} (r : Result Answer E) (ts : List Template) (t : Template) 
       let g = t.graph in
       let one = subst (λ (f : FateFault). HasFault ts g input facts f) is has in
       let two = subst (λ (fs : List Fact). HasFault ts g input fs (NotReady n)) these one in
-      let three = subst (λ (i : Container). HasFault ts g i read.facts.items (NotReady n)) same two in
+      let three = subst (λ (i : Container). HasFault ts g i read.counted.facts.items (NotReady n)) same two in
       IfOk-weaker r (λ (answer : Answer). Refuses answer (codes "NOTREADY") (line ∷ [])) (λ (answer : Answer). IsOfLast answer ts t read)
       (λ (answer : Answer) says.
       record {
@@ -91,15 +91,15 @@ module _ {E : Type 0} (r : Result Answer E) (ts : List Template) (t : Template) 
       }) h
 
   -- the fates are told, or a line can't be accepted
-  pub answers_accepted : (shown : List FateRow) (out : Option Container) → slice_get ts (length ts - 1) ≡ Some t → input ≡ fresh (out-Graph t.graph).input → facts ≡ read.facts.items
+  pub answers_accepted : (shown : List FateRow) (out : Option Container) → slice_get ts (length ts - 1) ≡ Some t → input ≡ fresh (out-Graph t.graph).input → facts ≡ read.counted.facts.items
       → HasFates ts t.graph input facts shown out
       → IfOk r (λ answer. TellsFates answer (fates_text (out-Graph t.graph).output shown out) read.fault)
       → IfOk r (λ answer. IsOfLast answer ts t read)
   answers_accepted shown out there same these has h =
       let g = t.graph in
       let one = subst (λ (fs : List Fact). HasFates ts g input fs shown out) these has in
-      let two = subst (λ (i : Container). HasFates ts g i read.facts.items shown out) same one in
-      let text : fates_text (out-Graph g).output shown out ≡ fates_by ts g read.facts.items = same_text (out-Graph g).output two.fates.rows two.fates.output in
+      let two = subst (λ (i : Container). HasFates ts g i read.counted.facts.items shown out) same one in
+      let text : fates_text (out-Graph g).output shown out ≡ fates_by ts g read.counted.facts.items = same_text (out-Graph g).output two.fates.rows two.fates.output in
       IfOk-weaker r (λ (answer : Answer). TellsFates answer (fates_text (out-Graph g).output shown out) read.fault) (λ (answer : Answer). IsOfLast answer ts t read)
       (λ (answer : Answer) says.
       record {
@@ -108,11 +108,12 @@ module _ {E : Type 0} (r : Result Answer E) (ts : List Template) (t : Template) 
       }) h
 
 -- what an import adds to a library that is empty is all of it
-all_added : (text : List ℕ) (old : Catalog) (new : Library) → old.library ≡ record { templates = []; people = [] } → (adds : AddsProcessesOf text old new) → new.templates ≡ adds.added
-all_added text old new empty adds = adds.behind ∙ ap (λ (l : Library). l.templates ++ adds.added) empty
+all_added : (text : List ℕ) (old : Catalog) (new : Library) → old.library ≡ record { templates = []; people = [] } → (adds : AddsText text old new) → new.templates ≡ adds.added.templates
+all_added text old new empty adds =
+    ap (λ (l : Library). l.templates) adds.behind ∙ ap (λ (l : Library). l.templates ++ adds.added.templates) empty
 
 -- and so they are the processes of the text
-pub named_alone : (text : List ℕ) (old : Catalog) (new : Library) → old.library ≡ record { templates = []; people = [] } → AddsProcessesOf text old new → IsNamedBy text new.templates
+pub named_alone : (text : List ℕ) (old : Catalog) (new : Library) → old.library ≡ record { templates = []; people = [] } → AddsText text old new → IsNamedBy text new.templates
 named_alone text old new empty adds = subst (IsNamedBy text) (sym (all_added text old new empty adds)) adds.named
 
 -- behind an empty library a process that is named is one of the text, and stands at the place of its number
@@ -127,7 +128,7 @@ place_alone earlier processes number name empty = by (number_named processes num
         ap (λ (l : Library). Some (length l.templates + before)) empty ∙ ap (λ (n : ℕ). Some n) behind_none
 
 -- and their graphs are what the text means
-pub meant_alone : (text : List ℕ) (old : Catalog) (new : Library) → IsIndexed old → old.library ≡ record { templates = []; people = [] } → AddsProcessesOf text old new → IsMeantAlone text new.templates
+pub meant_alone : (text : List ℕ) (old : Catalog) (new : Library) → IsIndexed old → old.library ≡ record { templates = []; people = [] } → AddsText text old new → IsMeantAlone text new.templates
 meant_alone text old new indexed empty adds =
     let meant = adds.meant in
     subst (IsMeantAlone text) (sym (all_added text old new empty adds))

@@ -18,7 +18,8 @@ use Rattle.flow_model.specs.declared.graphs.Template.{Template}
 use Rattle.flow_model.specs.declared.instances.Fact.{Fact}
 use Rattle.flow_model.specs.declared.instances.Path.{Path}
 use Rattle.flow_model.specs.declared.transactions.Setting.{Setting}
-use Rattle.text_words.specs.Completions.{IsWrongAt, Said, unsaid, said, with_fault, with_settings, next_of, NamesItem, program_at, SaysOf, SaysItem, SaysLine, SaysBehind, AreRead, IsRead, AreOfOne}
+use Rattle.text_words.specs.Attempts.{next_of}
+use Rattle.text_words.specs.Completions.{IsWrongAt, Said, unsaid, said, with_fault, with_settings, NamesItem, program_at, SaysOf, SaysItem, SaysLine, SaysBehind, AreRead, IsRead, AreOfOne}
 use Rattle.text_words.specs.declared.completions.LineFault.{LineFault}
 use Rattle.text_words.specs.declared.completions.LineFault.TheVariants.{Word, Target}
 use Rattle.text_words.specs.declared.completions.Read.{Read}
@@ -81,5 +82,5 @@ of_lines ts g [] old new h all = of_same new old h all
 of_lines ts g (line ∷ lines) old new h all = of_lines ts g lines h.0 new h.2 (of_next ts g line old.fault old h.0 h.1 all)
 
 -- the completions of lines are of root 1
-pub of_one : (ts : List Template) (g : Graph) (lines : List Numbered) (read : Read) → IsRead ts g lines read → AreOfOne read.facts.items
+pub of_one : (ts : List Template) (g : Graph) (lines : List Numbered) (read : Read) → IsRead ts g lines read → AreOfOne read.counted.facts.items
 of_one ts g lines read h = of_lines ts g lines unsaid (said read) h (All-nil (λ (fact : Fact). fact.item.root ≡ 1))

@@ -1,6 +1,6 @@
 -- What the lines behind a text say in turn: completions of root 1, up to the first line that can't be accepted.
-use Rattle.std.specs.Prelude.{◌≡◌, ◌⊎◌, ℕ, ◌+◌, ◌-◌, ◌^◌, ◌≤◌, ◌<◌, min, Bool, false, Option, Some, None, Result, Ok, Err, List, [], ◌∷◌, ◌++◌, length, bytes_eq}
-use Rattle.std.specs.List.{All, filter, find}
+use Rattle.std.specs.Prelude.{◌≡◌, ◌⊎◌, ℕ, ◌+◌, ◌-◌, ◌^◌, ◌≤◌, ◌<◌, min, Option, Some, None, Result, Ok, Err, List, [], ◌∷◌, ◌++◌, length, bytes_eq}
+use Rattle.std.specs.List.{All, find}
 use Rattle.std.specs.Option.{option_and_then}
 use Rattle.command_lang.specs.Reading.{AreLineTokens, SaysCompletion, IsOnlyCompletion, IsRefusal, RefusesFirst}
 use Rattle.command_lang.specs.Refusing.{SomeCompletion}
@@ -22,6 +22,7 @@ use Rattle.flow_model.specs.declared.instances.Fact.{Fact}
 use Rattle.flow_model.specs.declared.instances.Part.{Part}
 use Rattle.flow_model.specs.declared.instances.Path.{Path}
 use Rattle.flow_model.specs.declared.transactions.Setting.{Setting}
+use Rattle.text_words.specs.Attempts.{next_of}
 use Rattle.text_words.specs.Items.{WritesItem}
 use Rattle.text_words.specs.declared.completions.LineFault.{LineFault}
 use Rattle.text_words.specs.declared.completions.LineFault.TheVariants.{Word, Target, Value}
@@ -42,7 +43,7 @@ unsaid = record { facts = []; lines = []; fault = None }
 
 -- what a reading holds
 abbrev pub said : Read → Said
-said read = record { facts = read.facts.items; lines = read.lines.items; fault = read.fault }
+said read = record { facts = read.counted.facts.items; lines = read.lines.items; fault = read.fault }
 
 -- the line of this number says one more completion
 abbrev pub with_fact : ℕ → Fact → Said → Said
@@ -53,20 +54,6 @@ abbrev pub with_fault : ℕ → LineFault → Said → Said
 with_fault number fault s = record { facts = s.facts; lines = s.lines; fault = Some (number, fault) }
 
 -- ---- which item a line completes
-
--- the path is one step, to the activity of this name
-abbrev pub is_step_to : List ℕ → List Part → Bool
-is_step_to name [] = false
-is_step_to name (q ∷ []) = bytes_eq q.name name
-is_step_to name (q ∷ r ∷ qs) = false
-
--- how many attempts of an activity of the root scope are completed
-abbrev pub completed : List ℕ → List Fact → ℕ
-completed name facts = length (filter (λ (f : Fact). is_step_to name f.item.parts) facts)
-
--- the attempt behind these
-abbrev pub next_of : List ℕ → List Fact → Path
-next_of name facts = record { root = 1; parts = record { name = name; attempt = min (completed name facts + 1) (2 ^ 64 - 1) } ∷ [] }
 
 -- the item that a target names: the attempt of an activity of the root scope that may be ready, or the path that is written
 abbrev pub NamesItem : List Fact → TargetOf → Option Path → Type 0

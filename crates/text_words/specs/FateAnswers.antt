@@ -70,14 +70,14 @@ TellsFates answer text (Some fault) = RefusesLine answer fault.0 fault.1
 
 -- each completion is ready by those before it, and so the fates are told
 pub record IsAccepted (answer : Answer) (ts : List Template) (g : Graph) (read : Read) : Type 0 where
-  pub ready : AreReady ts g 1 (fresh (out-Graph g).input) read.facts.items (length read.facts.items)
-  pub tells : TellsFates answer (fates_by ts g read.facts.items) read.fault
+  pub ready : AreReady ts g 1 (fresh (out-Graph g).input) read.counted.facts.items (length read.counted.facts.items)
+  pub tells : TellsFates answer (fates_by ts g read.counted.facts.items) read.fault
 
 -- completion n is the first that isn't ready by those before it, and its line is named
 pub record IsNotReady (answer : Answer) (ts : List Template) (g : Graph) (read : Read) (n : ℕ) : Type 0 where
-  pub within : n < length read.facts.items
-  pub before : AreReady ts g 1 (fresh (out-Graph g).input) read.facts.items n
-  pub here : (f : Fact) → slice_get read.facts.items n ≡ Some f → IsReadyBy ts g 1 (fresh (out-Graph g).input) read.facts.items n f → ⊥
+  pub within : n < length read.counted.facts.items
+  pub before : AreReady ts g 1 (fresh (out-Graph g).input) read.counted.facts.items n
+  pub here : (f : Fact) → slice_get read.counted.facts.items n ≡ Some f → IsReadyBy ts g 1 (fresh (out-Graph g).input) read.counted.facts.items n f → ⊥
   pub refuses : Refuses answer (codes "NOTREADY") (unwrap_or (slice_get read.lines.items n) 0 ∷ [])
 
 -- the answer to the completions that were read

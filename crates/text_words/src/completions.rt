@@ -1,8 +1,10 @@
 //! The completion lines of `fate`, as far as the first one that can't be accepted.
 ghost use Rattle.std.specs.Prelude.{◌≡◌, Some, IfOk, OnOk};
 ghost use Rattle.std.specs.Option.{option_copied};
-ghost use Rattle.text_words.specs.Completions.{said, unsaid, with_fact, with_fault, is_step_to, completed, next_of, NamesItem, activity_of as named_in, activity_at as reached, program_at as program_reached, SaysOf, SaysItem, SaysIt, SaysLine, SaysBehind, IsRead};
+ghost use Rattle.text_words.specs.Attempts.{next_of};
+ghost use Rattle.text_words.specs.Completions.{said, unsaid, with_fact, with_fault, NamesItem, activity_of as named_in, activity_at as reached, program_at as program_reached, SaysOf, SaysItem, SaysIt, SaysLine, SaysBehind, IsRead};
 
+use crate::counted::Counted;
 use crate::input::Numbered;
 use crate::paths::written_item;
 use blocks_subprocs::graph_of;
@@ -28,7 +30,7 @@ pub enum LineFault {
 /// The completions of the lines before the first that can't be accepted.
 #[derive(Drop)]
 pub struct Read {
-    pub facts: Vec<Fact>,
+    pub counted: Counted,
     /// For each completion the number of its line.
     pub lines: Vec<u64>,
     /// The number of the first line that can't be accepted, and why.
@@ -72,42 +74,24 @@ fn program_at<'a>(library: &'a Library, graph: &'a Graph, parts: &[Part]) -> Opt
     }
 }
 
-/// Whether a path is an attempt of this activity of the root scope.
-fn is_of(fact: &Fact, name: &Name) -> bool
-    ensures { result ≡ is_step_to name.now fact.now.item.parts }
-{
-    match fact.item.parts.as_slice() {
-        [part] => part.name.as_slice() == name.as_slice(),
-        _ => false,
-    }
-}
-
-/// How many attempts of an activity of the root scope were completed.
-fn completed_of(facts: &[Fact], name: &Name) -> usize
-    ensures { result ≡ completed name.now facts.now }
-{
-    facts.iter().filter(|fact| is_of(fact, name)).count()
-}
-
 /// The ready attempt of an activity of the root scope, if it has one: the one after those that were completed.
-fn named_item(alloc: Global, facts: &[Fact], name: &Name) -> Result<Path, AllocError>
-    ensures { IfOk result (λ path. path ≡ next_of name.now facts.now) }
+fn named_item(alloc: Global, counted: &Counted, name: &Name) -> Result<Path, AllocError>
+    ensures { IfOk result (λ path. path ≡ next_of name.now counted.now.facts.items) }
 {
-    let done = completed_of(facts, name) as u64;
     let mut parts = List::new(alloc);
     parts.push(Part {
         name: name.copy(alloc)?,
-        attempt: done.saturating_add(1),
+        attempt: counted.next(name.as_slice()),
     })?;
     Ok(Path { root: 1, parts })
 }
 
 /// The item that a line completes; None where it is none of root 1.
-fn item_of(alloc: Global, facts: &[Fact], target: &Target) -> Result<Option<Path>, AllocError>
-    ensures { IfOk result (NamesItem facts.now target.now) }
+fn item_of(alloc: Global, counted: &Counted, target: &Target) -> Result<Option<Path>, AllocError>
+    ensures { IfOk result (NamesItem counted.now.facts.items target.now) }
 {
     match target {
-        Target::Activity(name) => Ok(Some(named_item(alloc, facts, name)?)),
+        Target::Activity(name) => Ok(Some(named_item(alloc, counted, name)?)),
         Target::Item(token) => written_item(alloc, token.as_slice()),
     }
 }
@@ -117,7 +101,7 @@ impl Read {
         ensures { said result ≡ unsaid }
     {
         Read {
-            facts: Vec::new(alloc),
+            counted: Counted::new(alloc),
             lines: Vec::new(alloc),
             fault: None,
         }
@@ -129,10 +113,10 @@ impl Read {
         self.fault = Some((line, fault));
     }
 
-    fn accept(&mut self, line: u64, fact: Fact) -> Result<(), AllocError>
+    fn accept(&mut self, alloc: Global, line: u64, fact: Fact) -> Result<(), AllocError>
         ensures { OnOk result (said self.new ≡ with_fact line fact (said self.old)) }
     {
-        self.facts.push(fact)?;
+        self.counted.push(alloc, fact)?;
         self.lines.push(line)?;
         Ok(())
     }
@@ -154,11 +138,11 @@ impl Read {
         match settings_of(alloc, &activity.output, outcome.rc.as_ref(), settings)? {
             Err(place) => {
                 self.stop(line, LineFault::Value(place.saturating_add(1)));
-                self.accept(line, Fact { item, output })
+                self.accept(alloc, line, Fact { item, output })
             }
             Ok(settings) => {
                 let output = with_settings(alloc, output, settings.as_slice())?;
-                self.accept(line, Fact { item, output })
+                self.accept(alloc, line, Fact { item, output })
             }
         }
     }
@@ -199,7 +183,7 @@ impl Read {
     ) -> Result<(), AllocError>
         ensures { OnOk result (SaysIt library.now.templates graph.now line completion.now (said self.old) (said self.new)) }
     {
-        let item = item_of(alloc, &self.facts, &completion.target)?;
+        let item = item_of(alloc, &self.counted, &completion.target)?;
         self.add_item(alloc, library, graph, line, item, &completion.outcome)
     }
 

@@ -132,12 +132,12 @@ fn by_completions(
     requires there { slice_get library.now.templates place ≡ Some template.now }
     requires last { place ≡ length library.now.templates - 1 }
     requires sound { AreSound library.now.templates }
-    requires of_one { AreOfOne read.now.facts.items }
+    requires of_one { AreOfOne read.now.counted.facts.items }
     ensures { IfOk result (λ answer. IsOfLast answer library.now.templates template.now read.now) }
 {
     let graph = &template.graph;
     let input = fresh(alloc, &graph.input)?;
-    match fates(alloc, library, place, 1, &input, &read.facts) {
+    match fates(alloc, library, place, 1, &input, &read.counted.facts) {
         Err(FateFault::NoMemory) => Err(AllocError),
         Err(FateFault::NotReady(number)) => {
             let line = line_of(read, number);

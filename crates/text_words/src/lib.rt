@@ -8,6 +8,7 @@
 
 mod check;
 mod completions;
+mod counted;
 mod fate;
 mod input;
 mod paths;

@@ -7,7 +7,7 @@ use Rattle.core_laws.specs.RightStates.{input_now, AreRight}
 use Rattle.flow_core.specs.Allowing.{mode_in}
 use Rattle.flow_core.specs.Answers.{instance_of}
 use Rattle.flow_core.specs.Driving.{templates, graph_now, IfLive, BecomesQuietly, BecomesStarted, StartsIn, IsSuspended, IsTerminated, ChangesRoot}
-use Rattle.flow_core.specs.Shelving.{Standing, SameStanding, ranked, rank_on, rank_now, stands, without_root}
+use Rattle.flow_core.specs.Shelving.{Standing, SameStanding, ranked, rank_on, rank_now, stands, without_items}
 use Rattle.flow_core.specs.declared.state.Core.{Core}
 use Rattle.flow_model.specs.ScopeContainers.{graph_in, graph_of}
 use Rattle.flow_model.specs.declared.graphs.Activity.{Activity}
@@ -66,7 +66,7 @@ module _ (lines lines' : Lines) (ranks : Ranks) (w : Standing) (root : ℕ) (oth
   apart_test : (r : ℕ) → (r ≡ root → ⊥) → (r == root) ≡ false
   apart_test r apart = elim (eqb_tells r root) [ inl same ↦ absurd (apart same.1) | inr other ↦ other.0 ]
 
-  each_left : (path : Path) (line : ItemLine) → lines' path ≡ Some line → StandsAt ranks (without_root root w) path line
+  each_left : (path : Path) (line : ItemLine) → lines' path ≡ Some line → StandsAt ranks (without_items root w) path line
   each_left path line has =
       let apart : path.root ≡ root → ⊥ = λ here. none-some line (sym (none path here) ∙ has) in
       let was = sym (others path apart) ∙ has in
@@ -77,7 +77,7 @@ module _ (lines lines' : Lines) (ranks : Ranks) (w : Standing) (root : ℕ) (oth
         there = λ name. ap (λ b. cond b None (w name one.rank)) (begins_so path line was one.rank one.ranked ∙ apart_test path.root apart) ∙ one.there name;
       }
 
-  only_left : (name rank : List ℕ) (listed : Listed) → without_root root w name rank ≡ Some listed → IsOfLine lines' ranks rank listed
+  only_left : (name rank : List ℕ) (listed : Listed) → without_items root w name rank ≡ Some listed → IsOfLine lines' ranks rank listed
   only_left name rank listed there = by (begins_with root rank) refl there
     where
       by : (b : Bool) → begins_with root rank ≡ b → cond b None (w name rank) ≡ Some listed → IsOfLine lines' ranks rank listed
@@ -91,7 +91,7 @@ module _ (lines lines' : Lines) (ranks : Ranks) (w : Standing) (root : ℕ) (oth
           ] in
           record { line = one.line; has = others listed.item apart ∙ one.has; ranked = one.ranked }
 
-  pub root_off : HoldExactly lines' ranks (without_root root w)
+  pub root_off : HoldExactly lines' ranks (without_items root w)
   root_off = record { each = each_left; only = only_left }
 
 -- ---- a root that is terminated
@@ -108,9 +108,9 @@ module _ (c c' : Core) (root : ℕ) (given : List Message) (library : templates 
   same_graph (Some i) None becomes = absurd becomes
   same_graph (Some i) (Some i') becomes = ap₂ (λ ts (u : Instance). graph_of ts u.template) library becomes
 
-  pub terminated_stays : ChangesRoot root (BecomesQuietly IsTerminated given) c c' → SameStanding (stands c') (without_root root (stands c)) → IsShelved c → IsShelved c'
+  pub terminated_stays : ChangesRoot root (BecomesQuietly IsTerminated given) c c' → SameStanding (stands c') (without_items root (stands c)) → IsShelved c → IsShelved c'
   terminated_stays changes same shelved =
-      shelved_so c c' (without_root root (stands c)) same
+      shelved_so c c' (without_items root (stands c)) same
       (root_off (open_line c) (open_line c') (rank_now c') (stands c) root (λ path apart. open_same c c' path library (changes.others path.root apart))
       (none_terminated_now (instance_of c root) (instance_of c' root) refl changes.here.0)
       (λ path line has. let named = open_named c path line has in (rank_on (templates c) path.parts named.graph, ranks path ∙ rank_is c path named.graph named.live))

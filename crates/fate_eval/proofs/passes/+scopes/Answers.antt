@@ -10,15 +10,16 @@ use Rattle.std.specs.Option.{option_map, option_copied}
 use Rattle.flow_model.specs.Fates.{joined}
 use Rattle.flow_model.specs.Containers.{with_return_code}
 use Rattle.fate_eval.proofs.Seen.{if_ok, seen_below, fed_opens, laid_here, laid_inside, well_wired, well_inside}
-use Rattle.fate_eval.specs.Entries.{output_in}
-use Rattle.fate_eval.proofs.Below.{scope_timely, nested_timely}
+use Rattle.fate_eval.specs.Entries.{dated_in, output_in}
+use Rattle.fate_eval.specs.Grouped.{at_part}
+use Rattle.fate_eval.proofs.Below.{scope_timely, nested_timely, program_timely}
 use Rattle.fate_eval.proofs.InOrder.{passes_more, passes_all}
 use Rattle.fate_eval.proofs.InPass.{in_pass_first, in_pass_more, in_pass_all}
-use Rattle.fate_eval.proofs.InTime.{named_exact, named_timely, open_timely, dead_timely, alive_timely}
+use Rattle.fate_eval.proofs.InTime.{open_timely, dead_timely, alive_timely}
 use Rattle.fate_eval.proofs.InTurn.{in_turn_first, in_turn_stop, in_turn_more, in_turn_last, last_timely}
 use Rattle.fate_eval.proofs.WholeBelow.{scope_whole, nested_whole, nothing_whole, last_whole}
 use Rattle.fate_eval.proofs.WholePass.{told_to_first, told_to_more, told_to_all}
-use Rattle.fate_eval.proofs.WholeTime.{named_whole, open_whole, unfed_whole, waiting_whole, dead_whole, alive_whole}
+use Rattle.fate_eval.proofs.WholeTime.{open_whole, unfed_whole, waiting_whole, dead_whole, alive_whole}
 use Rattle.fate_eval.proofs.WholeTurn.{told_first, told_more, told_stop, told_last}
 use Rattle.fate_eval.proofs.Turns.{goes_first, goes_stop, goes_more, goes_last}
 use Rattle.fate_eval.proofs.passes.+scopes.Goals as goal
@@ -117,16 +118,13 @@ open_activity-returns-then-not-is_fed-clause-whole t c = λ laid inside well.
 
 pub open_activity-returns-clause-whole : goal.open_activity-returns-clause-whole
 open_activity-returns-clause-whole t c = λ laid inside well.
-    let told = rw (c.as_slice.ensures, c.deref.ensures.value, ← c.deref-2.ensures.value) at c.in_ok-entries.ensures in
     let base = c.in_ok-base.ensures laid.feeding in
     if_ok c.attempts_from.result (c.attempts_from.ensures.whole laid.looping inside well)
-    (λ r x. open_whole _ _ _ _ _ _ _ _ _ _ _ _ _ c.in_ok-base.base r.end r.after r.ready.items (c.fed_after-since.ensures.least laid.feeding) base
-    (named_whole c.args.root.now.library.now.templates c.args.depth c.args.root.now.most c.args.scope.now.entries.items c.deref-2.result.now
-    c.args.scope.now.graph.now c.args.scope.now.path c.args.place c.args.activity.now c.in_ok-base.base told _ r.end r.after r.ready.items x))
+    (λ r x. open_whole _ _ _ _ _ _ _ _ _ _ _ _ _ c.in_ok-base.base r.end r.after r.ready.items (c.fed_after-since.ensures.least laid.feeding) base x)
 
 pub scope_attempt-returns-clause-whole : goal.scope_attempt-returns-clause-whole
 scope_attempt-returns-clause-whole t c = λ laid well.
-    scope_whole _ _ _ _ _ _ (part c.args.activity.now.name c.args.attempt) _ _ _ _ _ _ _ (rw c.as_slice.ensures at c.in_ok-entries_below.ensures) c.in_ok-with_code_of.ensures
+    scope_whole _ _ _ _ _ _ (part c.args.activity.now.name c.args.attempt) _ _ _ _ _ _ _ (λ p. ap (λ es. dated_in es p) (c.in_ok-from_slice.ensures.items ∙ c.entries_at-found.ensures ∙ ap (λ n. at_part c.args.scope.now.groups (part n c.args.attempt)) c.as_slice.ensures) ∙ c.args.scope.now.grouped (part c.args.activity.now.name c.args.attempt) p) c.in_ok-with_code_of.ensures
     (rw (c.in_ok-copy.ensures, c.in_ok-path_of.ensures) at (c.in_ok-rows.ensures.whole laid well))
 
 pub pass-returns-clause-whole : goal.pass-returns-clause-whole
@@ -189,22 +187,17 @@ nested_attempt-returns-else-depth-eq0-clause-timely t c = λ inside.
 
 pub open_activity-returns-clause-exact : goal.open_activity-returns-clause-exact
 open_activity-returns-clause-exact t c = λ laid inside.
-    let told = rw (c.as_slice.ensures, c.deref.ensures.value, ← c.deref-2.ensures.value) at c.in_ok-entries.ensures in
     let fed = sym (c.is_fed.ensures laid.feeding) ∙ c.if-not-is_fed.false in
     let base = c.in_ok-base.ensures laid.feeding in
     if_ok c.attempts_from.result (c.attempts_from.ensures.exact laid.looping inside)
-    (λ r x. fed_opens _ _ _ _ _ _ _ _ _ _ _ _ fed (rw base at (named_exact c.args.root.now.library.now.templates c.args.depth c.args.root.now.most c.args.scope.now.entries.items c.deref-2.result.now
-    c.args.scope.now.graph.now c.args.scope.now.path c.args.place c.args.activity.now c.in_ok-base.base told r.fate r.end r.rows.items x)))
+    (λ r x. fed_opens _ _ _ _ _ _ _ _ _ _ _ _ fed (rw base at x))
 
 pub open_activity-returns-clause-timely : goal.open_activity-returns-clause-timely
 open_activity-returns-clause-timely t c = λ laid inside.
-    let told = rw (c.as_slice.ensures, c.deref.ensures.value, ← c.deref-2.ensures.value) at c.in_ok-entries.ensures in
     let fed = sym (c.is_fed.ensures laid.feeding) ∙ c.if-not-is_fed.false in
     let base = c.in_ok-base.ensures laid.feeding in
     if_ok c.attempts_from.result (c.attempts_from.ensures.timely laid.looping inside)
-    (λ r x. open_timely _ _ _ _ _ _ _ _ _ _ _ _ _ c.in_ok-base.base r.end r.after r.ready.items fed c.fed_after-since.ensures.later (c.fed_after-since.ensures.lines laid.feeding) base
-    (named_timely c.args.root.now.library.now.templates c.args.depth c.args.root.now.most c.args.scope.now.entries.items c.deref-2.result.now
-    c.args.scope.now.graph.now c.args.scope.now.path c.args.place c.args.activity.now c.in_ok-base.base told _ r.end r.after r.ready.items x))
+    (λ r x. open_timely _ _ _ _ _ _ _ _ _ _ _ _ _ c.in_ok-base.base r.end r.after r.ready.items fed c.fed_after-since.ensures.later (c.fed_after-since.ensures.lines laid.feeding) base x)
 
 pub pass-loop-place-init : goal.pass-loop-place-init
 pass-loop-place-init t c = record {
@@ -266,12 +259,15 @@ pass-returns-clause-timely t c = λ laid.
 pub scope_attempt-returns-clause-exact : goal.scope_attempt-returns-clause-exact
 scope_attempt-returns-clause-exact t c = λ laid.
     let passed = c.in_ok-rows.ensures.exact laid in
-    let seen = seen_below c.args.root.now.most c.args.entries.now _ (part c.args.activity.now.name c.args.attempt) (rw c.as_slice.ensures at c.in_ok-entries_below.ensures) in
+    let seen = seen_below c.args.root.now.most c.args.scope.now.entries.items _ (part c.args.activity.now.name c.args.attempt) (λ p. ap (λ es. dated_in es p) (c.in_ok-from_slice.ensures.items ∙ c.entries_at-found.ensures ∙ ap (λ n. at_part c.args.scope.now.groups (part n c.args.attempt)) c.as_slice.ensures) ∙ c.args.scope.now.grouped (part c.args.activity.now.name c.args.attempt) p) in
     let given = rw c.in_ok-copy.ensures at passed.given in
     rw (add-one, seen)
     (c.in_ok-with_code_of.ensures ∙ ap (option_map with_return_code) given, rw (c.in_ok-copy.ensures, c.in_ok-path_of.ensures) at passed.shown)
 
 pub scope_attempt-returns-clause-timely : goal.scope_attempt-returns-clause-timely
 scope_attempt-returns-clause-timely t c = λ laid.
-    scope_timely _ _ _ _ _ _ (part c.args.activity.now.name c.args.attempt) _ _ _ _ _ _ _ (rw c.as_slice.ensures at c.in_ok-entries_below.ensures) c.in_ok-with_code_of.ensures
+    scope_timely _ _ _ _ _ _ (part c.args.activity.now.name c.args.attempt) _ _ _ _ _ _ _ (λ p. ap (λ es. dated_in es p) (c.in_ok-from_slice.ensures.items ∙ c.entries_at-found.ensures ∙ ap (λ n. at_part c.args.scope.now.groups (part n c.args.attempt)) c.as_slice.ensures) ∙ c.args.scope.now.grouped (part c.args.activity.now.name c.args.attempt) p) c.in_ok-with_code_of.ensures
     (rw (c.in_ok-copy.ensures, c.in_ok-path_of.ensures) at (c.in_ok-rows.ensures.timely laid))
+
+pub attempt_of-returns-in-Program-clause-timely : goal.attempt_of-returns-in-Program-clause-timely
+attempt_of-returns-in-Program-clause-timely t c = λ inside. if_ok c.program_attempt.result c.program_attempt.ensures.timely (λ r is. program_timely _ _ _ _ _ _ c.in-Program.field-0 _ _ _ _ _ _ c.in-Program.is is)

@@ -11,3 +11,21 @@ returns-in-Ok-adopt-clause-right c = λ was. listed_stays c.args.core.now c.adop
   counts = c.in-Ok-adopt.ensures.counts;
   lives = (c.in-Ok.numbered.number, ap (λ (s : Summary). s.live) c.in-Ok-adopt.ensures.taken);
 }) c.in-Ok-adopt.ensures.shelves (admitted_asks c.args.core.now c.in-Ok.numbered.number c.in-Ok.numbered.transaction (c.in-Ok-adopt.ensures.admitted was.0.1.indexed)) was
+
+pub returns-in-Ok-adopt-clause-admitted : goal.returns-in-Ok-adopt-clause-admitted
+returns-in-Ok-adopt-clause-admitted c = λ order. record {
+  number = c.in-Ok.numbered.number;
+  transaction = c.in-Ok.numbered.transaction;
+  spelled = c.in-Ok.ensures.read.0;
+  admitted = c.in-Ok-adopt.ensures.admitted order;
+  allowed = c.in-Ok-adopt.ensures.allowed;
+  adopted = record {
+    drives = c.in-Ok-adopt.ensures.drives;
+    taken = c.in-Ok-adopt.ensures.taken;
+    clock = c.in-Ok-adopt.ensures.clock;
+    store = c.in-Ok-adopt.ensures.store;
+    exact = c.in-Ok-adopt.ensures.exact;
+  };
+  counts = c.in-Ok-adopt.ensures.counts;
+  kept = c.in-Ok-adopt.ensures.kept;
+}

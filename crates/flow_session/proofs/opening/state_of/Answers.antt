@@ -26,7 +26,7 @@ loop-record-preserved c =
           i.brings (taken.1 ∙ c.as_slice-payload.ensures) (rw i.kept at taken.2) (rw i.kept at taken.3));
       kept = c.in_ok-adopt.ensures.kept ∙ i.kept;
       queues = ap (λ (s : Summary). s.queues) taken.3 ∙ i.queues;
-      order = (c.in_ok-adopt.ensures.admitted i.order).drives.indexed i.order;
+      order = (c.in_ok-adopt.ensures.admitted i.order).adopted.drives.indexed i.order;
       leads = subst (λ bytes. LeadsTo c.args.opened.now.header bytes c.adopt.new.core) (sym more)
           (leads_more c.args.opened.now.header (payloads_of (take c.loop-record.record-index c.args.opened.now.records)) c.record-item.result.payload c.loop-record.core c.adopt.new.core i.leads
           (subst (λ bytes. AdmitsOne c.loop-record.core bytes c.adopt.new.core) c.as_slice-payload.ensures (c.in_ok-adopt.ensures.admitted i.order)));

@@ -11,6 +11,7 @@ returns-in-Ok-clause-prints g c = inr (record {
   core = c.in-Ok.session.core;
   keeps = λ only. opened g.D.Disk.tells g.D.Disk.moment g.D.Disk.left_since g.D.Disk.seen g.D.Disk.images c.args.disk.now c.reopen.new.disk only c.reopen.ensures.any_moment;
   stood = λ told. stood_there g.D.Disk.seen c.args.disk.now c.reopen.new.disk (summary c.in-Ok.session.core) c.in-Ok.ensures.seen (c.in-Ok.ensures.open told).holds;
+  state = c.in-Ok.ensures.state;
   right = c.in-Ok.ensures.right;
   printed = subst (PrintsVerdict (g.S.Source.left c.args.src.now) (g.K.Sink.held c.args.out.now) (g.K.Sink.held c.verify_over.new.out) (status_of_word c.verify_over.result)) c.core.ensures c.verify_over.ensures.prints;
 })

@@ -15,13 +15,13 @@ returns-in-Err-clause-cause g c =
 pub returns-then-is_empty-clause-served : goal.returns-then-is_empty-clause-served
 returns-then-is_empty-clause-served g c = (
   c.in-Ok.reply.items,
-  record { served = c.in-Ok.ensures.served; makes = c.in-Ok.ensures.makes; kept = c.in-Ok.ensures.kept; right = c.in-Ok.ensures.right },
+  record { served = c.in-Ok.ensures.served; makes = c.in-Ok.ensures.makes; kept = c.in-Ok.ensures.kept; right = c.in-Ok.ensures.right; stays = c.in-Ok.ensures.place; moves = c.in-Ok.ensures.moved },
   nothing_printed (g.K.Sink.held c.args.out.now) c.in-Ok.reply.items (search rules),
 )
 
 pub returns-else-is_empty-clause-served : goal.returns-else-is_empty-clause-served
 returns-else-is_empty-clause-served g c =
-    printed_one g.J.Journal.tells g.J.Journal.holds g.J.Journal.moment g.J.Journal.left_since (g.K.Sink.held c.args.out.now) (g.K.Sink.held c.print.new.out) (given c.args.input) c.in-Ok.reply.items
+    printed_one g.J.Journal.tells g.J.Journal.holds g.J.Journal.moment g.J.Journal.left_since g.J.Journal.place g.J.Journal.moved (g.K.Sink.held c.args.out.now) (g.K.Sink.held c.print.new.out) (given c.args.input) c.in-Ok.reply.items
     c.args.session.now c.serve.new.self c.args.journal.now c.serve.new.journal c.print.result
-    (record { served = c.in-Ok.ensures.served; makes = c.in-Ok.ensures.makes; kept = c.in-Ok.ensures.kept; right = c.in-Ok.ensures.right })
+    (record { served = c.in-Ok.ensures.served; makes = c.in-Ok.ensures.makes; kept = c.in-Ok.ensures.kept; right = c.in-Ok.ensures.right; stays = c.in-Ok.ensures.place; moves = c.in-Ok.ensures.moved })
     (rw c.deref.ensures.value at c.print.ensures.whole) (rw c.deref.ensures.value at c.print.ensures.part)

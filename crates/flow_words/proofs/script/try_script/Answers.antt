@@ -7,6 +7,6 @@ returns-in-Ok-clause-tries g c = inr (
   c.serve_all.new.session,
   _,
   c.serve_all.new.journal,
-  record { empty = c.in-Ok.ensures.begins; outside = c.in-Ok.ensures.outside; right = c.in-Ok.ensures.right },
+  record { empty = c.in-Ok.ensures.begins; state = c.in-Ok.ensures.state; outside = c.in-Ok.ensures.outside; right = c.in-Ok.ensures.right },
   c.serve_all.ensures.serves,
 )

@@ -5,7 +5,7 @@ use Rattle.flow_session.specs.Histories.{StandsFor}
 use Rattle.flow_session.proofs.Runs.{opened, served}
 use Rattle.flow_session.specs.Refusing.{IsUnopened}
 use Rattle.standby.proofs.Unopened.{not_opened}
-use Rattle.standby.proofs.Queued.{opened_has_queue}
+use Rattle.flow_session.proofs.Queued.{opened_has_queue}
 use Rattle.standby.proofs.following.follow.Goals as goal
 
 pub returns-in-Err-clause-kept : goal.returns-in-Err-clause-kept
@@ -32,6 +32,7 @@ pub returns-in-Ok-clause-follows : goal.returns-in-Ok-clause-follows
 returns-in-Ok-clause-follows g c = inr (record {
   core = c.in-Ok.core;
   stood = λ told. subst (StandsFor (summary c.in-Ok.core)) c.in-Ok.ensures.seen (c.in-Ok.ensures.open told).holds;
+  state = c.in-Ok.ensures.state;
   queued = λ told. opened_has_queue (g.D.Disk.seen c.open.new.disk) c.in-Ok.opened (summary c.in-Ok.core) (c.in-Ok.ensures.opened told) c.in-Ok.ensures.comes;
   follows = λ some_. c.follow_from.ensures.follows (c.in-Ok.ensures.right some_).0;
 })

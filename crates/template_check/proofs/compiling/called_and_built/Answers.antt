@@ -35,7 +35,7 @@ sized_and_built-requires-clause-leaves c =
 
 pub returns-clause-built : goal.returns-clause-built
 returns-clause-built c =
-    subst (λ (k : Catalog). IfOk c.sized_and_built.result (λ judged. IfOk judged (λ compiled. AreBuilt k c.args.tree.now.items compiled.templates))) c.in_ok-known.ensures.catalog c.sized_and_built.ensures.built
+    subst (λ (k : Catalog). IfOk c.sized_and_built.result (λ judged. IfOk judged (AreBuilt k c.args.tree.now.items))) c.in_ok-known.ensures.catalog c.sized_and_built.ensures.built
 
 pub returns-clause-first : goal.returns-clause-first
 returns-clause-first c = λ indexed.

@@ -15,9 +15,9 @@ returns-in-Err-NotReady c =
     let there = subst (λ (n : ℕ). slice_get ts n ≡ Some t) c.requires.last c.requires.there in
     let laid = laid_there ts c.args.place t c.requires.sound c.requires.there in
     let same : c.in_ok-input.input ≡ fresh (out-Graph t.graph).input = c.in_ok-input.ensures in
-    let these : facts ≡ read.facts.items = c.deref.ensures.value in
+    let these : facts ≡ read.counted.facts.items = c.deref.ensures.value in
     let line_is : c.line_of-line.result ≡ unwrap_or (slice_get read.lines.items c.in-Err-NotReady.number) 0 = subst (λ (n : ℕ). c.line_of-line.result ≡ unwrap_or (slice_get read.lines.items n) 0) c.in-Err-NotReady.number-is c.line_of-line.ensures in
-    let of = subst (λ (fs : List Fact). AreOf 1 fs) (sym these) (all_of_one read.facts.items c.requires.of_one) in
+    let of = subst (λ (fs : List Fact). AreOf 1 fs) (sym these) (all_of_one read.counted.facts.items c.requires.of_one) in
     answers_not_ready c.refusal.result ts t read c.in_ok-input.input facts c.in-Err-NotReady.field-0 c.in-Err-NotReady.number c.line_of-line.result there same these c.in-Err-NotReady.field-0-is
     line_is
     (record {
@@ -36,8 +36,8 @@ returns c =
     let there = subst (λ (n : ℕ). slice_get ts n ≡ Some t) c.requires.last c.requires.there in
     let laid = laid_there ts c.args.place t c.requires.sound c.requires.there in
     let same : c.in_ok-input.input ≡ fresh (out-Graph t.graph).input = c.in_ok-input.ensures in
-    let these : facts ≡ read.facts.items = c.deref.ensures.value in
-    let of = subst (λ (fs : List Fact). AreOf 1 fs) (sym these) (all_of_one read.facts.items c.requires.of_one) in
+    let these : facts ≡ read.counted.facts.items = c.deref.ensures.value in
+    let of = subst (λ (fs : List Fact). AreOf 1 fs) (sym these) (all_of_one read.counted.facts.items c.requires.of_one) in
     answers_accepted c.told.result ts t read c.in_ok-input.input facts c.in-Ok.found.rows c.in-Ok.found.output there same these
     (record { ready = c.in-Ok.ensures.ready t c.requires.there laid of; fates = c.in-Ok.ensures.exact t c.requires.there laid })
     c.told.ensures

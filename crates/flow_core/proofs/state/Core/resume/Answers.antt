@@ -13,6 +13,6 @@ returns-clause-blank c = record {
   clock = refl;
   keys = c.new-4.ensures.empty;
   indexed = c.new-2.ensures.indexed;
-  live = c.new-6.ensures.items;
+  live = c.new-6.ensures;
   unlisted = c.new-5.ensures;
 }

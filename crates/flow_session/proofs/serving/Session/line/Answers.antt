@@ -5,19 +5,29 @@ use Rattle.flow_session.proofs.Calls.{makes_nothing}
 use Rattle.flow_session.proofs.Inputs.{says_command, says_none}
 use Rattle.flow_session.specs.Inputs.{Says, unended}
 use Rattle.flow_session.proofs.Stopping.{silent}
+use Rattle.flow_session.proofs.Leading.{leads_none}
+use Rattle.flow_session.proofs.Rights.{whatever}
 use Rattle.flow_session.proofs.serving.Session.line.Goals as goal
 
 pub returns-then-line-gt-MOST_LINE-clause-makes : goal.returns-then-line-gt-MOST_LINE-clause-makes
-returns-then-line-gt-MOST_LINE-clause-makes g c = makes_nothing g.J.Journal.tells g.J.Journal.moment g.J.Journal.left_since g.J.Journal.holds g.met.J.Journal.at_rest c.args.journal.now (summary c.args.self.now.core) _ c.requires.open (search rules)
+returns-then-line-gt-MOST_LINE-clause-makes g c =
+    makes_nothing g.J.Journal.tells g.J.Journal.moment g.J.Journal.left_since g.J.Journal.holds g.met.J.Journal.at_rest
+    c.args.journal.now (summary c.args.self.now.core) _ c.requires.open (whatever c.words.result (leads_none c.args.self.now.core))
 
 pub returns-in-Ok-None-clause-makes : goal.returns-in-Ok-None-clause-makes
-returns-in-Ok-None-clause-makes g c = makes_nothing g.J.Journal.tells g.J.Journal.moment g.J.Journal.left_since g.J.Journal.holds g.met.J.Journal.at_rest c.args.journal.now (summary c.args.self.now.core) _ c.requires.open (search rules)
+returns-in-Ok-None-clause-makes g c =
+    makes_nothing g.J.Journal.tells g.J.Journal.moment g.J.Journal.left_since g.J.Journal.holds g.met.J.Journal.at_rest
+    c.args.journal.now (summary c.args.self.now.core) _ c.requires.open (leads_none c.args.self.now.core)
 
 pub returns-in-Err-Word-clause-makes : goal.returns-in-Err-Word-clause-makes
-returns-in-Err-Word-clause-makes g c = makes_nothing g.J.Journal.tells g.J.Journal.moment g.J.Journal.left_since g.J.Journal.holds g.met.J.Journal.at_rest c.args.journal.now (summary c.args.self.now.core) _ c.requires.open (search rules)
+returns-in-Err-Word-clause-makes g c =
+    makes_nothing g.J.Journal.tells g.J.Journal.moment g.J.Journal.left_since g.J.Journal.holds g.met.J.Journal.at_rest
+    c.args.journal.now (summary c.args.self.now.core) _ c.requires.open (whatever c.numbered.result (leads_none c.args.self.now.core))
 
 pub returns-in-Err-NoMemory-clause-makes : goal.returns-in-Err-NoMemory-clause-makes
-returns-in-Err-NoMemory-clause-makes g c = makes_nothing g.J.Journal.tells g.J.Journal.moment g.J.Journal.left_since g.J.Journal.holds g.met.J.Journal.at_rest c.args.journal.now (summary c.args.self.now.core) _ c.requires.open (search rules)
+returns-in-Err-NoMemory-clause-makes g c =
+    makes_nothing g.J.Journal.tells g.J.Journal.moment g.J.Journal.left_since g.J.Journal.holds g.met.J.Journal.at_rest
+    c.args.journal.now (summary c.args.self.now.core) _ c.requires.open (search rules)
 
 pub returns-in-Ok-Some-clause-served : goal.returns-in-Ok-Some-clause-served
 returns-in-Ok-Some-clause-served g c =

@@ -18,8 +18,19 @@ returns-clause-any_moment g c told =
     let spelled = c.deref.ensures.value ∙ c.in_ok-payload.ensures.spelled told ∙ ap (λ n. record_bytes n c.args.t) c.next_number.ensures in
     c.keep.ensures.any_moment (summary c.args.self.now.core) c.args.t told (c.requires.open told) spelled
 
-pub returns-clause-drives : goal.returns-clause-drives
-returns-clause-drives g c = whatever c.keep.result (c.in_ok-applied.ensures.drives (front_of c.args.self.now.core c.args.t c.requires.allowed.asked))
+pub returns-clause-applied : goal.returns-clause-applied
+returns-clause-applied g c =
+    let front = front_of c.args.self.now.core c.args.t c.requires.allowed.asked in
+    whatever c.keep.result (record {
+      drives = c.in_ok-applied.ensures.drives front;
+      came = c.in_ok-applied.ensures.next;
+      clock = c.in_ok-applied.ensures.clock;
+      store = c.in_ok-applied.ensures.store;
+      exact = c.in_ok-applied.ensures.exact front;
+    })
+
+pub returns-clause-counts : goal.returns-clause-counts
+returns-clause-counts g c = whatever c.keep.result c.in_ok-applied.ensures.counts
 
 pub returns-clause-right : goal.returns-clause-right
 returns-clause-right g c = λ asks was. whatever c.keep.result (listed_stays c.args.self.now.core c.apply.new.self c.args.t (record {

@@ -1,19 +1,26 @@
 use Rattle.std.proofs.Common.{rules}
 use Rattle.flow_core.specs.Summaries.{summary}
 use Rattle.flow_session.proofs.Calls.{makes_one, makes_nothing}
+use Rattle.flow_session.proofs.Leading.{leads_ok}
 use Rattle.flow_session.proofs.Turns.{takes_front}
 use Rattle.flow_model.specs.declared.commands.Command.TheVariants.{Turn as TurnCommand}
 use Rattle.flow_session.proofs.Rights.{asks_open}
 use Rattle.flow_session.proofs.serving.Session.turn.Goals as goal
 
 pub returns-in-Ok-Do-clause-makes : goal.returns-in-Ok-Do-clause-makes
-returns-in-Ok-Do-clause-makes g c = makes_one g.J.Journal.tells g.J.Journal.moment g.J.Journal.left_since c.args.journal.now c.make.new.journal (summary c.args.self.now.core) c.in-Ok-Do.t _ c.make.ensures.any_moment c.make.ensures.made
+returns-in-Ok-Do-clause-makes g c =
+    makes_one g.J.Journal.tells g.J.Journal.moment g.J.Journal.left_since
+    c.args.journal.now c.make.new.journal (summary c.args.self.now.core) c.in-Ok-Do.t _ c.make.ensures.any_moment
+    (leads_ok c.make.result c.args.self.now.core c.make.new.self.core (TurnCommand c.args.queue) _ c.in-Ok-Do.t
+    c.in-Ok-Do.ensures c.in-Ok-Do.field-0-is c.make.ensures.applied c.make.ensures.counts)
 
 pub returns-clause-makes : goal.returns-clause-makes
-returns-clause-makes g c = makes_nothing g.J.Journal.tells g.J.Journal.moment g.J.Journal.left_since g.J.Journal.holds g.met.J.Journal.at_rest c.args.journal.now (summary c.args.self.now.core) _ c.requires.open (search rules)
+returns-clause-makes g c =
+    makes_nothing g.J.Journal.tells g.J.Journal.moment g.J.Journal.left_since g.J.Journal.holds g.met.J.Journal.at_rest
+    c.args.journal.now (summary c.args.self.now.core) _ c.requires.open (search rules)
 
 pub returns-in-Ok-Do-clause-turned : goal.returns-in-Ok-Do-clause-turned
-returns-in-Ok-Do-clause-turned g c = takes_front c.make.result c.args.self.now.core c.make.new.self.core c.args.queue _ c.in-Ok-Do.t c.in-Ok-Do.ensures (search rules) c.make.ensures.drives c.make.ensures.made
+returns-in-Ok-Do-clause-turned g c = takes_front c.make.result c.args.self.now.core c.make.new.self.core c.args.queue _ c.in-Ok-Do.t c.in-Ok-Do.ensures (search rules) c.make.ensures.applied
 
 pub returns-in-Ok-Do-clause-right : goal.returns-in-Ok-Do-clause-right
 returns-in-Ok-Do-clause-right g c = λ was.

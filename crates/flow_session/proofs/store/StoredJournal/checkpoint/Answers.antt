@@ -3,6 +3,7 @@ use Rattle.flow_disk.specs.Images.{opposite}
 use Rattle.flow_disk.proofs.Runs.{weaker}
 use Rattle.checkpoint.specs.Compacting.{IsCompacted, MayBeCompacted}
 use Rattle.flow_core.specs.Summaries.{summary}
+use Rattle.live_history.specs.declared.history.History.{History}
 use Rattle.flow_session.specs.Histories.{StandsFor, payloads}
 use Rattle.flow_session.proofs.Histories.{compacted, may_be_compacted}
 use Rattle.flow_session.proofs.Keeping.{in_journal}
@@ -13,7 +14,7 @@ returns-in_err-move_log-clause-any_moment g c told =
     let d = g.D.Disk in
     let is = c.requires.open told in
     let bytes = rw c.in-Some-2.is at c.in_ok-kept.ensures.bytes in
-    let live = bytes ∙ ap payloads c.live.ensures in
+    let live = bytes ∙ ap payloads (c.rows.ensures ∙ ap (λ (h : History). h.items) c.live.ensures) in
     in_journal (λ j. j.disk) d.moment d.left_since _ _ (StandsFor (summary c.args.core.now))
     (weaker d.moment d.left_since d.images c.args.self.now.disk c.move_log.new.disk (MayBeCompacted (opposite c.args.self.now.log.slot) c.in-Some.header c.in-Some-2.kept (d.seen c.args.self.now.disk)) (StandsFor (summary c.args.core.now)) (c.move_log.ensures.any_moment told is.only)
     (λ image may. may_be_compacted (summary c.args.core.now) (opposite c.args.self.now.log.slot) c.in-Some.header (d.seen c.args.self.now.disk) image is.holds c.in-Some.ensures.2
@@ -24,7 +25,7 @@ returns-clause-kept g c told =
     let d = g.D.Disk in
     let is = c.requires.open told in
     let bytes = rw c.in-Some-2.is at c.in_ok-kept.ensures.bytes in
-    let live = bytes ∙ ap payloads c.live.ensures in
+    let live = bytes ∙ ap payloads (c.rows.ensures ∙ ap (λ (h : History). h.items) c.live.ensures) in
     record {
       alive = c.in_ok-move_log.ensures.alive;
       stands = c.in_ok-move_log.ensures.stands told;
@@ -38,7 +39,7 @@ returns-clause-any_moment g c told =
     let d = g.D.Disk in
     let is = c.requires.open told in
     let bytes = rw c.in-Some-2.is at c.in_ok-kept.ensures.bytes in
-    let live = bytes ∙ ap payloads c.live.ensures in
+    let live = bytes ∙ ap payloads (c.rows.ensures ∙ ap (λ (h : History). h.items) c.live.ensures) in
     in_journal (λ j. j.disk) d.moment d.left_since _ _ (StandsFor (summary c.args.core.now))
     (weaker d.moment d.left_since d.images c.args.self.now.disk c.move_log.new.disk (MayBeCompacted (opposite c.args.self.now.log.slot) c.in-Some.header c.in-Some-2.kept (d.seen c.args.self.now.disk)) (StandsFor (summary c.args.core.now)) (c.move_log.ensures.any_moment told is.only)
     (λ image may. may_be_compacted (summary c.args.core.now) (opposite c.args.self.now.log.slot) c.in-Some.header (d.seen c.args.self.now.disk) image is.holds c.in-Some.ensures.2
@@ -49,7 +50,7 @@ returns-clause-moved g c =
     let d = g.D.Disk in
     let log = c.in_ok-move_log.ensures.log in
     let bytes = rw c.in-Some-2.is at c.in_ok-kept.ensures.bytes in
-    let live = bytes ∙ ap payloads c.live.ensures in
+    let live = bytes ∙ ap payloads (c.rows.ensures ∙ ap (λ (h : History). h.items) c.live.ensures) in
     record {
       slot = log.slot_is;
       generation = log.generation_is ∙ c.in-Some.ensures.1;

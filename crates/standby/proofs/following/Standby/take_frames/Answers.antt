@@ -1,6 +1,7 @@
 use Rattle.std.proofs.Common.{◌≡◌, ◌∙◌, ◌+◌, [], length, refl, rules, arith}
 use Rattle.flow_core.specs.Summaries.{summary}
-use Rattle.flow_session.proofs.Calls.{makes_more, makes_last}
+use Rattle.flow_session.proofs.Calls.{makes_more, makes_so}
+use Rattle.flow_session.proofs.Leading.{leads_none, leads_on, leads_so}
 use Rattle.standby.specs.Endings.{FollowEnd}
 use Rattle.standby.specs.Readers.{ahead}
 use Rattle.standby.specs.Stages.{Stage, Here, stage}
@@ -13,7 +14,7 @@ use Rattle.standby.proofs.following.Standby.take_frames.Goals as goal
 pub frames-init : goal.frames-init
 frames-init g c = record {
   open' = c.requires.open;
-  makes = untouched g.D.Disk.tells g.D.Disk.moment g.D.Disk.left_since g.D.Disk.seen g.D.Disk.images g.met.D.Disk.only_now c.args.self.now.journal.log c.args.self.now.journal.disk (summary c.args.self.now.core) _ c.requires.open refl;
+  makes = untouched g.D.Disk.tells g.D.Disk.moment g.D.Disk.left_since g.D.Disk.seen g.D.Disk.images g.met.D.Disk.only_now c.args.self.now.journal.log c.args.self.now.journal.disk (summary c.args.self.now.core) _ c.requires.open (leads_none c.args.self.now.core);
   source = refl;
   disk = refl;
   counted = c.requires.counted;
@@ -22,7 +23,21 @@ frames-init g c = record {
 }
 
 pub returns-in_err-number-clause-makes : goal.returns-in_err-number-clause-makes
-returns-in_err-number-clause-makes g c = makes_last g.D.Disk.tells g.D.Disk.moment g.D.Disk.left_since c.args.self.now.journal.disk c.frames.self.journal.disk c.take_next.new.self.journal.disk (summary c.args.self.now.core) (summary c.frames.self.core) _ _ c.frames.invariant.makes c.take_next.ensures.makes (λ x is. search rules)
+returns-in_err-number-clause-makes g c =
+    makes_more g.D.Disk.tells g.D.Disk.moment g.D.Disk.left_since c.args.self.now.journal.disk
+    c.frames.self.journal.disk c.take_next.new.self.journal.disk (summary c.args.self.now.core)
+    (summary c.frames.self.core) _ _ _ c.frames.invariant.makes (λ ts leads. leads.came) c.take_next.ensures.makes
+    (λ ts us a b. search rules)
+
+pub returns-in_err-read_frame-clause-makes : goal.returns-in_err-read_frame-clause-makes
+returns-in_err-read_frame-clause-makes g c =
+    makes_so g.D.Disk.tells g.D.Disk.moment g.D.Disk.left_since c.args.self.now.journal.disk
+    c.frames.self.journal.disk (summary c.args.self.now.core) _ _ c.frames.invariant.makes (λ ts leads. search rules)
+
+pub returns-then-not-branch-clause-makes : goal.returns-then-not-branch-clause-makes
+returns-then-not-branch-clause-makes g c =
+    leads_so g.D.Disk.tells g.D.Disk.moment g.D.Disk.left_since c.at_end.result c.args.self.now.journal.disk
+    c.frames.self.journal.disk c.args.self.now.core c.frames.self.core c.frames.invariant.makes
 
 pub frames-preserved : goal.frames-preserved
 frames-preserved g c =
@@ -36,7 +51,10 @@ frames-preserved g c =
     let place : new.place ≡ old.place + length (frame_bytes payload) = c.in_ok-read_frame.ensures.place c.if-not-branch.false in
     record {
       open' = e.kept;
-      makes = makes_more g.D.Disk.tells g.D.Disk.moment g.D.Disk.left_since c.args.self.now.journal.disk c.frames.self.journal.disk c.take_next.new.self.journal.disk (summary c.args.self.now.core) (summary c.frames.self.core) _ i.makes e.makes;
+      makes =
+          leads_on g.D.Disk.tells g.D.Disk.moment g.D.Disk.left_since c.args.self.now.journal.disk
+          c.frames.self.journal.disk c.take_next.new.self.journal.disk c.args.self.now.core c.frames.self.core
+          c.take_next.new.self.core i.makes e.makes;
       source = c.in_ok-read_frame.ensures.cause ∙ i.source;
       disk = e.cause ∙ i.disk;
       counted = omega (arith, i.counted, e.count, place);

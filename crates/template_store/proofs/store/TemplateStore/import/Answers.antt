@@ -1,4 +1,4 @@
-use Rattle.std.proofs.Common.{sym, ap, subst}
+use Rattle.std.proofs.Common.{sym, subst}
 use Rattle.flow_model.specs.declared.graphs.Library.{Library}
 use Rattle.template_check.proofs.Calling.{sound_added}
 use Rattle.template_check.specs.Built.{AreSound}
@@ -11,8 +11,9 @@ returns-clause-sound c = λ sound.
 
 pub returns-clause-of_text : goal.returns-clause-of_text
 returns-clause-of_text c = record {
-  added = c.in_ok-compiled.compiled.templates;
+  added = c.in_ok-compiled.compiled;
   named = c.in_ok-compiled.ensures.named;
   meant = c.in_ok-compiled.ensures.meant;
-  behind = ap (λ (library : Library). library.templates) c.in_ok-count.ensures.added.1;
+  people = c.in_ok-compiled.ensures.people;
+  behind = c.in_ok-count.ensures.added.1;
 }

@@ -1,0 +1,13 @@
+use Rattle.std.proofs.Common.{◌≡◌, ◌∙◌, ◌++◌, List, sym, ap, map, drop}
+use Rattle.std.specs.List.{filter_map}
+use Rattle.flow_model.specs.declared.transactions.Numbered.{Numbered}
+use Rattle.live_history.specs.Rows.{transaction_at}
+use Rattle.live_history.specs.Transactions.{about}
+use Rattle.live_history.proofs.Rows.{all_found}
+use Rattle.live_history.proofs.history.History.about.Goals as goal
+
+pub returns : goal.returns
+returns c =
+    all_found c.args.root c.self.inside.rows.items c.places_of-place-items.result.now c.loop-place.place-index (map (λ n. n.now) c.loop-place.found.items)
+    (c.places_of-place-items.ensures ∙ c.self.invariant c.args.root) c.loop-place-test.false c.loop-place.invariant
+    ∙ ap (λ l. about c.args.root l.items) c.self.view_is

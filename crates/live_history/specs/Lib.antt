@@ -1,0 +1,3 @@
+pub mod Transactions
+pub mod Histories
+pub mod Rows

@@ -1,0 +1,86 @@
+//! Histories of several roots, with deletions and what they leave.
+use crate::History;
+use flow_model::{Numbered, Transaction};
+use std::alloc::{AllocError, Global};
+use std::test::Fail;
+
+/// The numbers of transactions.
+fn numbers(alloc: Global, found: &[&Numbered]) -> Result<Vec<u64>, AllocError> {
+    let mut numbers = Vec::new(alloc);
+    for numbered in found {
+        numbers.push(numbered.number)?;
+    }
+    Ok(numbers)
+}
+
+/// A history of so many transactions, each the suspension of a root from 1 to 3 in turn.
+fn suspensions(alloc: Global, count: u64) -> Result<History, AllocError> {
+    let mut history = History::new(alloc);
+    for number in 1..count + 1 {
+        history.push(Numbered {
+            number,
+            transaction: Transaction::Suspend(number % 3 + 1),
+        })?;
+    }
+    Ok(history)
+}
+
+#[test]
+fn transactions_of_a_root_come_in_order(rt: HostRuntime) -> Result<(), Fail> {
+    let alloc = rt.alloc();
+    let history = suspensions(alloc, 7)?;
+    assert_eq!(rt; history.len(), 7);
+    assert_eq!(rt;
+        numbers(alloc, &history.about(2)?)?.as_slice(),
+        [1, 4, 7].as_slice()
+    );
+    assert_eq!(rt;
+        numbers(alloc, &history.about(1)?)?.as_slice(),
+        [3, 6].as_slice()
+    );
+    assert!(rt; history.about(4)?.is_empty());
+    Ok(())
+}
+
+#[test]
+fn a_deletion_takes_those_of_its_root_alone(rt: HostRuntime) -> Result<(), Fail> {
+    let alloc = rt.alloc();
+    let mut history = suspensions(alloc, 7)?;
+    history.push(Numbered {
+        number: 8,
+        transaction: Transaction::Clock(5),
+    })?;
+    history.remove(2);
+    assert_eq!(rt; history.len(), 5);
+    assert!(rt; history.about(2)?.is_empty());
+    assert_eq!(rt;
+        numbers(alloc, &history.about(3)?)?.as_slice(),
+        [2, 5].as_slice()
+    );
+    history.remove(2);
+    assert_eq!(rt; history.len(), 5);
+    Ok(())
+}
+
+#[test]
+fn a_history_goes_on_after_most_was_deleted(rt: HostRuntime) -> Result<(), Fail> {
+    let alloc = rt.alloc();
+    let mut history = suspensions(alloc, 9)?;
+    history.remove(1);
+    history.remove(3);
+    history.push(Numbered {
+        number: 10,
+        transaction: Transaction::Suspend(1),
+    })?;
+    assert_eq!(rt; history.len(), 4);
+    assert_eq!(rt; history.rows().len(), 4);
+    assert_eq!(rt;
+        numbers(alloc, &history.about(1)?)?.as_slice(),
+        [10].as_slice()
+    );
+    assert_eq!(rt;
+        numbers(alloc, &history.about(2)?)?.as_slice(),
+        [1, 4, 7].as_slice()
+    );
+    Ok(())
+}
