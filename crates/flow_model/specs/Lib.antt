@@ -1,3 +1,6 @@
+pub mod LeafLists
+pub mod LeafRows
+pub mod LeafSteps
 pub mod formers
 pub mod Words
 pub mod Paths

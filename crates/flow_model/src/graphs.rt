@@ -1,7 +1,10 @@
 //! Compiled processes: leaves and containers, conditions, graphs, templates, the library.
 
+use crate::leaf_rows::LeafRows;
 use crate::lists::List;
 use crate::names::{Name, Txt};
+use std::marker::Model;
+use std::rc::Rc;
 
 /// One step of a leaf's name: a member, the return code, or a place of an array.
 #[derive(Drop)]
@@ -31,10 +34,24 @@ pub struct Leaf {
     pub kind: Kind,
 }
 
-/// The leaves of a structure, depth first in the order of declaration.
+/// The leaves of a structure, depth first in the order of declaration: a run of the rows of a table that
+/// all structures of a text share.
 #[derive(Drop)]
 pub struct Leaves {
-    pub leaves: List<Leaf>,
+    pub(crate) table: Rc<LeafRows>,
+    pub(crate) first: u32,
+    pub(crate) count: u32,
+}
+
+impl Model for Leaves {
+    ghost use Rattle.std.specs.Prelude.{◌≤◌, ◌-◌, length};
+    ghost use Rattle.flow_model.specs.LeafLists.{LeafList, run_of};
+
+    ghost Value = { LeafList };
+
+    ghost view = { λ it. run_of it.table.value it.first it.count };
+
+    ghost invariant = { λ it. it.count ≤ length it.table.value - it.first };
 }
 
 /// The value of a leaf.

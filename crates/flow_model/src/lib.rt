@@ -9,6 +9,8 @@ mod commands;
 mod copies;
 mod graphs;
 mod instances;
+mod leaf_rows;
+mod leaves;
 mod lists;
 mod names;
 mod path_reading;
@@ -27,6 +29,8 @@ pub use graphs::{
 pub use instances::{
     Fact, Fate, FateRow, Hold, ItemLine, Message, Mode, Part, Path, Phase, SourceEnd, Who, WorkLine,
 };
+pub use leaf_rows::{LeafRow, LeafRows};
+pub use leaves::{LeafSteps, StepAt};
 pub use lists::List;
 pub use names::{Bytes, Name, NameFault, Txt, is_name, is_text};
 pub use path_reading::path_of;
