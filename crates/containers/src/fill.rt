@@ -21,8 +21,8 @@ pub fn fresh(alloc: Global, leaves: &Leaves) -> Result<Container, AllocError>
     ensures { IfOk result (λ c. c ≡ fresh_container leaves.now) }
 {
     let mut values = List::new(alloc);
-    for leaf in leaves.leaves.as_slice() {
-        values.push(first_value(alloc, leaf.kind))?;
+    while let Some(kind) = leaves.kind(values.len()) {
+        values.push(first_value(alloc, kind))?;
     }
     Ok(Container { values })
 }

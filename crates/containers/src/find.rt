@@ -1,8 +1,21 @@
 //! Leaves by their names.
 ghost use Rattle.std.specs.Prelude.{◌≡◌, ◌<◌, ◌≤◌, ◌^◌, length, Option, IfSome};
 ghost use Rattle.containers.specs.Named.{names_step, names_leaf, leaf_place};
+ghost use Rattle.flow_model.specs.LeafSteps.{step_at};
+ghost use Rattle.flow_model.specs.declared.graphs.Step.TheVariants.{Place};
 
-use flow_model::{Leaf, LeafAt, Leaves, Step, StepTree};
+use flow_model::{LeafAt, LeafSteps, Leaves, Step, StepAt, StepTree};
+
+/// Whether a written step names a place of an array.
+fn is_place(place: u32, written: &StepTree) -> bool
+    ensures { result ≡ names_step written.now (Place place) }
+{
+    match written {
+        StepTree::Member(_) => false,
+        StepTree::Rc => false,
+        StepTree::Place(other) => u64::from(place) == *other,
+    }
+}
 
 /// Whether a written step names a step.
 fn is_step(step: &Step, written: &StepTree) -> bool
@@ -19,36 +32,43 @@ fn is_step(step: &Step, written: &StepTree) -> bool
             StepTree::Rc => true,
             StepTree::Place(_) => false,
         },
-        Step::Place(place) => match written {
-            StepTree::Member(_) => false,
-            StepTree::Rc => false,
-            StepTree::Place(other) => u64::from(*place) == *other,
-        },
+        Step::Place(place) => is_place(*place, written),
     }
 }
 
-/// Whether written steps name the steps of a leaf.
-fn are_steps(steps: &[Step], written: &[StepTree]) -> bool
-    ensures { result ≡ names_leaf written.now steps.now }
+/// Whether a written step names a step that is found.
+fn is_found(found: StepAt<'_>, written: &StepTree) -> bool
+    ensures { result ≡ names_step written.now (step_at found.entry) }
 {
-    if steps.len() != written.len() {
-        return false;
+    match found {
+        StepAt::Step(step) => is_step(step, written),
+        StepAt::Place(place) => is_place(place, written),
     }
-    for (i, step) in steps.iter().enumerate() {
-        if !is_step(step, &written[i]) {
+}
+
+/// Whether written steps name those of a leaf.
+fn are_steps(steps: LeafSteps<'_>, written: &[StepTree]) -> bool
+    ensures { result ≡ names_leaf written.now steps.entry }
+{
+    let mut rest = steps;
+    for step in written {
+        let Some(found) = rest.next() else {
+            return false;
+        };
+        if !is_found(found, step) {
             return false;
         }
     }
-    true
+    rest.next().is_none()
 }
 
 /// The place among all leaves.
-fn leaf_index(leaves: &[Leaf], steps: &[StepTree]) -> Option<usize>
-    ensures place { result ≡ leaf_place leaves.now steps.now }
-    ensures within { IfSome result (λ i. i < length leaves.now) }
+fn leaf_index(leaves: &Leaves, steps: &[StepTree]) -> Option<usize>
+    ensures place { result ≡ leaf_place leaves.now.leaves steps.now }
+    ensures within { IfSome result (λ i. i < length leaves.now.leaves) }
 {
-    for (i, leaf) in leaves.iter().enumerate() {
-        if are_steps(leaf.name.steps.as_slice(), steps) {
+    for i in 0..leaves.len() {
+        if are_steps(leaves.steps(i), steps) {
             return Some(i);
         }
     }
@@ -59,7 +79,7 @@ fn leaf_index(leaves: &[Leaf], steps: &[StepTree]) -> Option<usize>
 pub fn find_leaf(leaves: &Leaves, leaf: &LeafAt) -> Option<u32>
     ensures { length leaves.now.leaves < 2 ^ 32 → result ≡ leaf_place leaves.now.leaves leaf.now.steps }
 {
-    match leaf_index(leaves.leaves.as_slice(), leaf.steps.as_slice()) {
+    match leaf_index(leaves, leaf.steps.as_slice()) {
         None => None,
         Some(place) if place <= u32::MAX as usize => Some(place as u32),
         Some(_) => None,

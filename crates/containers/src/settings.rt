@@ -6,7 +6,7 @@ ghost use Rattle.containers.specs.Settings.{filled, written_number, number_place
 use crate::fill::set_if_there;
 use crate::find::find_leaf;
 use flow_model::{
-    Container, Kind, Leaf, LeafAt, Leaves, List, NumberAt, RawSetting, RawValue, Setting, Value,
+    Container, Kind, LeafAt, Leaves, List, NumberAt, RawSetting, RawValue, Setting, Value,
 };
 use std::alloc::{AllocError, Global};
 
@@ -55,18 +55,12 @@ fn value_of(alloc: Global, kind: Kind, value: &RawValue) -> Result<Option<Value>
     }
 }
 
-fn leaf_at(leaves: &Leaves, place: u32) -> Option<&Leaf>
-    ensures { option_copied result ≡ slice_get leaves.now.leaves place }
-{
-    leaves.leaves.as_slice().get(place as usize)
-}
-
 /// The place of the leaf that is written so, if it is there; an error where it needs more than 16 bits,
 /// since no container has room for so many leaves.
 fn place_of(leaves: &Leaves, leaf: &LeafAt) -> Result<Option<u16>, AllocError>
     ensures { IfOk result (λ place. place ≡ leaf_place leaves.now.leaves leaf.now.steps) }
 {
-    if leaves.leaves.len() > MOST_LEAVES {
+    if leaves.len() > MOST_LEAVES {
         return Err(AllocError);
     }
     let Some(place) = find_leaf(leaves, leaf) else {
@@ -89,10 +83,10 @@ fn setting_of(
     let Some(place) = place_of(leaves, &setting.leaf)? else {
         return Ok(Err(setting.leaf.place));
     };
-    let Some(leaf) = leaf_at(leaves, u32::from(place)) else {
+    let Some(kind) = leaves.kind(usize::from(place)) else {
         return Ok(Err(setting.leaf.place));
     };
-    match value_of(alloc, leaf.kind, &setting.value)? {
+    match value_of(alloc, kind, &setting.value)? {
         None => Ok(Err(value_place(&setting.value))),
         Some(value) => Ok(Ok(Setting { leaf: place, value })),
     }
