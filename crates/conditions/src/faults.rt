@@ -20,8 +20,7 @@ fn leaf_kind(leaves: &Leaves, leaf: &LeafAt) -> Option<Kind>
     ensures { length leaves.now.leaves < 2 ^ 32 → result ≡ kind_at leaves.now.leaves (leaf_place leaves.now.leaves leaf.now.steps) }
 {
     let place = find_leaf(leaves, leaf)?;
-    let found = leaves.leaves.as_slice().get(place as usize)?;
-    Some(found.kind)
+    leaves.kind(place as usize)
 }
 
 /// The place of a term's leaf, where it isn't there.
