@@ -1,16 +1,15 @@
 //! Two programs, one after the other: which completions are taken, and what they come to.
 use crate::{FateFault, Fates, fates};
 use flow_model::{
-    Activity, Container, Control, DoneBy, Fact, Fate, Graph, Join, Leaves, Library, List, Name,
-    Part, Path, Program, Template, When, Wiring, Work,
+    Activity, Container, Control, DoneBy, Fact, Fate, Graph, Join, LeafRows, Leaves, Library, List,
+    Name, Part, Path, Program, Template, When, Wiring, Work,
 };
 use std::alloc::Global;
+use std::rc::Rc;
 use std::test::Fail;
 
-fn leaves(alloc: Global) -> Leaves {
-    Leaves {
-        leaves: List::new(alloc),
-    }
+fn leaves(alloc: Global) -> Result<Leaves, Fail> {
+    Ok(Leaves::new(Rc::new(alloc, LeafRows::new(alloc))?, 0, 0))
 }
 
 fn nothing(alloc: Global) -> Container {
@@ -27,8 +26,8 @@ fn activity(alloc: Global, name: &[u8]) -> Result<Activity, Fail> {
             by: DoneBy::Starter,
             expires: None,
         }),
-        input: leaves(alloc),
-        output: leaves(alloc),
+        input: leaves(alloc)?,
+        output: leaves(alloc)?,
         join: Join::All,
         exit: None,
     })
@@ -72,8 +71,8 @@ fn graph(alloc: Global) -> Result<Graph, Fail> {
         when: When::Always,
     })?;
     Ok(Graph {
-        input: leaves(alloc),
-        output: leaves(alloc),
+        input: leaves(alloc)?,
+        output: leaves(alloc)?,
         activities,
         controls,
         lines: List::new(alloc),

@@ -279,9 +279,9 @@ fn is_of(value: &Value, kind: Kind) -> bool
 fn setting_fits(leaves: &Leaves, setting: &Setting) -> bool
     ensures { result ≡ fits leaves.now.leaves setting.now }
 {
-    match leaves.leaves.as_slice().get(setting.leaf as usize) {
+    match leaves.kind(usize::from(setting.leaf)) {
         None => false,
-        Some(leaf) => is_of(&setting.value, leaf.kind),
+        Some(kind) => is_of(&setting.value, kind),
     }
 }
 

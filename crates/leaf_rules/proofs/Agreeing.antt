@@ -1,5 +1,5 @@
 -- A rule on the uses of leaves finds the same places over two kinds of leaves that agree on the containers of a graph.
-use Rattle.std.proofs.Common.{◌≡◌, ℕ, List, [], ◌∷◌, Option, Some, None, refl, sym, ap, subst, inl, inr, ⊎_elim, suc, arith}
+use Rattle.std.proofs.Common.{◌≡◌, ℕ, List, [], ◌∷◌, get_or, Option, Some, None, refl, sym, ap, subst, inl, inr, ⊎_elim, suc, arith}
 use Rattle.std.specs.Prelude.{slice_get}
 use Rattle.std.specs.List.{All}
 use Rattle.std.specs.Option.{option_and_then}
@@ -100,3 +100,14 @@ least_agreed finds breaks wanted there scopes found all =
     (λ p.
     any_all (λ s. HasContainers wanted there (graph_at s)) (λ s. IsInUses finds breaks wanted (graph_at s)) (λ s. IsInUses finds breaks there (graph_at s)) p
     (λ s h. uses_to there wanted (graph_at s) (flipped wanted there (graph_at s) h) finds breaks p) scopes all)
+
+-- leaves that agree on all names agree on the containers of all graphs
+pub agreed_everywhere : (wanted there : Leafing) → ((name : List ℕ) → there name ≡ wanted name) → (scopes : List Scope) → All (λ s. HasContainers wanted there (graph_at s)) scopes
+agreed_everywhere wanted there same scopes = λ k d less. on (graph_at (get_or scopes k d))
+  where
+    on : (g : GraphAt) → HasContainers wanted there g
+    on g = record {
+      input = same g.input.name;
+      output = same g.output.name;
+      activities = λ k d less. let a = get_or (activities_in g.elements) k d in (same a.input.name, same a.output.name);
+    }

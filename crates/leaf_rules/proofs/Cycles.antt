@@ -88,9 +88,13 @@ module _ (structures : List StructDef) where
           none t.0.name.place (record { number = a; s = t.0; is = t.1; closed = (through, closed); at = refl })
 
   module _ (nodes : ℕ) (edges : List (ℕ × ℕ)) (all : nodes ≡ length structures) (is : edges ≡ kind_edges structures) (found : Option (List ℕ)) (h : MatchOption found (IsCyclic edges) (IsOrder nodes edges)) where
+    pub order_where : (order : List ℕ) → found ≡ Some order → IsOrder (length structures) (kind_edges structures) order
+    order_where order some =
+        subst (λ (n : ℕ). IsOrder n (kind_edges structures) order) all (subst (λ (es : List (ℕ × ℕ)). IsOrder nodes es order) is (subst (λ (o : Option (List ℕ)). MatchOption o (IsCyclic edges) (IsOrder nodes edges)) some h))
+
     pub none_where : (order : List ℕ) → found ≡ Some order → IsLeastOf (IsInStructureCycle structures) None
     none_where order some =
-        no_cycle order (subst (λ (n : ℕ). IsOrder n (kind_edges structures) order) all (subst (λ (es : List (ℕ × ℕ)). IsOrder nodes es order) is (subst (λ (o : Option (List ℕ)). MatchOption o (IsCyclic edges) (IsOrder nodes edges)) some h)))
+        no_cycle order (order_where order some)
 
     pub some_where : AreNodes nodes edges → found ≡ None → IsLeastOf (IsInStructureCycle structures) None → ⊥
     some_where within none =

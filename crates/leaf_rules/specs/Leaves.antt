@@ -1,7 +1,6 @@
 -- The leaves that conditions and maps read and write, where the leaves that names of structures have are known.
-use Rattle.std.specs.Prelude.{ℕ, Option, List, ◌∷◌, bytes_eq}
+use Rattle.std.specs.Prelude.{ℕ, Option, List, ◌∷◌, slice_get}
 use Rattle.std.specs.Option.{option_map, option_and_then}
-use Rattle.std.specs.HashMap as hash
 use Rattle.flow_model.specs.declared.graphs.Leaf.{Leaf}
 use Rattle.flow_model.specs.declared.trees.ElementTree.{ElementTree}
 use Rattle.flow_model.specs.declared.trees.EndTree.{EndTree}
@@ -12,15 +11,21 @@ use Rattle.text_graphs.specs.GraphTexts.{GraphText}
 use Rattle.leaf_rules.specs.ReturnCodes.{return_code}
 pub use Rattle.leaf_rules.specs.StructureLeaves.{Leafing}
 use Rattle.text_graphs.specs.Texts.{activity_named}
+use Rattle.leaf_rules.specs.Structures.{structure_in, behind}
+use Rattle.leaf_rules.specs.declared.forms.StructureLeaves.{StructureLeaves}
 use Rattle.leaf_rules.specs.declared.members.LeafTable.{LeafTable}
 
 -- the leaves of an output, the return code before the others
 abbrev pub with_code : Option (List Leaf) → Option (List Leaf)
 with_code leaves = option_map (λ found. return_code ∷ found) leaves
 
--- the leaves that a table has
+-- the leaves in both forms that a table has for the structure of a name
+abbrev pub forms_named : LeafTable → List ℕ → Option StructureLeaves
+forms_named table name = option_and_then (λ number. slice_get table.leaves.items number) (structure_in (behind table.structures.definitions.items) name)
+
+-- the leaves that it has
 abbrev pub table_leaves : LeafTable → Leafing
-table_leaves table name = option_map (λ both. both.plain.leaves) (hash.get_by (λ key. bytes_eq name key.now) table.leaves)
+table_leaves table name = option_map (λ both. both.plain.leaves) (forms_named table name)
 
 -- of the input of an activity
 abbrev pub input_leaves : Leafing → List ElementTree → List ℕ → Option (List Leaf)

@@ -4,7 +4,8 @@ pub mod Structures
 pub mod StructureLeaves
 pub mod KindEdges
 pub mod Counts
-pub mod Walking
+pub mod Ordered
+pub mod Runs
 pub mod Tables
 pub mod ArrayCounts
 pub mod LeafUses

@@ -1,9 +1,12 @@
 //! The leaves of a structure, as containers have them: an output has `_RC` besides.
-ghost use Rattle.std.specs.Prelude.{◌≡◌, ◌<◌, ◌^◌, [], ◌∷◌, ◌++◌, length, IfOk};
+ghost use Rattle.std.specs.Prelude.{◌≡◌, ◌<◌, ◌^◌, ◌∷◌, length, map, IfOk};
 ghost use Rattle.leaf_rules.specs.ReturnCodes.{return_code};
+ghost use Rattle.leaf_rules.specs.Runs.{rows_of, IsOutputRun, AreOutputRuns};
 
-use flow_model::{Kind, Leaf, LeafName, Leaves, List, Step};
+use crate::rows::Run;
+use flow_model::{LeafRows, Leaves};
 use std::alloc::{AllocError, Global};
+use std::rc::Rc;
 use text_graphs::narrow;
 
 /// The leaves of a structure, with `_RC` before them and without.
@@ -15,77 +18,30 @@ pub struct StructureLeaves {
     ghost few: { length coded.leaves < 2 ^ 32 },
 }
 
-fn step_copy(alloc: Global, step: &Step) -> Result<Step, AllocError>
-    ensures { IfOk result (λ made. made ≡ step.now) }
+/// The leaves of a structure in both forms, by their run of a table.
+fn both_forms(table: &Rc<LeafRows>, run: Run) -> Result<StructureLeaves, AllocError>
+    requires { IsOutputRun table.now.value run }
+    ensures { IfOk result (λ made. made.coded.leaves ≡ rows_of table.now.value run) }
 {
-    match step {
-        Step::Member(name) => Ok(Step::Member(name.copy(alloc)?)),
-        Step::Rc => Ok(Step::Rc),
-        Step::Place(place) => Ok(Step::Place(*place)),
+    let coded = Leaves::new(table.clone()?, run.first, run.count);
+    let behind = narrow(run.first as usize + 1)?;
+    let plain = Leaves::new(table.clone()?, behind, run.count.saturating_sub(1));
+    let _few = coded.len();
+    Ok(StructureLeaves { plain, coded })
+}
+
+/// The leaves of structures in both forms, by their runs of a table.
+pub(crate) fn all_forms(
+    alloc: Global,
+    table: &Rc<LeafRows>,
+    runs: &[Run],
+) -> Result<Vec<StructureLeaves>, AllocError>
+    requires { AreOutputRuns table.now.value runs.now }
+    ensures { IfOk result (λ made. map (λ forms. forms.coded.leaves) made.items ≡ map (rows_of table.now.value) runs.now) }
+{
+    let mut made = Vec::new(alloc);
+    for run in runs {
+        made.push(both_forms(table, *run)?)?;
     }
-}
-
-fn steps_copy(alloc: Global, steps: &[Step]) -> Result<List<Step>, AllocError>
-    ensures { IfOk result (λ made. made ≡ steps.now) }
-{
-    let mut copies = List::new(alloc);
-    for step in steps {
-        copies.push(step_copy(alloc, step)?)?;
-    }
-    Ok(copies)
-}
-
-fn leaf_copy(alloc: Global, leaf: &Leaf) -> Result<Leaf, AllocError>
-    ensures { IfOk result (λ made. made ≡ leaf.now) }
-{
-    let steps = steps_copy(alloc, leaf.name.steps.as_slice())?;
-    Ok(Leaf {
-        name: LeafName { steps },
-        kind: leaf.kind,
-    })
-}
-
-/// Leaves behind some that are there.
-fn with_leaves(alloc: Global, before: List<Leaf>, leaves: &[Leaf]) -> Result<List<Leaf>, AllocError>
-    ensures { IfOk result (λ made. made ≡ before ++ leaves.now) }
-{
-    let mut copies = before;
-    for leaf in leaves {
-        copies.push(leaf_copy(alloc, leaf)?)?;
-    }
-    Ok(copies)
-}
-
-/// Equal leaves.
-pub fn leaves_copy(alloc: Global, leaves: &Leaves) -> Result<Leaves, AllocError>
-    ensures { IfOk result (λ made. made.leaves ≡ leaves.now.leaves) }
-{
-    let leaves = with_leaves(alloc, List::new(alloc), leaves.leaves.as_slice())?;
-    Ok(Leaves { leaves })
-}
-
-/// The leaf of a return code.
-fn code_leaf(alloc: Global) -> Result<List<Leaf>, AllocError>
-    ensures { IfOk result (λ made. made ≡ return_code ∷ []) }
-{
-    let mut steps = List::new(alloc);
-    steps.push(Step::Rc)?;
-    let mut leaves = List::new(alloc);
-    leaves.push(Leaf {
-        name: LeafName { steps },
-        kind: Kind::Long,
-    })?;
-    Ok(leaves)
-}
-
-/// The leaves of a structure in both forms.
-pub fn both_forms(alloc: Global, plain: Leaves) -> Result<StructureLeaves, AllocError>
-    ensures { IfOk result (λ made. made.plain ≡ plain) }
-{
-    let leaves = with_leaves(alloc, code_leaf(alloc)?, plain.leaves.as_slice())?;
-    let _fits = narrow(leaves.len())?;
-    Ok(StructureLeaves {
-        plain,
-        coded: Leaves { leaves },
-    })
+    Ok(made)
 }

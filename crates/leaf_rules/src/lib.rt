@@ -5,11 +5,11 @@
 
 mod forms;
 mod members;
+mod rows;
 mod structures;
 mod uses;
-mod walks;
 
-pub use forms::{StructureLeaves, leaves_copy};
+pub use forms::StructureLeaves;
 pub use members::LeafTable;
 pub use structures::Structures;
 pub use uses::{mixed_kinds, unknown_leaves};

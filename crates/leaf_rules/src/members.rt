@@ -1,102 +1,35 @@
 //! The leaves of the containers of graphs, each structure's made once.
-ghost use Rattle.std.specs.Prelude.{◌≡◌, ◌<◌, ◌^◌, length, IfOk, IfSome, OnOk, option_map};
-ghost use Rattle.std.specs.List.{All};
-ghost use Rattle.text_graphs.specs.Graphs.{graph_at};
+ghost use Rattle.std.specs.Prelude.{◌≡◌, ◌<◌, ◌^◌, ℕ, List, length, IfOk, IfSome, option_copied, option_map};
 ghost use Rattle.text_graphs.specs.GraphTexts.{text_of};
 ghost use Rattle.leaf_rules.specs.Structures.{behind};
 ghost use Rattle.leaf_rules.specs.StructureLeaves.{leaves_in};
-ghost use Rattle.leaf_rules.specs.Counts.{AreCounted};
-ghost use Rattle.leaf_rules.specs.Leaves.{with_code, table_leaves, input_leaves, output_leaves, source_leaves, target_leaves, line_source, line_target};
-ghost use Rattle.leaf_rules.specs.Tables.{HasContainers, IsTrueTo, IsGrown};
+ghost use Rattle.leaf_rules.specs.Ordered.{IsOrdered};
+ghost use Rattle.leaf_rules.specs.Leaves.{with_code, forms_named, table_leaves, input_leaves, output_leaves, source_leaves, target_leaves, line_source, line_target};
 
-use crate::forms::{StructureLeaves, both_forms};
+use crate::forms::{StructureLeaves, all_forms};
 use crate::structures::Structures;
 use flow_model::{ControlTree, EndTree, EndsTree, Leaves, NameAt};
-use indexmap::IndexMap;
 use std::alloc::{AllocError, Global};
+use std::rc::Rc;
 use text_graphs::Scope;
 
-/// The leaves of the structures that containers of a text have, with `_RC` and without, each made once.
+/// The leaves of the structures of a text, with `_RC` and without, all in one table.
 #[derive(Drop)]
 pub struct LeafTable<'a> {
     structures: Structures<'a>,
-    leaves: IndexMap<&'a [u8], StructureLeaves>,
+    leaves: Vec<StructureLeaves>,
 }
 
 impl<'a> LeafTable<'a> {
-    /// The leaves that the containers of these graphs have. Leaves have to be counted: see `Structures::cycle`.
-    pub fn new(
-        alloc: Global,
-        structures: Structures<'a>,
-        scopes: &[Scope<'a>],
-    ) -> Result<LeafTable<'a>, AllocError>
-        requires { AreCounted (behind structures.definitions.items) structures.counts.items }
+    /// The leaves of structures that have an order: see `Structures::cycle`.
+    pub fn new(alloc: Global, structures: Structures<'a>) -> Result<LeafTable<'a>, AllocError>
+        requires { IsOrdered (behind structures.definitions.items) structures.order }
         ensures kept { IfOk result (λ table. behind table.structures.definitions.items ≡ behind structures.entry.definitions.items) }
-        ensures there { IfOk result (λ table. All (λ s. HasContainers (leaves_in (behind structures.entry.definitions.items)) (table_leaves table) (graph_at s)) scopes.now) }
+        ensures there { IfOk result (λ table. (name : List ℕ) → table_leaves table name ≡ leaves_in (behind structures.entry.definitions.items) name) }
     {
-        let mut table = LeafTable {
-            structures,
-            leaves: IndexMap::new(alloc),
-        };
-        for scope in scopes {
-            table.add_scope(alloc, scope)?;
-        }
-        Ok(table)
-    }
-
-    /// Adds the leaves of the containers of a graph.
-    fn add_scope(&mut self, alloc: Global, scope: &Scope<'a>) -> Result<(), AllocError>
-        requires counted { AreCounted (behind self.old.structures.definitions.items) self.old.structures.counts.items }
-        requires right { IsTrueTo (leaves_in (behind self.old.structures.definitions.items)) (table_leaves self.old) }
-        ensures kept { OnOk result (self.new.structures ≡ self.old.structures) }
-        ensures grown { OnOk result (IsGrown (leaves_in (behind self.old.structures.definitions.items)) (table_leaves self.old) (table_leaves self.new)) }
-        ensures there { OnOk result (HasContainers (leaves_in (behind self.old.structures.definitions.items)) (table_leaves self.new) (graph_at scope.now)) }
-    {
-        self.add(alloc, scope.input)?;
-        self.add(alloc, scope.output)?;
-        for activity in &scope.activities {
-            self.add_both(alloc, &activity.input, &activity.output)?;
-        }
-        Ok(())
-    }
-
-    fn add_both(
-        &mut self,
-        alloc: Global,
-        input: &'a NameAt,
-        output: &'a NameAt,
-    ) -> Result<(), AllocError>
-        requires counted { AreCounted (behind self.old.structures.definitions.items) self.old.structures.counts.items }
-        requires right { IsTrueTo (leaves_in (behind self.old.structures.definitions.items)) (table_leaves self.old) }
-        ensures kept { OnOk result (self.new.structures ≡ self.old.structures) }
-        ensures grown { OnOk result (IsGrown (leaves_in (behind self.old.structures.definitions.items)) (table_leaves self.old) (table_leaves self.new)) }
-        ensures input { OnOk result (table_leaves self.new input.now.name ≡ leaves_in (behind self.old.structures.definitions.items) input.now.name) }
-        ensures output { OnOk result (table_leaves self.new output.now.name ≡ leaves_in (behind self.old.structures.definitions.items) output.now.name) }
-    {
-        self.add(alloc, input)?;
-        self.add(alloc, output)?;
-        Ok(())
-    }
-
-    /// Adds the leaves of the structure of this name, if it has one and they are not there.
-    fn add(&mut self, alloc: Global, name: &'a NameAt) -> Result<(), AllocError>
-        requires counted { AreCounted (behind self.old.structures.definitions.items) self.old.structures.counts.items }
-        requires right { IsTrueTo (leaves_in (behind self.old.structures.definitions.items)) (table_leaves self.old) }
-        ensures kept { OnOk result (self.new.structures ≡ self.old.structures) }
-        ensures grown { OnOk result (IsGrown (leaves_in (behind self.old.structures.definitions.items)) (table_leaves self.old) (table_leaves self.new)) }
-        ensures there { OnOk result (table_leaves self.new name.now.name ≡ leaves_in (behind self.old.structures.definitions.items) name.now.name) }
-    {
-        let key = name.name.as_slice();
-        if self.leaves.contains_key(&key) {
-            return Ok(());
-        }
-        match self.structures.leaves(alloc, name)? {
-            None => Ok(()),
-            Some(plain) => {
-                self.leaves.insert(key, both_forms(alloc, plain)?)?;
-                Ok(())
-            }
-        }
+        let (table, runs) = structures.rows(alloc, structures.order())?;
+        let leaves = all_forms(alloc, &Rc::new(alloc, table)?, &runs)?;
+        Ok(LeafTable { structures, leaves })
     }
 
     /// The structures of the text.
@@ -106,12 +39,20 @@ impl<'a> LeafTable<'a> {
         &self.structures
     }
 
+    /// The leaves of the structure of this name.
+    fn forms(&self, name: &'a NameAt) -> Option<&StructureLeaves>
+        ensures { option_copied result ≡ forms_named self.now name.now.name }
+    {
+        let number = self.structures.number(name)?;
+        self.leaves.get(number as usize)
+    }
+
     /// The leaves of a structure, without `_RC`.
     pub fn plain(&self, name: &'a NameAt) -> Option<&Leaves>
         ensures leaves { option_map (λ l. l.now.leaves) result ≡ table_leaves self.now name.now.name }
         ensures few { IfSome result (λ l. length l.now.leaves < 2 ^ 32) }
     {
-        match self.leaves.get(&name.name.as_slice()) {
+        match self.forms(name) {
             None => None,
             Some(found) => Some(&found.plain),
         }
@@ -122,7 +63,7 @@ impl<'a> LeafTable<'a> {
         ensures leaves { option_map (λ l. l.now.leaves) result ≡ with_code (table_leaves self.now name.now.name) }
         ensures few { IfSome result (λ l. length l.now.leaves < 2 ^ 32) }
     {
-        match self.leaves.get(&name.name.as_slice()) {
+        match self.forms(name) {
             None => None,
             Some(found) => Some(&found.coded),
         }

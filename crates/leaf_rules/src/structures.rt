@@ -1,5 +1,5 @@
 //! The structures of a text with their leaves, and rules 6, 7 and 8 on them.
-ghost use Rattle.std.specs.Prelude.{◌≡◌, ◌⊎◌, ℕ, ◌<◌, ◌++◌, [], map, length, false, replicate, slice_index, slice_index_or, slice_set, IfOk, IsTrue, OnOk};
+ghost use Rattle.std.specs.Prelude.{◌≡◌, ◌⊎◌, ℕ, ◌<◌, ◌++◌, [], map, length, false, replicate, slice_get, slice_index, slice_index_or, slice_set, Some, IfOk, IsTrue, OnOk};
 ghost use Rattle.std.specs.List.{filter_map};
 ghost use Rattle.graph_check.specs.Walks.{IsOrder};
 ghost use Rattle.text_graphs.specs.ClosedWalks.{AreClosed};
@@ -7,12 +7,13 @@ ghost use Rattle.text_graphs.specs.Graphs.{graph_at};
 ghost use Rattle.text_graphs.specs.Places.{IsLeastOf, AnyAt};
 ghost use Rattle.text_graphs.specs.Texts.{activities_in, structures_in};
 ghost use Rattle.leaf_rules.specs.Structures.{AreStructuresNumbered, behind, structure_in, IsNoStructure, IsNoKind, AreNoKinds, AreNoContainers, AreNoContainersIn, NamesNoStructure};
-ghost use Rattle.leaf_rules.specs.StructureLeaves.{element_count, members_named, leaves_to};
+ghost use Rattle.leaf_rules.specs.StructureLeaves.{element_count};
+ghost use Rattle.leaf_rules.specs.Ordered.{IsOrdered};
 ghost use Rattle.leaf_rules.specs.KindEdges.{kind_in, kind_edge, kind_edges, IsInStructureCycle};
 ghost use Rattle.leaf_rules.specs.ArrayCounts.{IsOutside, HasCountOutside, IsCountOutside};
 ghost use Rattle.leaf_rules.specs.Counts.{told, AreCounted, count_at, kind_count, members_count, HasTooManyLeaves};
 
-use flow_model::{ItemTree, KindTree, Member, NameAt, StructDef, Tree};
+use flow_model::{ItemTree, KindTree, List, Member, NameAt, StructDef, Tree};
 use indexmap::IndexMap;
 use std::alloc::{AllocError, Global};
 use text_graphs::{Edges, Scope, lesser, narrow};
@@ -27,6 +28,8 @@ pub struct Structures<'a> {
     numbers: IndexMap<&'a [u8], u32>,
     /// The number of leaves of each; none where structures lead back to themselves.
     counts: Vec<u64>,
+    /// An order in which each comes behind the kinds of its members; none where there is no such order.
+    order: List<u32>,
     ghost numbered: { AreStructuresNumbered (map (λ s. s.now) definitions.items) numbers },
 }
 
@@ -154,6 +157,7 @@ impl<'a> Structures<'a> {
             definitions,
             numbers,
             counts: Vec::new(alloc),
+            order: List::new(alloc),
         })
     }
 
@@ -309,11 +313,13 @@ impl<'a> Structures<'a> {
         ensures kept { behind self.new.definitions.items ≡ behind self.old.definitions.items }
         ensures least { IfOk result (IsLeastOf (IsInStructureCycle (behind self.old.definitions.items))) }
         ensures counted { IfOk result (λ place. place ≡ None → AreCounted (behind self.new.definitions.items) self.new.counts.items) }
+        ensures ordered { IfOk result (λ place. place ≡ None → IsOrdered (behind self.new.definitions.items) self.new.order) }
     {
         let edges = self.edges(alloc)?;
         match edges.order(alloc)? {
             Some(order) => {
                 self.counts = self.leaf_counts(alloc, order.as_slice())?;
+                self.order = order;
                 Ok(None)
             }
             None => {
@@ -379,22 +385,19 @@ impl<'a> Structures<'a> {
         self.definitions.len()
     }
 
-    /// The members of the structure of this name; none where no structure has it.
-    pub(crate) fn members(&self, name: &'a NameAt) -> &'a [Member]
-        ensures { result.now ≡ members_named (behind self.now.definitions.items) name.now.name }
+    /// The structure of this number.
+    pub(crate) fn structure(&self, number: u32) -> &'a StructDef
+        requires { number < length (behind self.now.definitions.items) }
+        ensures { slice_get (behind self.now.definitions.items) number ≡ Some result.now }
     {
-        match self.number(name) {
-            None => &[],
-            Some(number) => self.definitions[number as usize].members.as_slice(),
-        }
+        self.definitions[number as usize]
     }
 
-    /// Whether the structure of this name has leaves.
-    pub(crate) fn has_leaves(&self, name: &'a NameAt) -> bool
-        requires { AreCounted (behind self.now.definitions.items) self.now.counts.items }
-        ensures { result ≡ false → (depth : ℕ) → leaves_to (behind self.now.definitions.items) depth name.now.name ≡ [] }
+    /// An order in which each structure comes behind the kinds of its members.
+    pub(crate) fn order(&self) -> &[u32]
+        ensures { result.now ≡ self.now.order }
     {
-        count_at(&self.counts, self.number(name)) > 0
+        self.order.as_slice()
     }
 
     /// Rule 23 on arrays: a count is outside 1 to 512.

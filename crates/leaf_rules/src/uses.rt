@@ -69,10 +69,7 @@ fn kind_of(leaves: &Leaves, leaf: &LeafAt) -> Option<Kind>
 {
     match find_leaf(leaves, leaf) {
         None => None,
-        Some(place) => match leaves.leaves.as_slice().get(place as usize) {
-            None => None,
-            Some(found) => Some(found.kind),
-        },
+        Some(place) => leaves.kind(place as usize),
     }
 }
 

@@ -1,47 +1,62 @@
 //! Leaves and their values.
 ghost use Rattle.std.specs.Prelude.{◌≡◌, ◌++◌, OnOk};
-ghost use Rattle.reply_text.specs.Leaves.{first_text, later_text, leaf_text, value_text, line_text, container_text};
+ghost use Rattle.flow_model.specs.LeafSteps.{step_at};
+ghost use Rattle.flow_model.specs.declared.graphs.Leaf.{Leaf};
+ghost use Rattle.flow_model.specs.declared.graphs.Step.TheVariants.{Place};
+ghost use Rattle.reply_text.specs.Leaves.{first_text, later_text, steps_text, value_text, line_text, container_text};
 
-use flow_model::{Container, Leaf, Leaves, Step, Value};
+use flow_model::{Container, LeafSteps, Leaves, Step, StepAt, Value};
 use flow_text::{decimal, quoted_name, quoted_text, signed};
 use std::alloc::AllocError;
 
-/// Appends the first step of a leaf.
-fn write_first(out: &mut Vec<u8>, step: &Step) -> Result<(), AllocError>
-    ensures { OnOk result (out.new.items ≡ out.old.items ++ first_text step.now) }
+/// Appends a place of an array.
+fn write_place(out: &mut Vec<u8>, place: u32) -> Result<(), AllocError>
+    ensures first { OnOk result (out.new.items ≡ out.old.items ++ first_text (Place place)) }
+    ensures later { OnOk result (out.new.items ≡ out.old.items ++ later_text (Place place)) }
 {
-    match step {
-        Step::Rc => out.extend_from_slice(b"'_RC'"),
-        Step::Member(name) => quoted_name(out, name.as_slice()),
-        Step::Place(place) => {
-            out.push(b'[')?;
-            decimal(out, u64::from(*place))?;
-            out.push(b']')?;
-            Ok(())
-        }
+    out.push(b'[')?;
+    decimal(out, u64::from(place))?;
+    out.push(b']')?;
+    Ok(())
+}
+
+/// Appends the first step of a leaf.
+fn write_first(out: &mut Vec<u8>, found: StepAt<'_>) -> Result<(), AllocError>
+    ensures { OnOk result (out.new.items ≡ out.old.items ++ first_text (step_at found.entry)) }
+{
+    match found {
+        StepAt::Step(Step::Rc) => out.extend_from_slice(b"'_RC'"),
+        StepAt::Step(Step::Member(name)) => quoted_name(out, name.as_slice()),
+        StepAt::Step(Step::Place(place)) => write_place(out, *place),
+        StepAt::Place(place) => write_place(out, place),
     }
 }
 
 /// Appends a step behind another one.
-fn write_later(out: &mut Vec<u8>, step: &Step) -> Result<(), AllocError>
-    ensures { OnOk result (out.new.items ≡ out.old.items ++ later_text step.now) }
+fn write_later(out: &mut Vec<u8>, found: StepAt<'_>) -> Result<(), AllocError>
+    ensures { OnOk result (out.new.items ≡ out.old.items ++ later_text (step_at found.entry)) }
 {
-    if let Step::Member(_) = step {
-        out.push(b'.')?;
-        return write_first(out, step);
+    match found {
+        StepAt::Step(Step::Rc) => out.extend_from_slice(b"'_RC'"),
+        StepAt::Step(Step::Member(name)) => {
+            out.push(b'.')?;
+            quoted_name(out, name.as_slice())
+        }
+        StepAt::Step(Step::Place(place)) => write_place(out, *place),
+        StepAt::Place(place) => write_place(out, place),
     }
-    write_first(out, step)
 }
 
 /// Appends a leaf: `'A'`, `'A'.'B'`, `'A'[0]`.
-fn write_leaf(out: &mut Vec<u8>, leaf: &Leaf) -> Result<(), AllocError>
-    ensures { OnOk result (out.new.items ≡ out.old.items ++ leaf_text leaf.now) }
+fn write_leaf(out: &mut Vec<u8>, steps: LeafSteps<'_>) -> Result<(), AllocError>
+    ensures { OnOk result (out.new.items ≡ out.old.items ++ steps_text steps.entry) }
 {
-    let [first, rest @ ..] = leaf.name.steps.as_slice() else {
+    let mut rest = steps;
+    let Some(first) = rest.next() else {
         return Ok(());
     };
     write_first(out, first)?;
-    for step in rest {
+    while let Some(step) = rest.next() {
         write_later(out, step)?;
     }
     Ok(())
@@ -58,10 +73,10 @@ fn write_value(out: &mut Vec<u8>, value: &Value) -> Result<(), AllocError>
 }
 
 /// Appends the line of a leaf.
-fn write_line(out: &mut Vec<u8>, leaf: &Leaf, value: &Value) -> Result<(), AllocError>
-    ensures { OnOk result (out.new.items ≡ out.old.items ++ line_text (leaf.now, value.now)) }
+fn write_line(out: &mut Vec<u8>, steps: LeafSteps<'_>, value: &Value) -> Result<(), AllocError>
+    ensures { (leaf : Leaf) → steps.entry ≡ leaf.name.steps → OnOk result (out.new.items ≡ out.old.items ++ line_text (leaf, value.now)) }
 {
-    write_leaf(out, leaf)?;
+    write_leaf(out, steps)?;
     out.extend_from_slice(b" = ")?;
     write_value(out, value)?;
     out.push(b'\n')?;
@@ -78,11 +93,11 @@ pub fn write_container(
     ensures { OnOk result (out.new.items ≡ out.old.items ++ container_text leaves.now container.now) }
 {
     let values = container.values.as_slice();
-    for (place, leaf) in leaves.leaves.as_slice().iter().enumerate() {
+    for place in 0..leaves.len() {
         let Some(value) = values.get(place) else {
             return Ok(());
         };
-        write_line(out, leaf, value)?;
+        write_line(out, leaves.steps(place), value)?;
     }
     Ok(())
 }

@@ -1,10 +1,11 @@
 //! A row, a container, and the words of phases and modes.
 use crate::{write_container, write_fate, write_mode, write_phase, write_quoted_path, write_row};
 use flow_model::{
-    Container, Fate, FateRow, Kind, Leaf, LeafName, Leaves, List, Mode, Name, Path, Phase, Step,
+    Container, Fate, FateRow, Kind, LeafRow, LeafRows, Leaves, List, Mode, Name, Path, Phase, Step,
     Txt, Value,
 };
 use std::alloc::Global;
+use std::rc::Rc;
 use std::test::Fail;
 
 fn root(alloc: Global) -> Path {
@@ -14,24 +15,29 @@ fn root(alloc: Global) -> Path {
     }
 }
 
-fn nested(alloc: Global) -> Result<Leaf, Fail> {
-    let mut steps = List::new(alloc);
-    steps.push(Step::Member(Name::new(alloc, b"A".as_slice())?))?;
-    steps.push(Step::Place(2))?;
-    steps.push(Step::Member(Name::new(alloc, b"B".as_slice())?))?;
-    Ok(Leaf {
-        name: LeafName { steps },
-        kind: Kind::Str,
+/// A leaf whose first step is this one, and whose others are those of the row before this one; 0 is none.
+fn row(alloc: Global, head: Step, place: u16, rest: u32, kind: Kind) -> Result<LeafRow, Fail> {
+    Ok(LeafRow {
+        head: Rc::new(alloc, head)?,
+        rest,
+        place,
+        kind,
     })
 }
 
-fn return_code(alloc: Global) -> Result<Leaf, Fail> {
-    let mut steps = List::new(alloc);
-    steps.push(Step::Rc)?;
-    Ok(Leaf {
-        name: LeafName { steps },
-        kind: Kind::Long,
-    })
+fn member(alloc: Global, name: &[u8]) -> Result<Step, Fail> {
+    Ok(Step::Member(Name::new(alloc, name)?))
+}
+
+/// The leaves `'_RC'` and `'A'[2].'B'`.
+fn leaves(alloc: Global) -> Result<Leaves, Fail> {
+    let mut rows = LeafRows::new(alloc);
+    let inner = member(alloc, b"B".as_slice())?;
+    rows.push(row(alloc, inner, 0, 0, Kind::Str)?)?;
+    rows.push(row(alloc, Step::Rc, 0, 0, Kind::Long)?)?;
+    let outer = member(alloc, b"A".as_slice())?;
+    rows.push(row(alloc, outer, 3, 1, Kind::Str)?)?;
+    Ok(Leaves::new(Rc::new(alloc, rows)?, 1, 2))
 }
 
 #[test]
@@ -51,14 +57,12 @@ fn writes_a_row(rt: HostRuntime) -> Result<(), Fail> {
 #[test]
 fn writes_a_container(rt: HostRuntime) -> Result<(), Fail> {
     let alloc = rt.alloc();
-    let mut leaves = List::new(alloc);
-    leaves.push(return_code(alloc)?)?;
-    leaves.push(nested(alloc)?)?;
+    let leaves = leaves(alloc)?;
     let mut values = List::new(alloc);
     values.push(Value::Whole(-5))?;
     values.push(Value::Text(Txt::new(alloc, b"a \"b\"".as_slice())?))?;
     let mut out = Vec::new(alloc);
-    write_container(&mut out, &Leaves { leaves }, &Container { values })?;
+    write_container(&mut out, &leaves, &Container { values })?;
     assert!(rt; out.as_slice() == b"'_RC' = -5\n'A'[2].'B' = \"a \"\"b\"\"\"\n".as_slice());
     Ok(())
 }

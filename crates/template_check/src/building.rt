@@ -24,7 +24,7 @@ use flow_model::{
     LoopLine, MapEnd, MapTree, NameAt, NumberAt, PersonDef, PersonTree, ProcessTree, Program,
     Template, When, WhenTree, Work, WorkTree,
 };
-use leaf_rules::{LeafTable, leaves_copy};
+use leaf_rules::LeafTable;
 use process_rules::{Callee, Catalog, Known, Shape, is_manual};
 use std::alloc::{AllocError, AllocFailed, Global};
 use text_graphs::{Scope, narrow};
@@ -420,7 +420,7 @@ impl<'a> Builder<'a> {
     {
         match self.table.plain(name) {
             None => Err(BuildFault::Missing),
-            Some(leaves) => Ok(leaves_copy(self.alloc, leaves)?),
+            Some(leaves) => Ok(leaves.copy()?),
         }
     }
 
@@ -430,7 +430,7 @@ impl<'a> Builder<'a> {
     {
         match self.table.coded(name) {
             None => Err(BuildFault::Missing),
-            Some(leaves) => Ok(leaves_copy(self.alloc, leaves)?),
+            Some(leaves) => Ok(leaves.copy()?),
         }
     }
 

@@ -1,7 +1,7 @@
 //! A text judged by the rules in their order, and what an accepted one compiles to.
 ghost use Rattle.std.specs.Prelude.{◌≡◌, ℕ, ◌<◌, ◌≤◌, ◌-◌, ◌^◌, map, None, length, take, IfOk, IfErr, OnOk};
 ghost use Rattle.std.specs.List.{All};
-ghost use Rattle.leaf_rules.specs.Counts.{AreCounted};
+ghost use Rattle.leaf_rules.specs.Ordered.{IsOrdered};
 ghost use Rattle.leaf_rules.specs.Leaves.{table_leaves};
 ghost use Rattle.leaf_rules.specs.StructureLeaves.{leaves_in};
 ghost use Rattle.leaf_rules.specs.Structures.{behind};
@@ -208,14 +208,14 @@ fn read_and_built<'a>(
 ) -> Result<Judged, AllocError>
     requires graphs { AreGraphsOf tree.now.items (graphs_in scopes.now) }
     requires structures { behind structures.definitions.items ≡ structures_in tree.now.items }
-    requires counted { AreCounted (behind structures.definitions.items) structures.counts.items }
+    requires ordered { IsOrdered (behind structures.definitions.items) structures.order }
     requires covered { All (λ p. IsCovered (lists_of scopes.now) p.elements) (processes_in tree.now.items) }
     requires named { All (λ s. AreNamesApart s.elements.now) scopes.now }
     requires connected { All (λ s. IsConnected s.elements.now) scopes.now }
     ensures built { IfOk result (λ judged. IfOk judged (AreBuilt earlier.now tree.now.items)) }
     ensures first { IsIndexed earlier.now → IfOk result (λ judged. IsFirstBroken (from_leaves earlier.now.library tree.now.items) (fault_in judged)) }
 {
-    let table = LeafTable::new(alloc, structures, scopes)?;
+    let table = LeafTable::new(alloc, structures)?;
     if let Some(fault) = first_of_leaves(tree, &table, scopes) {
         return Ok(Err(fault));
     }
@@ -235,7 +235,7 @@ fn connected_and_built<'a>(
 ) -> Result<Judged, AllocError>
     requires graphs { AreGraphsOf tree.now.items (graphs_in scopes.now) }
     requires structures { behind structures.definitions.items ≡ structures_in tree.now.items }
-    requires counted { AreCounted (behind structures.definitions.items) structures.counts.items }
+    requires ordered { IsOrdered (behind structures.definitions.items) structures.order }
     requires covered { All (λ p. IsCovered (lists_of scopes.now) p.elements) (processes_in tree.now.items) }
     requires named { All (λ s. AreNamesApart s.elements.now) scopes.now }
     ensures built { IfOk result (λ judged. IfOk judged (AreBuilt earlier.now tree.now.items)) }

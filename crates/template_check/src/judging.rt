@@ -2,6 +2,7 @@
 ghost use Rattle.std.specs.Prelude.{◌≡◌, ℕ, map, None, IfOk};
 ghost use Rattle.std.specs.List.{All};
 ghost use Rattle.leaf_rules.specs.Counts.{AreCounted};
+ghost use Rattle.leaf_rules.specs.Ordered.{IsOrdered};
 ghost use Rattle.leaf_rules.specs.Leaves.{table_leaves};
 ghost use Rattle.leaf_rules.specs.StructureLeaves.{leaves_in};
 ghost use Rattle.leaf_rules.specs.Structures.{behind};
@@ -63,6 +64,7 @@ pub fn first_of_structures<'a>(
     requires { behind structures.old.definitions.items ≡ structures_in tree.now.items }
     ensures kept { behind structures.new.definitions.items ≡ structures_in tree.now.items }
     ensures counted { IfOk result (λ fault. fault ≡ None → AreCounted (behind structures.new.definitions.items) structures.new.counts.items) }
+    ensures ordered { IfOk result (λ fault. fault ≡ None → IsOrdered (behind structures.new.definitions.items) structures.new.order) }
     ensures first { IfOk result (IsFirstBroken (rules_on_structures tree.now.items)) }
 {
     if let Some(place) = structures.cycle(alloc)? {

@@ -3,7 +3,9 @@ use Rattle.std.specs.List.{All}
 use Rattle.flow_model.specs.declared.trees.StructDef.{StructDef}
 use Rattle.leaf_rules.specs.Leaves.{table_leaves}
 use Rattle.leaf_rules.specs.StructureLeaves.{leaves_in}
+use Rattle.leaf_rules.specs.Structures.{behind}
 use Rattle.leaf_rules.specs.Tables.{HasContainers}
+use Rattle.leaf_rules.proofs.Agreeing.{agreed_everywhere}
 use Rattle.text_graphs.specs.Graphs.{graph_at}
 use Rattle.text_graphs.specs.Texts.{processes_in}
 use Rattle.template_check.specs.Rules.{rules_on_leaves, rules_on_lines, from_callees, IsFirstBroken}
@@ -13,7 +15,8 @@ use Rattle.template_check.proofs.compiling.read_and_built.Goals as goal
 
 pub first_of_leaves-requires-clause-leaves : goal.first_of_leaves-requires-clause-leaves
 first_of_leaves-requires-clause-leaves c =
-    subst (λ (ss : List StructDef). All (λ s. HasContainers (leaves_in ss) (table_leaves c.in_ok-table.table) (graph_at s)) c.args.scopes.now) c.requires.structures c.in_ok-table.ensures.there
+    subst (λ (ss : List StructDef). All (λ s. HasContainers (leaves_in ss) (table_leaves c.in_ok-table.table) (graph_at s)) c.args.scopes.now) c.requires.structures
+    (agreed_everywhere (leaves_in (behind c.args.structures.definitions.items)) (table_leaves c.in_ok-table.table) c.in_ok-table.ensures.there c.args.scopes.now)
 
 pub returns-in-Some-2-clause-first : goal.returns-in-Some-2-clause-first
 returns-in-Some-2-clause-first c = λ indexed.
@@ -28,7 +31,8 @@ called_and_built-requires-clause-sound c = λ limited.
 
 pub called_and_built-requires-clause-leaves : goal.called_and_built-requires-clause-leaves
 called_and_built-requires-clause-leaves c =
-    subst (λ (ss : List StructDef). All (λ s. HasContainers (leaves_in ss) (table_leaves c.in_ok-table.table) (graph_at s)) c.args.scopes.now) c.requires.structures c.in_ok-table.ensures.there
+    subst (λ (ss : List StructDef). All (λ s. HasContainers (leaves_in ss) (table_leaves c.in_ok-table.table) (graph_at s)) c.args.scopes.now) c.requires.structures
+    (agreed_everywhere (leaves_in (behind c.args.structures.definitions.items)) (table_leaves c.in_ok-table.table) c.in_ok-table.ensures.there c.args.scopes.now)
 
 pub returns-clause-first : goal.returns-clause-first
 returns-clause-first c = λ indexed.

@@ -16,3 +16,10 @@ returns-clause-counted c = λ none.
     let structures = behind c.args.self.now.definitions.items in
     absurd (some_where structures edges.nodes edges.pairs.items c.in_ok-edges.ensures.nodes c.in_ok-edges.ensures.pairs c.in_ok-order.field-0 c.in_ok-order.ensures edges.within c.in-None.is
     (subst (IsLeastOf (IsInStructureCycle structures)) none c.least_closed.ensures))
+
+pub returns-clause-ordered : goal.returns-clause-ordered
+returns-clause-ordered c = λ none.
+    let edges = c.in_ok-edges.edges in
+    let structures = behind c.args.self.now.definitions.items in
+    absurd (some_where structures edges.nodes edges.pairs.items c.in_ok-edges.ensures.nodes c.in_ok-edges.ensures.pairs c.in_ok-order.field-0 c.in_ok-order.ensures edges.within c.in-None.is
+    (subst (IsLeastOf (IsInStructureCycle structures)) none c.least_closed.ensures))
