@@ -1,5 +1,5 @@
 //! Leaves and their values.
-ghost use Rattle.std.specs.Prelude.{◌≡◌, ◌++◌, OnOk};
+ghost use Rattle.std.specs.Prelude.{◌≡◌, ◌++◌, slice_get, OnOk, option_copied};
 ghost use Rattle.flow_model.specs.LeafSteps.{step_at};
 ghost use Rattle.flow_model.specs.declared.graphs.Leaf.{Leaf};
 ghost use Rattle.flow_model.specs.declared.graphs.Step.TheVariants.{Place};
@@ -72,6 +72,12 @@ fn write_value(out: &mut Vec<u8>, value: &Value) -> Result<(), AllocError>
     }
 }
 
+fn value_at(container: &Container, place: usize) -> Option<&Value>
+    ensures { option_copied result ≡ slice_get container.now.values place }
+{
+    container.values.as_slice().get(place)
+}
+
 /// Appends the line of a leaf.
 fn write_line(out: &mut Vec<u8>, steps: LeafSteps<'_>, value: &Value) -> Result<(), AllocError>
     ensures { (leaf : Leaf) → steps.entry ≡ leaf.name.steps → OnOk result (out.new.items ≡ out.old.items ++ line_text (leaf, value.now)) }
@@ -92,9 +98,8 @@ pub fn write_container(
 ) -> Result<(), AllocError>
     ensures { OnOk result (out.new.items ≡ out.old.items ++ container_text leaves.now container.now) }
 {
-    let values = container.values.as_slice();
     for place in 0..leaves.len() {
-        let Some(value) = values.get(place) else {
+        let Some(value) = value_at(container, place) else {
             return Ok(());
         };
         write_line(out, leaves.steps(place), value)?;
