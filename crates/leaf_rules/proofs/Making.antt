@@ -121,9 +121,11 @@ module _ (structures : List StructDef) (order : List ℕ) where
             last : (j other depth : ℕ) (t : StructDef) → j ≡ i → slice_get order j ≡ Some other → slice_get structures other ≡ Some t → j ≤ depth → IsMadeAt structures (set runs number run) new other t depth
             last j other depth t here placed there deep =
                 let e : other ≡ number = inside other number (sym placed ∙ ap (slice_get order) here ∙ at) in
-                let t_is = same_structure other t e there in
-                (run, ap (slice_get (set runs number run)) e ∙ set_there within,
-                subst (λ (x : StructDef). IsRun new run (return_code ∷ members_leaves (leaves_to structures depth) x.members)) (sym t_is) (last_made depth (omega arith)))
+                let t_is = same_structure other t e there in (
+                  run,
+                  ap (slice_get (set runs number run)) e ∙ set_there within,
+                  subst (λ (x : StructDef). IsRun new run (return_code ∷ members_leaves (leaves_to structures depth) x.members)) (sym t_is) (last_made depth (omega arith)),
+                )
               where
                 inside : (x y : ℕ) → Some x ≡ Some y → x ≡ y
                 inside x y q = cc

@@ -9,14 +9,13 @@ loop-row-preserved c =
     let old = c.args.table.now in
     let row = c.loop-row.row in
     let so_far = c.loop-row.invariant in
-    let less : row < length old = (let t = c.loop-row-test.true in let e = c.min-past.ensures in let n = c.len.ensures in omega arith) in
-    (
+    let less : row < length old = (let t = c.loop-row-test.true in let e = c.min-past.ensures in let n = c.len.ensures in omega arith) in (
       (let t = c.loop-row-test.true in omega arith),
       (let l = so_far.1 in omega arith),
       elim c.match-kind.branch [
-        in-Some+in_ok-add_row w ↦ below_more old c.loop-row.table c.match-kind.table (c.args.run.first + 1) row c.args.head.now.value (place_steps c.args.place) w.in-Some.kind so_far.1 less so_far.2
+        | in-Some+in_ok-add_row w ↦ below_more old c.loop-row.table c.match-kind.table (c.args.run.first + 1) row c.args.head.now.value (place_steps c.args.place) w.in-Some.kind so_far.1 less so_far.2
             (sym w.in-Some.is ∙ c.kind.ensures) (w.table-is ∙ w.in_ok-add_row.ensures)
-      | in_default w ↦ absurd (none_within old c.loop-row.table row _ less so_far.2 (sym w.in_default.is ∙ c.kind.ensures))
+        | in_default w ↦ absurd (none_within old c.loop-row.table row _ less so_far.2 (sym w.in_default.is ∙ c.kind.ensures))
       ],
     )
 

@@ -21,7 +21,7 @@ loop-element-preserved c = λ inner made.
     let element = c.loop-element.element in
     let so_far = c.loop-element.invariant inner made in
     let now_made =
-        subst (λ (ls : List Leaf). IsKindMade structures runs ls inner m.kind) (sym so_far)
-        (kind_grown structures runs inner old (flat_map (element_leaves inner m) (range_with_len 0 element)) m.kind made) in
+    subst (λ (ls : List Leaf). IsKindMade structures runs ls inner m.kind) (sym so_far)
+    (kind_grown structures runs inner old (flat_map (element_leaves inner m) (range_with_len 0 element)) m.kind made) in
     element_next inner m element old c.loop-element.table c.add_element.new.table so_far
     (rw (c.in_ok-head.ensures.ok, c.in_ok-copy.ensures, c.in_ok-place.ensures) at (c.in_ok-add_element.ensures inner now_made))

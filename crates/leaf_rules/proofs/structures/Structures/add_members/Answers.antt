@@ -18,7 +18,7 @@ loop-member-preserved c = λ inner made.
     let old = c.args.table.now in
     let so_far = c.loop-member.invariant inner made in
     let now_made =
-        subst (λ (ls : List Leaf). IsKindMade structures runs ls inner m.kind) (sym so_far)
-        (kind_grown structures runs inner old (members_leaves inner (take i members)) m.kind (made m (i, less, sym c.member-item.is))) in
+    subst (λ (ls : List Leaf). IsKindMade structures runs ls inner m.kind) (sym so_far)
+    (kind_grown structures runs inner old (members_leaves inner (take i members)) m.kind (made m (i, less, sym c.member-item.is))) in
     member_next inner members i m old c.loop-member.table c.add_member.new.table (slice_get_read members (length members) i m refl less c.member-item.is) so_far
     (c.in_ok-add_member.ensures inner now_made)
