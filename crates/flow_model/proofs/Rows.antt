@@ -10,7 +10,8 @@ use Rattle.flow_model.specs.LeafRows.{place_steps, steps_said, linked_steps, lea
 
 -- ---- lists
 
-front : {X : Type 0} (xs ys : List X) → take (length xs) (xs ++ ys) ≡ xs
+-- a list is the front of a longer one
+pub front : {X : Type 0} (xs ys : List X) → take (length xs) (xs ++ ys) ≡ xs
 front [] ys = refl
 front (x ∷ xs) ys = ap (λ (zs : List _). x ∷ zs) (front xs ys)
 

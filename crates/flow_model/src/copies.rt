@@ -23,7 +23,7 @@ impl Container {
     pub fn copy(&self, alloc: Global) -> Result<Container, AllocError>
         ensures { IfOk result (λ c. c ≡ self.now) }
     {
-        let mut values = List::new(alloc);
+        let mut values = List::with_capacity(alloc, self.values.len())?;
         for value in self.values.as_slice() {
             values.push(value.copy(alloc)?)?;
         }
@@ -48,7 +48,7 @@ impl Path {
     pub fn copy(&self, alloc: Global) -> Result<Path, AllocError>
         ensures { IfOk result (λ p. p ≡ self.now) }
     {
-        let mut parts = List::new(alloc);
+        let mut parts = List::with_capacity(alloc, self.parts.len())?;
         for part in self.parts.as_slice() {
             parts.push(part.copy(alloc)?)?;
         }

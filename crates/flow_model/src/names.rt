@@ -13,10 +13,15 @@ pub struct Bytes {
     bytes: Vec<u8>,
 }
 
-/// A name: a letter, then up to 31 letters, digits, spaces, `_` and `-`.
+/// The greatest number of bytes of a name.
+const NAME_SIZE: usize = 32;
+
+/// A name: a letter, then up to 31 letters, digits, spaces, `_` and `-`. It takes no memory of its own.
 #[derive(Drop)]
 pub struct Name {
-    bytes: Vec<u8>,
+    len: u8,
+    /// The bytes of the name, and zeros behind them.
+    bytes: [u8; NAME_SIZE],
 }
 
 /// A text value: up to 255 bytes from 32 to 126.
@@ -53,11 +58,13 @@ impl Model for Bytes {
 }
 
 impl Model for Name {
-    ghost use Rattle.std.specs.Prelude.{List as Seq, ℕ};
+    ghost use Rattle.std.specs.Prelude.{List as Seq, ℕ, ◌≤◌, take, length};
 
     ghost Value = { Seq ℕ };
 
-    ghost view = { λ n. n.bytes.items };
+    ghost view = { λ n. take n.len n.bytes };
+
+    ghost invariant = { λ n. n.len ≤ 32 };
 }
 
 impl Model for Txt {
@@ -167,8 +174,12 @@ impl Name {
         if !is_name(bytes) {
             return Err(NameFault::Bad);
         }
+        let _alloc = alloc;
+        let mut inside = [0; NAME_SIZE];
+        inside[..bytes.len()].copy_from_slice(bytes);
         Ok(Name {
-            bytes: Vec::from_slice(alloc, bytes)?,
+            len: bytes.len() as u8,
+            bytes: inside,
         })
     }
 
@@ -176,22 +187,24 @@ impl Name {
     pub fn as_slice(&self) -> &[u8]
         ensures { result.now ≡ self.now }
     {
-        self.bytes.as_slice()
+        &self.bytes[..usize::from(self.len)]
     }
 
     /// The number of bytes.
     pub fn len(&self) -> usize
         ensures { result ≡ length self.now }
     {
-        self.bytes.len()
+        usize::from(self.len)
     }
 
     /// An equal name.
     pub fn copy(&self, alloc: Global) -> Result<Name, AllocError>
         ensures { IfOk result (λ n. n ≡ self.now) }
     {
+        let _alloc = alloc;
         Ok(Name {
-            bytes: Vec::from_slice(alloc, self.bytes.as_slice())?,
+            len: self.len,
+            bytes: self.bytes,
         })
     }
 }
