@@ -6,7 +6,7 @@ ghost use Rattle.flow_model.specs.Scopes.{part as part_of};
 ghost use Rattle.certificates.specs.Told.{placed as placed_in, activity_at as activity_in, outer};
 ghost use Rattle.certificates.specs.Kept.{placed_of};
 
-use flow_model::{Activity, Graph, List, Name, Part, Path};
+use flow_model::{Activity, Graph, List, Name, Path};
 use std::alloc::{AllocError, Global};
 
 /// An activity with its place in its graph.
@@ -58,12 +58,7 @@ pub fn path_below(
 ) -> Result<Path, AllocError>
     ensures { IfOk result (λ p. p ≡ below scope.now (part_of name.now attempt)) }
 {
-    let mut path = scope.copy(alloc)?;
-    path.parts.push(Part {
-        name: name.copy(alloc)?,
-        attempt,
-    })?;
-    Ok(path)
+    scope.below(alloc, name, attempt)
 }
 
 /// The scope in which a scope lies; a root's own path for a root.

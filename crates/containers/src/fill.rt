@@ -20,7 +20,7 @@ fn first_value(alloc: Global, kind: Kind) -> Value
 pub fn fresh(alloc: Global, leaves: &Leaves) -> Result<Container, AllocError>
     ensures { IfOk result (λ c. c ≡ fresh_container leaves.now) }
 {
-    let mut values = List::new(alloc);
+    let mut values = List::with_capacity(alloc, leaves.len())?;
     while let Some(kind) = leaves.kind(values.len()) {
         values.push(first_value(alloc, kind))?;
     }
@@ -31,7 +31,7 @@ pub fn fresh(alloc: Global, leaves: &Leaves) -> Result<Container, AllocError>
 pub fn with_return_code(alloc: Global, container: &Container) -> Result<Container, AllocError>
     ensures { IfOk result (λ c. c ≡ with_code container.now) }
 {
-    let mut values = List::new(alloc);
+    let mut values = List::with_capacity(alloc, container.values.len().saturating_add(1))?;
     values.push(Value::Whole(0))?;
     for value in container.values.as_slice() {
         values.push(value.copy(alloc)?)?;

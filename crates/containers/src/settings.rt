@@ -104,7 +104,7 @@ pub fn settings_of(
 ) -> Result<Result<List<Setting>, u32>, AllocError>
     ensures { IfOk result (λ made. made ≡ outcome_by leaves.now (option_copied rc.entry) written.now) }
 {
-    let mut settings = List::new(alloc);
+    let mut settings = List::with_capacity(alloc, written.len())?;
     if let Some(number) = rc {
         let Some(value) = number_value(number) else {
             return Ok(Err(number_place(number)));

@@ -28,7 +28,7 @@ use blocks_subprocs::{Next, first_input, graph_of, next_attempt, next_input, out
 use containers::with_return_code;
 use dead_paths::join;
 use flow_model::{
-    Activity, Container, Fact, Fate, FateRow, Graph, Library, List, Part, Path, SourceEnd, Work,
+    Activity, Container, Fact, Fate, FateRow, Graph, Library, List, Path, SourceEnd, Work,
 };
 use std::alloc::{AllocError, Global};
 
@@ -153,12 +153,7 @@ fn path_of(
 ) -> Result<Path, AllocError>
     ensures { IfOk result (λ p. p ≡ path_below scope.now (part activity.now.name attempt)) }
 {
-    let mut path = scope.copy(alloc)?;
-    path.parts.push(Part {
-        name: activity.name.copy(alloc)?,
-        attempt,
-    })?;
-    Ok(path)
+    scope.below(alloc, &activity.name, attempt)
 }
 
 /// The fate of an activity whose next attempt is this one.

@@ -1,9 +1,8 @@
 -- The leaves of rows.
-use Rattle.std.proofs.Common.{◌≡◌, ◌≢◌, ℕ, zero, suc, ◌+◌, ◌-◌, ◌<◌, ◌≤◌, List, [], ◌∷◌, ◌++◌, length, take, drop, Option, Some, None, refl, sym, ap, ◌∙◌, append_assoc, append-nil, arith}
+use Rattle.std.proofs.Common.{◌≡◌, ◌≢◌, ℕ, zero, suc, ◌+◌, ◌-◌, ◌≤◌, List, [], ◌∷◌, ◌++◌, length, take, Option, Some, None, refl, sym, ap, ◌∙◌, append_assoc, append-nil, arith}
 use Rattle.std.specs.Prelude.{slice_get, option_map}
 use Rattle.std.proofs.lemmas.List.{length-append}
 use Rattle.std.proofs.lemmas.Option.{slice_get_past}
-use Rattle.flow_model.specs.declared.graphs.Kind.{Kind}
 use Rattle.flow_model.specs.declared.graphs.Leaf.{Leaf}
 use Rattle.flow_model.specs.declared.leaf_rows.LeafRow.{LeafRow}
 use Rattle.flow_model.specs.LeafRows.{place_steps, steps_said, linked_steps, leaf_of, leaves_behind}

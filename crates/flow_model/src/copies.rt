@@ -1,9 +1,12 @@
 //! Equal values with memory of their own.
 ghost use Rattle.std.specs.Prelude.{◌≡◌, [], ◌++◌, ◌∷◌, take, IfOk};
+ghost use Rattle.flow_model.specs.Rows.{below};
+ghost use Rattle.flow_model.specs.Scopes.{part};
 
 use crate::graphs::{Container, Value};
 use crate::instances::{Part, Path};
 use crate::lists::List;
+use crate::names::Name;
 use std::alloc::{AllocError, Global};
 
 impl Value {
@@ -52,6 +55,24 @@ impl Path {
         for part in self.parts.as_slice() {
             parts.push(part.copy(alloc)?)?;
         }
+        Ok(Path {
+            root: self.root,
+            parts,
+        })
+    }
+
+    /// The path of an attempt of an activity of this scope.
+    pub fn below(&self, alloc: Global, name: &Name, attempt: u64) -> Result<Path, AllocError>
+        ensures { IfOk result (λ p. p ≡ below self.now (part name.now attempt)) }
+    {
+        let mut parts = List::with_capacity(alloc, self.parts.len().saturating_add(1))?;
+        for part in self.parts.as_slice() {
+            parts.push(part.copy(alloc)?)?;
+        }
+        parts.push(Part {
+            name: name.copy(alloc)?,
+            attempt,
+        })?;
         Ok(Path {
             root: self.root,
             parts,

@@ -115,7 +115,7 @@ fn part_of(alloc: Global, bytes: &[u8]) -> Result<(Part, &[u8]), RecordFault>
 fn many_parts(alloc: Global, count: u8, bytes: &[u8]) -> Result<(List<Part>, &[u8]), RecordFault>
     ensures { Gives (λ x. (x.0, x.1.now)) result (many part count bytes.now) }
 {
-    let mut parts = List::new(alloc);
+    let mut parts = List::with_capacity(alloc, usize::from(count))?;
     let mut rest = bytes;
     for _ in 0..count {
         let (part, after) = part_of(alloc, rest)?;
@@ -203,7 +203,7 @@ fn many_settings(
 ) -> Result<(List<Setting>, &[u8]), RecordFault>
     ensures { Gives (λ x. (x.0, x.1.now)) result (many setting count bytes.now) }
 {
-    let mut settings = List::new(alloc);
+    let mut settings = List::with_capacity(alloc, bytes.len().min(usize::from(count)))?;
     let mut rest = bytes;
     for _ in 0..count {
         let (setting, after) = setting_of(alloc, rest)?;

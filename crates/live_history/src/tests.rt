@@ -1,4 +1,6 @@
 //! Histories of several roots, with deletions and what they leave.
+ghost use Rattle.std.specs.Prelude.{◌≤◌};
+
 use crate::History;
 use flow_model::{Numbered, Transaction};
 use std::alloc::{AllocError, Global};
@@ -14,7 +16,9 @@ fn numbers(alloc: Global, found: &[&Numbered]) -> Result<Vec<u64>, AllocError> {
 }
 
 /// A history of so many transactions, each the suspension of a root from 1 to 3 in turn.
-fn suspensions(alloc: Global, count: u64) -> Result<History, AllocError> {
+fn suspensions(alloc: Global, count: u64) -> Result<History, AllocError>
+    requires { count ≤ 100 }
+{
     let mut history = History::new(alloc);
     for number in 1..count + 1 {
         history.push(Numbered {

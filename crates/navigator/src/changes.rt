@@ -136,12 +136,7 @@ pub fn path_below(
 ) -> Result<Path, AllocError>
     ensures { IfOk result (λ p. p ≡ path_to scope.now (part activity.now.name attempt)) }
 {
-    let mut path = scope.copy(alloc)?;
-    path.parts.push(Part {
-        name: activity.name.copy(alloc)?,
-        attempt,
-    })?;
-    Ok(path)
+    scope.below(alloc, &activity.name, attempt)
 }
 
 impl ActivityState {

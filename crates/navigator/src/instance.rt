@@ -360,7 +360,7 @@ impl Instance {
 fn path_of_parts(alloc: Global, root: u64, parts: &[Part]) -> Result<Path, AllocError>
     ensures { IfOk result (λ p. p ≡ record { root = root; parts = parts.now }) }
 {
-    let mut copies = List::new(alloc);
+    let mut copies = List::with_capacity(alloc, parts.len())?;
     for part in parts {
         copies.push(part.copy(alloc)?)?;
     }
