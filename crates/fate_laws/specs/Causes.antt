@@ -32,7 +32,8 @@ HasFactBelow fs path = (f : Fact) × Contains fs f × (q : Part) × (p : List Pa
 -- a scope that is complete by the completions has a completion below it
 abbrev pub CompleteHasFact : Type 0
 CompleteHasFact =
-    (ts : List Template) (depth most : ℕ) (fs : List Fact) (path : List Part) (g : Graph) (input out : Container) → Well ts depth g
+    (ts : List Template) (depth most : ℕ) (fs : List Fact) (path : List Part) (g : Graph) (input out : Container)
+    → Well ts depth g
     → output ts (suc depth) (at_path path (by_facts most fs)) g input ≡ Some out → HasFactBelow fs path
 
 -- and so has a complete root

@@ -1,5 +1,7 @@
--- The plain equations of the fates: what a connector is worth, what a join asks, and what becomes of an activity, by how the others have ended.
-use Rattle.std.specs.Prelude.{◌≡◌, ◌≢◌, ◌↔◌, ◌⊎◌, ℕ, ◌+◌, ◌≤◌, ◌<◌, ◌==◌, Bool, true, false, Option, Some, None, List, [], map, length, slice_get, count_by, IsTrue}
+-- The plain equations of the fates: what a connector is worth, what a join asks, and what becomes of an activity, by
+-- how the others have ended.
+use Rattle.std.specs.Prelude.{◌≡◌, ◌≢◌, ◌↔◌, ◌⊎◌, ℕ, ◌+◌, ◌≤◌, ◌<◌, ◌==◌, Bool, true, false, Option, Some, None, List}
+use Rattle.std.specs.Prelude.{[], map, length, slice_get, count_by, IsTrue}
 use Rattle.std.specs.List.{All, Contains, filter, last_or}
 use Rattle.flow_model.specs.declared.graphs.Activity.{Activity}
 use Rattle.flow_model.specs.declared.graphs.Container.{Container}
@@ -45,12 +47,15 @@ pub record AreValues (controls : List Control) (e : Ends) : Type 0 where
   -- false where the source is dead
   pub dead : (c : Control) → e c.from ≡ end.Dead → value_in controls e c ≡ Some false
   -- with no condition true where the source is finished
-  pub always : (c : Control) (out : Container) → e c.from ≡ end.Finished out → c.when ≡ Always → value_in controls e c ≡ Some true
+  pub always : (c : Control) (out : Container) → e c.from ≡ end.Finished out → c.when ≡ Always
+      → value_in controls e c ≡ Some true
   -- else its condition on the final output of the source
-  pub condition : (c : Control) (out : Container) (x : Expr) → e c.from ≡ end.Finished out → c.when ≡ Cond x → value_in controls e c ≡ Some (truth x out)
+  pub condition : (c : Control) (out : Container) (x : Expr) → e c.from ≡ end.Finished out → c.when ≡ Cond x
+      → value_in controls e c ≡ Some (truth x out)
   -- OTHERWISE is true exactly where the source is finished and no connector of it that has a condition is true
   pub otherwise : (c : Control) → c.when ≡ Otherwise
-      → (value_in controls e c ≡ Some true) ↔ (IsFinished (e c.from) × All (λ d. d.from ≡ c.from → IsWhen d → value_in controls e d ≢ Some true) controls)
+      → (value_in controls e c ≡ Some true) ↔ (IsFinished (e c.from)
+      × All (λ d. d.from ≡ c.from → IsWhen d → value_in controls e d ≢ Some true) controls)
 
 abbrev pub ConnectorValues : Type 0
 ConnectorValues = (controls : List Control) (e : Ends) → AreValues controls e
@@ -62,8 +67,10 @@ pub record AreJoins (vs : List (Option Bool)) : Type 0 where
   pub unknown : (rule : Join) → (joined rule vs ≡ None) ↔ Contains vs None
   pub all : (joined join.All vs ≡ Some true) ↔ All (λ v. v ≡ Some true) vs
   -- with no connector true
-  pub at_least_one : (joined join.AtLeastOne vs ≡ Some true) ↔ (All (λ v. v ≢ None) vs × ((vs ≡ []) ⊎ Contains vs (Some true)))
-  pub at_least : (n : ℕ) → (joined (join.AtLeast n) vs ≡ Some true) ↔ (All (λ v. v ≢ None) vs × ((vs ≡ []) ⊎ (n ≤ count_by is_yes vs)))
+  pub at_least_one : (joined join.AtLeastOne vs ≡ Some true)
+      ↔ (All (λ v. v ≢ None) vs × ((vs ≡ []) ⊎ Contains vs (Some true)))
+  pub at_least : (n : ℕ) → (joined (join.AtLeast n) vs ≡ Some true)
+      ↔ (All (λ v. v ≢ None) vs × ((vs ≡ []) ⊎ (n ≤ count_by is_yes vs)))
 
 abbrev pub Joins : Type 0
 Joins = (vs : List (Option Bool)) → AreJoins vs
@@ -95,18 +102,23 @@ pub record IsFate (activity : Activity) (join : Option Bool) (outs : List Contai
   -- it is dead where the join is false
   pub dead : (fate ≡ Dead) ↔ (join ≡ Some false)
   -- where the join is true, it is finished once the exit condition is true on the last output
-  pub finished : (n : ℕ) → (fate ≡ Finished n) ↔ ((join ≡ Some true) × (length outs ≡ n) × (out : Container) × (last_or None outs ≡ Some out) × IsTrue (holds activity.exit out))
+  pub finished : (n : ℕ) → (fate ≡ Finished n) ↔ ((join ≡ Some true) × (length outs ≡ n) × (out : Container)
+      × (last_or None outs ≡ Some out) × IsTrue (holds activity.exit out))
   -- until then the next attempt of a program is ready, and that of a block or subprocess runs
-  pub ready : (n : ℕ) → (fate ≡ Ready n) ↔ ((join ≡ Some true) × (length outs + 1 ≡ n) × GoesOn activity.exit outs × IsProgram activity.work)
-  pub running : (n : ℕ) → (fate ≡ Running n) ↔ ((join ≡ Some true) × (length outs + 1 ≡ n) × GoesOn activity.exit outs × (IsProgram activity.work → ⊥))
+  pub ready : (n : ℕ) → (fate ≡ Ready n) ↔ ((join ≡ Some true) × (length outs + 1 ≡ n) × GoesOn activity.exit outs
+      × IsProgram activity.work)
+  pub running : (n : ℕ) → (fate ≡ Running n) ↔ ((join ≡ Some true) × (length outs + 1 ≡ n) × GoesOn activity.exit outs
+      × (IsProgram activity.work → ⊥))
 
 -- how an activity has ended by its fate, and its final output
 pub record IsEnd (fate : Fate) (outs : List Container) (s : SourceEnd) : Type 0 where
   pub dead : (s ≡ end.Dead) ↔ (fate ≡ Dead)
-  pub finished : (out : Container) → (s ≡ end.Finished out) ↔ ((n : ℕ) × (fate ≡ Finished n) × (last_or None outs ≡ Some out))
+  pub finished : (out : Container) → (s ≡ end.Finished out)
+      ↔ ((n : ℕ) × (fate ≡ Finished n) × (last_or None outs ≡ Some out))
 
 -- fates and ends that satisfy the equations in a scope
-pub record Solves (ts : List Template) (depth : ℕ) (k : Known) (g : Graph) (input : Container) (fates : ℕ → Fate) (e : Ends) : Type 0 where
+pub record Solves (ts : List Template) (depth : ℕ) (k : Known) (g : Graph) (input : Container) (fates : ℕ → Fate)
+    (e : Ends) : Type 0 where
   pub fate : (a : ℕ) (activity : Activity) → slice_get (out-Graph g).activities a ≡ Some activity
       → IsFate activity (join_of g e a activity) (outputs_of ts depth k g input e a activity) (fates a)
   pub end : (a : ℕ) (activity : Activity) → slice_get (out-Graph g).activities a ≡ Some activity
@@ -129,33 +141,40 @@ FatesSolveBelow =
     → AtScope (IsSolved ts) ts depth (all_of k) g input path
 
 -- and no others do
-pub record AreFates (ts : List Template) (depth : ℕ) (k : Known) (g : Graph) (input : Container) (fates : ℕ → Fate) (e : Ends) : Type 0 where
+pub record AreFates (ts : List Template) (depth : ℕ) (k : Known) (g : Graph) (input : Container) (fates : ℕ → Fate)
+    (e : Ends) : Type 0 where
   pub fate : (a : ℕ) → a < length (out-Graph g).activities → fates a ≡ tree_fate ts depth k g input a
   pub end : (a : ℕ) → a < length (out-Graph g).activities → e a ≡ tree_ends ts depth k g input a
 
 abbrev pub OnlyFatesSolve : Type 0
 OnlyFatesSolve =
-    (ts : List Template) (depth : ℕ) (k : Known) (g : Graph) (input : Container) (fates : ℕ → Fate) (e : Ends) → Well ts depth g
+    (ts : List Template) (depth : ℕ) (k : Known) (g : Graph) (input : Container) (fates : ℕ → Fate) (e : Ends)
+    → Well ts depth g
     → Solves ts depth (all_of k) g input fates e → AreFates ts depth (all_of k) g input fates e
 
 -- wherever the join is known, all activities that feed the activity by data lines are settled
 abbrev pub FedWhereKnown : Type 0
 FedWhereKnown =
-    (ts : List Template) (depth : ℕ) (k : Known) (g : Graph) (input : Container) (a : ℕ) (activity : Activity) → Well ts depth g
-    → slice_get (out-Graph g).activities a ≡ Some activity → join_of g (tree_ends ts depth (all_of k) g input) a activity ≢ None
-    → All (λ line. line.to ≡ At a → (b : ℕ) → line.from ≡ At b → IsTrue (is_settled (tree_ends ts depth (all_of k) g input b))) (out-Graph g).lines
+    (ts : List Template) (depth : ℕ) (k : Known) (g : Graph) (input : Container) (a : ℕ) (activity : Activity)
+    → Well ts depth g
+    → slice_get (out-Graph g).activities a ≡ Some activity
+    → join_of g (tree_ends ts depth (all_of k) g input) a activity ≢ None
+    → All (λ line. line.to ≡ At a → (b : ℕ) → line.from ≡ At b
+    → IsTrue (is_settled (tree_ends ts depth (all_of k) g input b))) (out-Graph g).lines
 
 -- ---- the same of whatever is known of messages
 
 -- another step changes nothing
 abbrev pub StepKeepsEnds : Type 0
 StepKeepsEnds =
-    (ts : List Template) (depth : ℕ) (k : Known) (g : Graph) (input : Container) (order : List ℕ) → IsFlow g order → (a : ℕ)
+    (ts : List Template) (depth : ℕ) (k : Known) (g : Graph) (input : Container) (order : List ℕ) → IsFlow g order
+    → (a : ℕ)
     → tree_ends ts depth k g input a ≡ step ts k (output ts depth) g input (tree_ends ts depth k g input) a
 
 -- and only these ends are kept by a step
 abbrev pub StepKeepsOnlyEnds : Type 0
 StepKeepsOnlyEnds =
-    (ts : List Template) (depth : ℕ) (k : Known) (g : Graph) (input : Container) (order : List ℕ) (e : Ends) → IsFlow g order
+    (ts : List Template) (depth : ℕ) (k : Known) (g : Graph) (input : Container) (order : List ℕ) (e : Ends)
+    → IsFlow g order
     → ((a : ℕ) → a < length (out-Graph g).activities → e a ≡ step ts k (output ts depth) g input e a)
     → (a : ℕ) → a < length (out-Graph g).activities → e a ≡ tree_ends ts depth k g input a

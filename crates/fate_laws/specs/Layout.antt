@@ -1,4 +1,5 @@
--- Graphs as they are laid out to be passed through: the rows of the wiring are right, and the order goes along all lines, at every depth.
+-- Graphs as they are laid out to be passed through: the rows of the wiring are right, and the order goes along all
+-- lines, at every depth.
 use Rattle.std.specs.Prelude.{◌≡◌, ℕ, zero, suc, Option, Some, None, List, slice_get}
 use Rattle.flow_model.specs.ScopeContainers.{graph_in}
 use Rattle.flow_model.specs.Wiring.{IsIncoming, IsOutgoing, IsFeeding, IsSinking, IsLooping}

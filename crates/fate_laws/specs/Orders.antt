@@ -10,10 +10,12 @@ pub record IsOrder (g : Graph) (order : List ℕ) : Type 0 where
   pub in_range : All (λ a. a < length (out-Graph g).activities) order
   pub covers : (a : ℕ) → a < length (out-Graph g).activities → (i : ℕ) × (i < length order) × (slice_index order i ≡ a)
   pub forward : (i : ℕ) → i < length order
-      → All (λ c. c.to ≡ slice_index order i → (j : ℕ) × (j < i) × (slice_index order j ≡ c.from)) (out-Graph g).controls
+      → All (λ c. c.to ≡ slice_index order i → (j : ℕ) × (j < i) × (slice_index order j ≡ c.from))
+      (out-Graph g).controls
 
 -- and behind the activities from which data lines lead to it
 pub record IsFlow (g : Graph) (order : List ℕ) : Type 0 where
   pub ordered : IsOrder g order
   pub fed : (i : ℕ) → i < length order
-      → All (λ line. line.to ≡ At (slice_index order i) → (b : ℕ) → line.from ≡ At b → (j : ℕ) × (j < i) × (slice_index order j ≡ b)) (out-Graph g).lines
+      → All (λ line. line.to ≡ At (slice_index order i) → (b : ℕ) → line.from ≡ At b
+      → (j : ℕ) × (j < i) × (slice_index order j ≡ b)) (out-Graph g).lines

@@ -31,7 +31,8 @@ OutputsStay =
 
 -- completions that come later only add to what is known
 abbrev pub CompletionsAdd : Type 0
-CompletionsAdd = (most most' : ℕ) (fs later : List Fact) → most ≤ most' → More (by_facts most fs) (by_facts most' (fs ++ later))
+CompletionsAdd = (most most' : ℕ) (fs later : List Fact) → most ≤ most'
+    → More (by_facts most fs) (by_facts most' (fs ++ later))
 
 -- one more completion leaves each settled activity as it is
 abbrev pub CompletionKeepsEnds : Type 0

@@ -12,4 +12,5 @@ Walk controls (suc n) b a = (c : Control) × Contains controls c × (c.to ≡ a)
 
 -- each data line between two activities goes along a walk of at least one connector
 pub record IsWired (g : Graph) : Type 0 where
-  pub each : All (λ line. (b a : ℕ) → line.from ≡ At b → line.to ≡ At a → (n : ℕ) × Walk (out-Graph g).controls (suc n) b a) (out-Graph g).lines
+  pub each : All (λ line. (b a : ℕ) → line.from ≡ At b → line.to ≡ At a
+      → (n : ℕ) × Walk (out-Graph g).controls (suc n) b a) (out-Graph g).lines

@@ -1,4 +1,5 @@
--- The graphs that the laws speak of: acyclic, with data lines along connectors and no name or connector twice, at every depth.
+-- The graphs that the laws speak of: acyclic, with data lines along connectors and no name or connector twice, at every
+-- depth.
 use Rattle.std.specs.Prelude.{◌≡◌, ℕ, zero, suc, ◌<◌, ◌==◌, ◌&&◌, false, Some, List, [], ◌∷◌, length, slice_get}
 use Rattle.std.specs.List.{list_any}
 use Rattle.flow_model.specs.declared.graphs.Activity.{Activity}
@@ -21,7 +22,8 @@ pub record IsWell (ts : List Template) (g : Graph) (inner : Graph → Type 0) : 
   pub flow : IsFlow g order
   pub wired : IsWired g
   pub simple : AreSimple (out-Graph g).controls
-  pub named : (a b : ℕ) (x y : Activity) → slice_get (out-Graph g).activities a ≡ Some x → slice_get (out-Graph g).activities b ≡ Some y → x.name ≡ y.name → a ≡ b
+  pub named : (a b : ℕ) (x y : Activity) → slice_get (out-Graph g).activities a ≡ Some x
+      → slice_get (out-Graph g).activities b ≡ Some y → x.name ≡ y.name → a ≡ b
   pub inside : (a : ℕ) (activity : Activity) → slice_get (out-Graph g).activities a ≡ Some activity
       → (h : Graph) → graph_in ts activity.work ≡ Some h → inner h
 

@@ -1,4 +1,5 @@
-ghost use Rattle.fate_laws.specs.Equations.{ConnectorValues, Joins, FatesSolve, FatesSolveBelow, OnlyFatesSolve, FatesSolveBelow, FedWhereKnown, StepKeepsEnds, StepKeepsOnlyEnds};
+ghost use Rattle.fate_laws.specs.Equations.{ConnectorValues, Joins, FatesSolve, FatesSolveBelow, OnlyFatesSolve};
+ghost use Rattle.fate_laws.specs.Equations.{FatesSolveBelow, FedWhereKnown, StepKeepsEnds, StepKeepsOnlyEnds};
 
 /// What a connector is worth: unknown while its source is not settled, false where the source is
 /// dead, else its condition on the final output of the source. OTHERWISE is true exactly where the

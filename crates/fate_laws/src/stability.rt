@@ -1,4 +1,5 @@
-ghost use Rattle.fate_laws.specs.Stability.{EndsStay, FatesStay, OutputsStay, CompletionsAdd, CompletionKeepsEnds, CompletionKeepsFates, CompletionKeepsOutput};
+ghost use Rattle.fate_laws.specs.Stability.{EndsStay, FatesStay, OutputsStay, CompletionsAdd, CompletionKeepsEnds};
+ghost use Rattle.fate_laws.specs.Stability.{CompletionKeepsFates, CompletionKeepsOutput};
 
 /// How a settled activity has ended stays as it is for whoever knows more, in every scope.
 pub fn ends_stay()

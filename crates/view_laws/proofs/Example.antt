@@ -64,21 +64,23 @@ inner = roll-Graph record {
   wiring = wiring;
 }
 
--- a process activity that repeats until its second value is 1, and then a program activity that is fed by it
+-- a process activity that repeats until its second value is 1
+abbrev pub repeated : Activity
+repeated = record {
+  name = 65 ∷ [];
+  work = Process 0;
+  input = no_leaf;
+  output = no_leaf;
+  join = join.All;
+  exit = Some (Whole Eq (record { minus = false; operand = LeafOperand 1 } ∷ []) (record { minus = false; operand = Number (pos 1) } ∷ []));
+}
+
+-- it, and then a program activity that is fed by it
 abbrev pub graph : Graph
 graph = roll-Graph record {
   input = no_leaf;
   output = no_leaf;
-  activities =
-      record {
-        name = 65 ∷ [];
-        work = Process 0;
-        input = no_leaf;
-        output = no_leaf;
-        join = join.All;
-        exit = Some (Whole Eq (record { minus = false; operand = LeafOperand 1 } ∷ []) (record { minus = false; operand = Number (pos 1) } ∷ []));
-      }
-      ∷ record { name = 66 ∷ []; work = program; input = one_leaf; output = no_leaf; join = join.All; exit = None } ∷ [];
+  activities = repeated ∷ record { name = 66 ∷ []; work = program; input = one_leaf; output = no_leaf; join = join.All; exit = None } ∷ [];
   controls = record { from = 0; to = 1; when = Always } ∷ [];
   lines = record { from = At 0; to = At 1; maps = record { from = 1; to = 0 } ∷ [] } ∷ [];
   loops = [];
@@ -102,12 +104,19 @@ done j n = record {
   output = record { values = WholeValue (pos 0) ∷ WholeValue (pos n) ∷ [] };
 }
 
+-- the first attempt has begun, and nothing is completed
+abbrev pub begun : List Event
+begun = Turned (BeginNote (scope 1)) ∷ Turned (BeginNote []) ∷ Started ∷ []
+
 abbrev pub first : List Event
-first = Completed (done 1 0) ∷ Turned (BeginNote (scope 1)) ∷ Turned (BeginNote []) ∷ Started ∷ []
+first = Completed (done 1 0) ∷ begun
+
+-- the second attempt has begun
+abbrev pub begun_again : List Event
+begun_again = Turned (BeginNote (scope 2)) ∷ Turned (EndNote (scope 1)) ∷ first
 
 abbrev pub all : List Event
-all =
-    Turned (SignalNote [] 0 1 true) ∷ Turned (EndNote (scope 2)) ∷ Completed (done 2 1) ∷ Turned (BeginNote (scope 2)) ∷ Turned (EndNote (scope 1)) ∷ first
+all = Turned (SignalNote [] 0 1 true) ∷ Turned (EndNote (scope 2)) ∷ Completed (done 2 1) ∷ begun_again
 
 abbrev pub one_queue : Note → ℕ
 one_queue m = 1

@@ -1,4 +1,4 @@
--- Read first: Counting (queues), then SoundScopes and QuietScopes (one scope and any depth), MoreDue and DueOnce (what is due), Trusting, WholeRuns. The bound of turns: BoundedDue, TakenMessages. Example: a run computed. The next event of a legal run: Learnt and SeenNext (what it tells), Attempts to Grounds (what counts, counts of attempts that have started), Unfinished to Led (one scope, and the way down), NextEvents.
+-- Read first: Counting (queues), then SoundScopes and QuietScopes (one scope and any depth), MoreDue and DueOnce (what is due), Trusting, WholeRuns. The bound of turns: BoundedDue, TakenMessages. Example: a run computed. The next event of a legal run: Learnt and SeenNext (what it tells), Attempts to Grounds (what counts, counts of attempts that have started), Unfinished to Led (one scope, and the way down), NextEvents. ExampleLegal and ExampleStarted: what the laws say of the computed run.
 pub mod Honest
 pub mod Counting
 pub mod SameNotes
@@ -17,6 +17,7 @@ pub mod Learnt
 pub mod SeenNext
 pub mod Attempts
 pub mod StartedParts
+pub mod ListedStarts
 pub mod DueParts
 pub mod ReadyInView
 pub mod Grounds
@@ -27,3 +28,4 @@ pub mod Led
 pub mod AttemptsWithin
 pub mod NextEvents
 mod ExampleLegal
+mod ExampleStarted

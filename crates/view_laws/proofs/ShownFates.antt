@@ -62,9 +62,11 @@ joined_open a v outs h = rw h (tried_open a (length outs) (last_or None outs))
 some_known : (v : Option Bool) → v ≡ Some true → is_none v ≡ false
 some_known v h = rw h refl
 
+-- the newest attempt has given nothing yet, so what is given is asked of those before it
 reaches_kept : (given given' : Gives) (t : Trial) (n j : ℕ) (i : Container) (c : ℕ) (i' : Container) → Along (Keeps given given') given t n j i
-    → Reaches n given t j i c i' → Reaches n given' t j i c i'
-reaches_kept given given' t zero j i c i' along r = r
+    → Reaches (suc n) given t j i c i' → Reaches (suc n) given' t j i c i'
+reaches_kept given given' t zero j i c i' along (inl r) = inl r
+reaches_kept given given' t zero j i c i' along (inr r) = absurd r.3
 reaches_kept given given' t (suc n) j i c i' along (inl r) = inl r
 reaches_kept given given' t (suc n) j i c i' along (inr r) =
     inr (r.0, along.0 r.0 r.1, r.2, reaches_kept given given' t n (j + 1) (t.loops r.0) c i' (along.1 r.0 r.1 r.2) r.3)
@@ -170,9 +172,9 @@ module _ (ts : List Template) (k : Known) (runs runs' : Runs) (g : Graph) (input
 
   pub started_kept : (a : ℕ) (activity : Activity) (c : ℕ) (i' : Container) → slice_get (out-Graph g).activities a ≡ Some activity
       → (is_open (fate_given ts k runs g input ev a) && is_fed (out-Graph g).lines a ev) ≡ true
-      → Reaches k.most (gives ts k runs activity.name activity.work) (trial g a activity (base_of g activity a input ev)) 1 (base_of g activity a input ev) c i'
+      → Reaches (suc k.most) (gives ts k runs activity.name activity.work) (trial g a activity (base_of g activity a input ev)) 1 (base_of g activity a input ev) c i'
       → ((is_open (fate_given ts (all_of k) runs' g input ef a) && is_fed (out-Graph g).lines a ef) ≡ true)
-      × Reaches k.most (gives ts (all_of k) runs' activity.name activity.work) (trial g a activity (base_of g activity a input ef)) 1 (base_of g activity a input ef) c i'
+      × Reaches (suc k.most) (gives ts (all_of k) runs' activity.name activity.work) (trial g a activity (base_of g activity a input ef)) 1 (base_of g activity a input ef) c i'
   started_kept a activity c i' is active reach =
       let both = and_true (is_open (fate_given ts k runs g input ev a)) _ active in
       let base = base_of g activity a input ev in (

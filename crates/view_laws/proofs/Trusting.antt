@@ -428,8 +428,7 @@ module _ (r : Root) (qf : Note → ℕ) where
   child_due ts depth k g i well a activity c h i' s m =
       let e = tree_ends ts (suc depth) k g i in
       due_pushed ts depth k g i (part activity.name c) m
-      ∙ reached_one r qf ts k (output ts (suc depth)) (due_in ts depth) g i e well.named c i' m a activity h s.is s.of s.active
-      (reaches_more k.most _ _ 1 (base_of g activity a i e) c i' s.reach)
+      ∙ reached_one r qf ts k (output ts (suc depth)) (due_in ts depth) g i e well.named c i' m a activity h s.is s.of s.active s.reach
       ∙ times-append x itself one (tops r qf k (part activity.name c) (output ts (suc depth) (at (part activity.name c) k) h i')) (due_in ts depth (at (part activity.name c) k) h i') m
 
   pub all_by : (fact : List Template → ScopeFact) → ((ts : List Template) (depth : ℕ) (k : Known) (g : Graph) (i : Container) → Well ts depth g → Honest ts depth k g i → fact ts depth k g i)

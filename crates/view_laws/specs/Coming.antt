@@ -1,5 +1,6 @@
 -- Which event may come next, by what is known in the scope that it concerns.
-use Rattle.std.specs.Prelude.{◌≡◌, ℕ, zero, suc, ◌+◌, Bool, true, false, Option, Some, None, is_none, List, [], ◌∷◌, ◌++◌, slice_get}
+use Rattle.std.specs.Prelude.{◌≡◌, ℕ, zero, suc, ◌+◌, Bool, true, false, Option, Some, None, is_none, List, [], ◌∷◌}
+use Rattle.std.specs.Prelude.{◌++◌, slice_get}
 use Rattle.fate_laws.specs.StartedScopes.{ScopeFact}
 use Rattle.flow_model.specs.declared.graphs.Activity.{Activity}
 use Rattle.flow_model.specs.declared.graphs.Container.{Container}
@@ -44,7 +45,8 @@ IsFedWhereKnown ts depth k g input =
 
 -- the attempts of an activity that start
 abbrev pub started_in : List Template → ℕ → Known → Graph → Container → ℕ → Activity → List Start
-started_in ts depth k g input a activity = started_at ts k (output ts depth) g input (tree_ends ts depth k g input) a activity
+started_in ts depth k g input a activity = started_at ts k (output ts depth) g input
+    (tree_ends ts depth k g input) a activity
 
 -- ---- the events of a scope
 
@@ -54,7 +56,8 @@ pub record MayBegin (ts : List Template) (depth : ℕ) (k : Known) (g : Graph) (
   pub inside : (q : Part) → IsNew k q
 
 -- a SIGNAL may come: of one of its connectors, whose value doesn't count yet
-pub record MaySignal (ts : List Template) (depth : ℕ) (k : Known) (g : Graph) (input : Container) (a b : ℕ) (v : Bool) : Type 0 where
+pub record MaySignal (ts : List Template) (depth : ℕ) (k : Known) (g : Graph) (input : Container) (a b : ℕ)
+    (v : Bool) : Type 0 where
   pub begun : k.begun [] ≡ true
   pub fed : IsFedWhereKnown ts depth k g input
   pub number : ℕ
@@ -63,9 +66,11 @@ pub record MaySignal (ts : List Template) (depth : ℕ) (k : Known) (g : Graph) 
   pub from : connector.from ≡ a
   pub to : connector.to ≡ b
   pub unsent : k.sent [] a b None ≡ None
-  pub unstarted : (activity : Activity) → slice_get (out-Graph g).activities b ≡ Some activity → IsNew k (part activity.name 1)
+  pub unstarted : (activity : Activity) → slice_get (out-Graph g).activities b ≡ Some activity
+      → IsNew k (part activity.name 1)
   pub fed_then : (activity : Activity) → slice_get (out-Graph g).activities b ≡ Some activity
-      → is_none (joined activity.join (values_at (with_signal a b v k) (out-Graph g).controls (tree_ends ts depth k g input) b)) ≡ false
+      → is_none (joined activity.join (values_at (with_signal a b v k) (out-Graph g).controls
+      (tree_ends ts depth k g input) b)) ≡ false
       → is_fed (out-Graph g).lines b (tree_ends ts depth k g input) ≡ true
 
 -- the END of an attempt may come: it is complete, and hasn't told its end
@@ -87,7 +92,8 @@ pub record MayEnd (ts : List Template) (depth : ℕ) (k : Known) (g : Graph) (in
   pub unstarted : IsNew k (part activity.name (start.attempt + 1))
 
 -- an item may be completed: its attempt is ready
-pub record MayComplete (ts : List Template) (depth : ℕ) (k : Known) (g : Graph) (input : Container) (q : Part) : Type 0 where
+pub record MayComplete (ts : List Template) (depth : ℕ) (k : Known) (g : Graph) (input : Container)
+    (q : Part) : Type 0 where
   pub begun : k.begun [] ≡ true
   pub fed : IsFedWhereKnown ts depth k g input
   pub place : ℕ
@@ -103,7 +109,8 @@ pub record MayComplete (ts : List Template) (depth : ℕ) (k : Known) (g : Graph
 -- ---- a scope further in
 
 -- an attempt that has started and hasn't told its end, and what holds of its scope
-pub record IsOpenAttempt (ts : List Template) (depth : ℕ) (k : Known) (g : Graph) (input : Container) (q : Part) (inside : Graph → Container → Type 0) : Type 0 where
+pub record IsOpenAttempt (ts : List Template) (depth : ℕ) (k : Known) (g : Graph) (input : Container) (q : Part)
+    (inside : Graph → Container → Type 0) : Type 0 where
   pub place : ℕ
   pub activity : Activity
   pub graph : Graph
@@ -131,11 +138,13 @@ Comes ts depth k g input (BeginNote p) k' = Leads (MayBegin ts) ts depth k g inp
 Comes ts depth k g input (SignalNote p a b v) k' =
     Leads (λ d j h i. MaySignal ts d j h i a b v) ts depth k g input p × (k' ≡ learnt (with_signal a b v) p k)
 Comes ts depth k g input (EndNote p) k' =
-    (around : List Part) × (q : Part) × (p ≡ around ++ q ∷ []) × Leads (λ d j h i. MayEnd ts d j h i q) ts depth k g input around
+    (around : List Part) × (q : Part) × (p ≡ around ++ q ∷ [])
+    × Leads (λ d j h i. MayEnd ts d j h i q) ts depth k g input around
     × (k' ≡ learnt (with_end q) around k)
 
 -- the item may be completed, and this is known after it
 abbrev pub ComesOutput : List Template → ℕ → Known → Graph → Container → List Part → Container → Known → Type 0
 ComesOutput ts depth k g input item out k' =
-    (around : List Part) × (q : Part) × (item ≡ around ++ q ∷ []) × Leads (λ d j h i. MayComplete ts d j h i q) ts depth k g input around
+    (around : List Part) × (q : Part) × (item ≡ around ++ q ∷ [])
+    × Leads (λ d j h i. MayComplete ts d j h i q) ts depth k g input around
     × (k' ≡ with_most (suc k.most) (learnt (with_output q out) around k))

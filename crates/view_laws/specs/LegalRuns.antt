@@ -1,4 +1,5 @@
--- Legal runs: messages are taken from the fronts of queues, and the completions accepted are of items that were awaited.
+-- Legal runs: messages are taken from the fronts of queues, and the completions accepted are of items that were
+-- awaited.
 use Rattle.std.specs.Prelude.{◌≡◌, ℕ, zero, suc, false, Some, List, [], ◌∷◌, slice_get}
 use Rattle.flow_model.specs.declared.graphs.Activity.{Activity}
 use Rattle.flow_model.specs.declared.graphs.Container.{Container}
@@ -18,7 +19,8 @@ use Rattle.view_laws.specs.Runs.{Root, Event, Started, Turned, Completed, Held, 
 -- ---- awaited items
 
 -- an item of the scope at hand is awaited: its activity runs a program and is ready for this attempt
-pub record IsAwaited (ts : List Template) (depth : ℕ) (k : Known) (g : Graph) (input : Container) (q : Part) : Type 0 where
+pub record IsAwaited (ts : List Template) (depth : ℕ) (k : Known) (g : Graph) (input : Container)
+    (q : Part) : Type 0 where
   pub place : ℕ
   pub activity : Activity
   pub program : Program
@@ -28,7 +30,8 @@ pub record IsAwaited (ts : List Template) (depth : ℕ) (k : Known) (g : Graph) 
   pub ready : tree_fate ts depth k g input place ≡ Ready q.attempt
 
 -- an attempt that has started, and what holds of its scope
-pub record IsStartedAttempt (ts : List Template) (depth : ℕ) (k : Known) (g : Graph) (input : Container) (q : Part) (inside : Graph → Container → Type 0) : Type 0 where
+pub record IsStartedAttempt (ts : List Template) (depth : ℕ) (k : Known) (g : Graph) (input : Container) (q : Part)
+    (inside : Graph → Container → Type 0) : Type 0 where
   pub place : ℕ
   pub activity : Activity
   pub graph : Graph

@@ -1,5 +1,7 @@
--- The messages of a root, and which of them are due. A message names its scope by a path from the scope at hand, and a connector by the places of its ends.
-use Rattle.std.specs.Prelude.{ℕ, zero, suc, ◌==◌, Bool, true, false, ◌&&◌, if◌then◌else◌, Option, Some, None, List, [], ◌∷◌, ◌++◌, map, length, slice_get, not}
+-- The messages of a root, and which of them are due. A message names its scope by a path from the scope at hand, and a
+-- connector by the places of its ends.
+use Rattle.std.specs.Prelude.{ℕ, zero, suc, ◌==◌, Bool, true, false, ◌&&◌, if◌then◌else◌, Option, Some, None, List, []}
+use Rattle.std.specs.Prelude.{◌∷◌, ◌++◌, map, length, slice_get, not}
 use Rattle.std.specs.List.{flat_map}
 use Rattle.flow_model.specs.declared.graphs.Activity.{Activity}
 use Rattle.flow_model.specs.declared.graphs.Container.{Container}
@@ -59,15 +61,19 @@ is_given (Some out) = true
 
 -- what is due of an attempt that has started, by what its scope gives and by what is due in it
 abbrev pub due_of : Known → Part → Option Container → List Note → List Note
-due_of k q out below = BeginNote (q ∷ []) ∷ (if k.begun (q ∷ []) && is_given out then EndNote (q ∷ []) ∷ [] else []) ++ map (push q) below
+due_of k q out below = BeginNote (q ∷ []) ∷ (if k.begun (q ∷ []) && is_given out then EndNote (q ∷ []) ∷ [] else [])
+    ++ map (push q) below
 
 -- what is due of the attempts of an activity that start, if it is a block or a process activity
-abbrev pub due_with : Runs → (Known → Graph → Container → List Note) → Known → Name → Option Graph → List Start → List Note
+abbrev pub due_with : Runs → (Known → Graph → Container → List Note) → Known → Name → Option Graph → List Start
+    → List Note
 due_with runs below k name None ss = []
 due_with runs below k name (Some g) ss =
-    flat_map (λ s. due_of k (part name s.attempt) (runs (at (part name s.attempt) k) g s.input) (below (at (part name s.attempt) k) g s.input)) ss
+    flat_map (λ s. due_of k (part name s.attempt) (runs (at (part name s.attempt) k) g s.input)
+    (below (at (part name s.attempt) k) g s.input)) ss
 
-abbrev pub due_at : List Template → Runs → (Known → Graph → Container → List Note) → Known → Graph → Container → Ends → ℕ → Option Activity → List Note
+abbrev pub due_at : List Template → Runs → (Known → Graph → Container → List Note) → Known → Graph → Container → Ends
+    → ℕ → Option Activity → List Note
 due_at ts runs below k g input e a None = []
 due_at ts runs below k g input e a (Some activity) =
     due_with runs below k activity.name (graph_in ts activity.work) (started_at ts k runs g input e a activity)
@@ -78,5 +84,6 @@ due_in ts zero k g input = notes (out-Graph g).controls (out-Graph g).controls (
 due_in ts (suc depth) k g input =
     notes (out-Graph g).controls (out-Graph g).controls (tree_ends ts (suc depth) k g input)
     ++ flat_map
-    (λ a. due_at ts (output ts (suc depth)) (due_in ts depth) k g input (tree_ends ts (suc depth) k g input) a (slice_get (out-Graph g).activities a))
+    (λ a. due_at ts (output ts (suc depth)) (due_in ts depth) k g input (tree_ends ts (suc depth) k g input) a
+    (slice_get (out-Graph g).activities a))
     (up_to (length (out-Graph g).activities) 0)

@@ -1,6 +1,8 @@
--- Messages that are put and taken, for any engine that says which messages are due after a run; a run is the list of its events, the newest first.
+-- Messages that are put and taken, for any engine that says which messages are due after a run; a run is the list of
+-- its events, the newest first.
 use Rattle.std.specs.List.{list_any, filter}
-use Rattle.std.specs.Prelude.{◌≡◌, ℕ, ◌+◌, ◌==◌, Bool, not, ◌&&◌, if◌then◌else◌, Option, Some, None, List, [], ◌∷◌, ◌++◌}
+use Rattle.std.specs.Prelude.{◌≡◌, ℕ, ◌+◌, ◌==◌, Bool, not, ◌&&◌, if◌then◌else◌, Option, Some, None, List, [], ◌∷◌}
+use Rattle.std.specs.Prelude.{◌++◌}
 
 -- what is asked of an engine
 pub record Engine (M E : Type 0) : Type 0 where

@@ -18,12 +18,15 @@ abbrev pub sizes : (Graph → ℕ) → List Template → List Activity → ℕ
 sizes size ts [] = 0
 sizes size ts (a ∷ activities) = size_in size (graph_in ts a.work) + sizes size ts activities
 
--- the expanded size of a graph: its connectors and two more, for its BEGIN and its END, and the sizes of what is inside, each use counted, to this depth
+-- the expanded size of a graph: its connectors and two more, for its BEGIN and its END, and the sizes of what is
+-- inside, each use counted, to this depth
 abbrev pub expanded_size : List Template → ℕ → Graph → ℕ
 expanded_size ts zero g = length (out-Graph g).controls + 2
-expanded_size ts (suc depth) g = length (out-Graph g).controls + 2 + sizes (expanded_size ts depth) ts (out-Graph g).activities
+expanded_size ts (suc depth) g = length (out-Graph g).controls + 2
+    + sizes (expanded_size ts depth) ts (out-Graph g).activities
 
--- the messages taken are at most the expanded size times one more than the completions that were accepted before the root was stopped
+-- the messages taken are at most the expanded size times one more than the completions that were accepted before the
+-- root was stopped
 abbrev pub TurnsAreBounded : Type 0
 TurnsAreBounded =
     (r : Root) (q : Note → ℕ) (h : List Event) → Well r.templates r.depth r.graph → TakesFronts (engine r q) h

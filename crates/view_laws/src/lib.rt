@@ -23,6 +23,7 @@ pub use next_events::{
 };
 pub use quiescence::{order_free, quiet_root, quiet_scopes};
 pub use soundness::{
-    root_is_sound, scopes_are_sound, shown_fates_are_right, started_scopes_are_reached,
+    root_is_sound, scopes_are_sound, shown_fates_are_right, started_are_listed,
+    started_scopes_are_reached,
 };
 pub use stability::{due_stays, view_fates_stay, view_stays};

@@ -1,4 +1,5 @@
-ghost use Rattle.view_laws.specs.NextEvents.{BeginsMayCome, SignalsMayCome, EndsMayCome, CompletionsMayCome, ViewsGoByMessages, ScopesGoByMessages};
+ghost use Rattle.view_laws.specs.NextEvents.{BeginsMayCome, SignalsMayCome, EndsMayCome, CompletionsMayCome};
+ghost use Rattle.view_laws.specs.NextEvents.{ViewsGoByMessages, ScopesGoByMessages};
 
 /// The BEGIN that a legal run takes next may come in the scope that it concerns, and only that
 /// becomes known.

@@ -1,4 +1,4 @@
-ghost use Rattle.view_laws.specs.Laws.{Soundness, SoundnessBelow, ShownFatesRight, StartedReached};
+ghost use Rattle.view_laws.specs.Laws.{Soundness, SoundnessBelow, ShownFatesRight, StartedReached, StartedListed};
 
 /// What is settled in the view of a root's scope is so by the completions alone.
 pub fn root_is_sound()
@@ -20,4 +20,10 @@ pub fn shown_fates_are_right()
 /// inputs.
 pub fn started_scopes_are_reached()
     ensures { StartedReached }
+{}
+
+/// An attempt of a block or subprocess has started, as the laws have it, exactly if it is among those
+/// that start: the newest too, which has given nothing yet.
+pub fn started_are_listed()
+    ensures { StartedListed }
 {}
