@@ -35,9 +35,9 @@ counted_next c c' t kept kept_root number roots =
     }
 
 pub counts_next : {T E : Type 0} (r : Result T E) (c c' : Core) (t : Transaction)
-    → OnOk r (noted c' ≡ (c.kept, c.kept_root, with_transaction (c.number + 1) (c.number + 1) t (summary c))) → OnOk r (CountsRoot c t c')
+    → OnOk r (noted c' ≡ (c.kept, c.kept_number, c.kept_root, with_transaction (c.number + 1) (c.number + 1) t (summary c))) → OnOk r (CountsRoot c t c')
 counts_next (Ok x) c c' t is =
-    counted_next c c' t (ap (λ (n : ℕ × ℕ × Summary). n.0) is) (ap (λ (n : ℕ × ℕ × Summary). n.1) is) (ap (λ (n : ℕ × ℕ × Summary). n.2.transactions) is) (ap (λ (n : ℕ × ℕ × Summary). n.2.roots) is)
+    counted_next c c' t (ap (λ (n : ℕ × ℕ × ℕ × Summary). n.0) is) (ap (λ (n : ℕ × ℕ × ℕ × Summary). n.2) is) (ap (λ (n : ℕ × ℕ × ℕ × Summary). n.3.transactions) is) (ap (λ (n : ℕ × ℕ × ℕ × Summary). n.3.roots) is)
 counts_next (Err e) c c' t is = tt
 
 -- ---- a record that is taken up

@@ -115,7 +115,8 @@ numbered_line n = audit_line n.number n.transaction (code_of n.transaction)
 -- the root and the number of these transactions, then each of them
 abbrev pub audited_text : ℕ → List Numbered → List ℕ
 audited_text root entries =
-    codes "ok AUDIT " ++ decimal root ++ 32 ∷ [] ++ decimal (length entries) ++ 10 ∷ [] ++ flat_map numbered_line entries
+    codes "ok AUDIT " ++ decimal root ++ 32 ∷ [] ++ decimal (length entries) ++ 10 ∷ []
+    ++ flat_map numbered_line entries
 
 -- AUDIT: those of the live transactions that are about the root, the oldest first
 abbrev pub audit_text : ℕ → List Numbered → List ℕ

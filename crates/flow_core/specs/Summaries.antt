@@ -8,7 +8,8 @@ use Rattle.flow_model.specs.declared.transactions.Transaction.TheVariants.{Trans
 use Rattle.flow_model.specs.declared.transactions.Transaction.TheVariants.{Suspend, Resume, Terminate, Delete, Clock}
 use Rattle.flow_model.specs.declared.transactions.Numbered.{Numbered}
 use Rattle.recover_queue.specs.Queues.{root_of as root_of_message}
-pub use Rattle.live_history.specs.Transactions.{root_about, is_root, deleted, started, without_root, live_by, live_after}
+pub use Rattle.live_history.specs.Transactions.{root_about, is_root, deleted, started, without_root, live_by}
+pub use Rattle.live_history.specs.Transactions.{live_after}
 use Rattle.flow_core.specs.declared.state.Core.{Core}
 
 -- how many queues there are, how many transactions there may be, how many there and how many roots there were so far,
@@ -30,9 +31,9 @@ summary c = record {
   live = c.live.items;
 }
 
--- the same, with the number up to which records are kept ones, and the last root of those
-abbrev pub noted : Core → ℕ × ℕ × Summary
-noted c = (c.kept, c.kept_root, summary c)
+-- the same, with the number up to which records are kept ones, and the last number and root of those
+abbrev pub noted : Core → ℕ × ℕ × ℕ × Summary
+noted c = (c.kept, c.kept_number, c.kept_root, summary c)
 
 -- the number of roots after one more transaction: a Start counts one that is greater
 abbrev pub roots_by : Option ℕ → ℕ → ℕ
@@ -97,6 +98,10 @@ counted kept number s = record {
 -- the last root of the kept records after one more record
 abbrev pub last_kept : ℕ → Numbered → ℕ → ℕ
 last_kept kept n root = if nat_le n.number kept then unwrap_or (started n.transaction) root else root
+
+-- the last number of the kept records after one more record
+abbrev pub last_number : ℕ → ℕ → ℕ → ℕ
+last_number kept number last = if nat_le number kept then number else last
 
 -- the summary after a record is taken up: one that was kept from the transactions up to a number, or the next one
 abbrev pub taken_up : ℕ → Numbered → Summary → Summary

@@ -12,8 +12,8 @@ ghost use Rattle.flow_model.specs.declared.transactions.Transaction.TheVariants 
 ghost use Rattle.flow_model.specs.declared.instances.Path.{Path as PathOf};
 ghost use Rattle.flow_core.specs.Driving.{StoreAfter, clock_after, Drives};
 ghost use Rattle.flow_core.specs.Shelving.{IsExact, Shelves};
-ghost use Rattle.flow_core.specs.Summaries.{summary, taken_up, counted, last_kept, Follows, deleted, started};
-ghost use Rattle.flow_core.specs.Summaries.{roots_after};
+ghost use Rattle.flow_core.specs.Summaries.{summary, taken_up, counted, last_kept, last_number, Follows, deleted};
+ghost use Rattle.flow_core.specs.Summaries.{started, roots_after};
 ghost use Rattle.flow_core.specs.Verdicts.{IsFront};
 ghost use Rattle.flow_core.specs.declared.adopting.AdoptFault.TheVariants.{NoMemory, NotAllowed};
 
@@ -373,6 +373,7 @@ impl Core {
         ensures kept { self.new.kept ≡ self.old.kept }
         ensures kept_root { self.new.kept_root
             ≡ last_kept self.old.kept (record { number = number; transaction = t.now }) self.old.kept_root }
+        ensures kept_number { self.new.kept_number ≡ last_number self.old.kept number self.old.kept_number }
         ensures rest { self.new ≡ record self.old {
           number = self.new.number;
           roots = self.new.roots;
@@ -408,6 +409,8 @@ impl Core {
         ensures unchanged { IfErr result (λ fault. fault ≡ NotAllowed → self.new ≡ self.old) }
         ensures clock { OnOk result (self.new.clock ≡ clock_after t self.old.clock) }
         ensures store { OnOk result (StoreAfter t self.old.store.catalog self.new.store.catalog) }
+        ensures kept_number { OnOk result (self.new.kept_number
+            ≡ last_number self.old.kept number self.old.kept_number) }
         ensures exact { OnOk result (IsExact self.old t self.new) }
     {
         if !self.admits(number, &t)? {

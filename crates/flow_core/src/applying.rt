@@ -685,7 +685,13 @@ impl Core {
 
     /// Counts the root of a Start.
     fn count_root(&mut self, t: &Transaction)
-        ensures counted { noted self.new ≡ (self.old.kept, self.old.kept_root, with_root_of t.now (summary self.old)) }
+        ensures counted { noted self.new ≡ (
+          self.old.kept,
+          self.old.kept_number,
+          self.old.kept_root,
+          with_root_of t.now
+              (summary self.old),
+        ) }
         ensures rest { self.new ≡ record self.old { roots = self.new.roots } }
     {
         if let Some(root) = started_root(t) {
@@ -695,7 +701,13 @@ impl Core {
 
     /// Takes the transactions about a root away.
     fn forget(&mut self, root: u64)
-        ensures forgets { noted self.new ≡ (self.old.kept, self.old.kept_root, without root (summary self.old)) }
+        ensures forgets { noted self.new ≡ (
+          self.old.kept,
+          self.old.kept_number,
+          self.old.kept_root,
+          without root
+              (summary self.old),
+        ) }
         ensures rest { self.new ≡ record self.old { live = self.new.live } }
     {
         self.live.remove(root);
@@ -704,7 +716,7 @@ impl Core {
     /// Keeps a transaction where it is live; a Delete takes those of its root away.
     fn keep(&mut self, number: u64, t: Transaction) -> Result<(), AllocError>
         ensures keeps { OnOk result (noted self.new
-            ≡ (self.old.kept, self.old.kept_root, kept_by number t (summary self.old))) }
+            ≡ (self.old.kept, self.old.kept_number, self.old.kept_root, kept_by number t (summary self.old))) }
         ensures rest { self.new ≡ record self.old { live = self.new.live } }
     {
         match deleted_root(&t) {
@@ -722,7 +734,13 @@ impl Core {
         ensures numbered { IfOk result (λ applied. applied.number ≡ number) }
         ensures note { IfOk result (λ applied. IsNoteOf self.old t self.new applied.note) }
         ensures applied { OnOk result (noted self.new
-            ≡ (self.old.kept, self.old.kept_root, with_transaction self.old.number number t (summary self.old))) }
+            ≡ (
+              self.old.kept,
+              self.old.kept_number,
+              self.old.kept_root,
+              with_transaction self.old.number number t
+                  (summary self.old),
+            )) }
         ensures drives { IsFrontOf self.old t → OnOk result (Drives self.old t self.new) }
         ensures shelves { IsFrontOf self.old t → OnOk result (Shelves self.old t self.new) }
         ensures clock { OnOk result (self.new.clock ≡ clock_after t self.old.clock) }

@@ -7,7 +7,7 @@ use Rattle.flow_core.specs.Driving.{Drives, StoreAfter, clock_after, IsNewestVer
 use Rattle.flow_core.specs.Judgements.{IsVerdict}
 use Rattle.flow_core.specs.Refusals.{IsInOrder}
 use Rattle.flow_core.specs.Shelving.{IsExact}
-use Rattle.flow_core.specs.Summaries.{summary, next, taken_up}
+use Rattle.flow_core.specs.Summaries.{summary, next, taken_up, last_number}
 use Rattle.flow_core.specs.declared.judging.Verdict.TheVariants.{Do}
 use Rattle.flow_core.specs.declared.state.Core.{Core}
 use Rattle.flow_model.specs.declared.commands.Command.{Command}
@@ -32,6 +32,7 @@ pub record Applied (c : Core) (t : Transaction) (c' : Core) : Type 0 where
 pub record Adopted (c : Core) (number : ℕ) (t : Transaction) (c' : Core) : Type 0 where
   pub drives : Drives c t c'
   pub taken : summary c' ≡ taken_up c.kept (record { number = number; transaction = t }) (summary c)
+  pub kept_number : c'.kept_number ≡ last_number c.kept number c.kept_number
   pub clock : c'.clock ≡ clock_after t c.clock
   pub store : StoreAfter t c.store.catalog c'.store.catalog
   pub exact : IsExact c t c'

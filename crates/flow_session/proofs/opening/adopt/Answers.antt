@@ -22,6 +22,7 @@ returns-in-Ok-adopt-clause-admitted c = λ order. record {
   adopted = record {
     drives = c.in-Ok-adopt.ensures.drives;
     taken = c.in-Ok-adopt.ensures.taken;
+    kept_number = c.in-Ok-adopt.ensures.kept_number;
     clock = c.in-Ok-adopt.ensures.clock;
     store = c.in-Ok-adopt.ensures.store;
     exact = c.in-Ok-adopt.ensures.exact;

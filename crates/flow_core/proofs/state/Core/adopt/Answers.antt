@@ -31,10 +31,10 @@ pub returns-clause-counts : goal.returns-clause-counts
 returns-clause-counts c =
     let before = c.args.self.now in
     let taken = c.in_ok-apply_as.ensures.applied in
-    counts_taken before c.apply_as.new.self c.args.number c.args.t (ap (λ (n : ℕ × ℕ × Summary). n.0) taken ∙ c.count.ensures.kept)
-    (ap (λ (n : ℕ × ℕ × Summary). n.2.roots) taken ∙ ap (λ (s : Summary). roots_after c.args.t s.roots) c.count.ensures.counted)
-    (ap (λ (n : ℕ × ℕ × Summary). n.2.transactions) taken ∙ ap (λ (s : Summary). s.transactions) c.count.ensures.counted)
-    (ap (λ (n : ℕ × ℕ × Summary). n.1) taken ∙ c.count.ensures.kept_root)
+    counts_taken before c.apply_as.new.self c.args.number c.args.t (ap (λ (n : ℕ × ℕ × ℕ × Summary). n.0) taken ∙ c.count.ensures.kept)
+    (ap (λ (n : ℕ × ℕ × ℕ × Summary). n.3.roots) taken ∙ ap (λ (s : Summary). roots_after c.args.t s.roots) c.count.ensures.counted)
+    (ap (λ (n : ℕ × ℕ × ℕ × Summary). n.3.transactions) taken ∙ ap (λ (s : Summary). s.transactions) c.count.ensures.counted)
+    (ap (λ (n : ℕ × ℕ × ℕ × Summary). n.2) taken ∙ c.count.ensures.kept_root)
     (c.in_ok-admits.ensures.follows c.if-not-branch.false) (c.in_ok-admits.ensures.free c.if-not-branch.false)
 
 pub returns-clause-exact : goal.returns-clause-exact
