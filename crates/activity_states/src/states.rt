@@ -2,7 +2,9 @@
 ghost use Rattle.std.specs.Prelude.{◌≡◌, OnOk, OnErr};
 ghost use Rattle.std.specs.Option.{option_copied};
 ghost use Rattle.flow_model.specs.declared.instances.Hold.TheVariants.{Nobody, Person};
-ghost use Rattle.activity_states.specs.States.{waiting, open_fate as open_fate_of, next_number as number_after, fate_of, hold_of, since_of, output_of, performer_of, next_take as take_after, made_ready, killed, held, taken, completed};
+ghost use Rattle.activity_states.specs.States.{waiting, open_fate as open_fate_of, next_number as number_after};
+ghost use Rattle.activity_states.specs.States.{fate_of, hold_of, since_of, output_of, performer_of};
+ghost use Rattle.activity_states.specs.States.{next_take as take_after, made_ready, killed, held, taken, completed};
 
 use flow_model::{Container, Fate, Hold, Name};
 use std::alloc::{AllocError, Global};
@@ -145,7 +147,8 @@ impl ProgramState {
         finished: bool,
         clock: u64,
     ) -> Result<(), AllocError>
-        ensures ok { OnOk result (self.new ≡ completed self.old (record { output = output; performer = performer }) finished clock) }
+        ensures ok { OnOk result (self.new ≡ completed self.old
+            (record { output = output; performer = performer }) finished clock) }
         ensures err { OnErr result (self.new ≡ self.old) }
     {
         if self.stage != Stage::Open {

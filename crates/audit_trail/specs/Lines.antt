@@ -8,7 +8,9 @@ use Rattle.flow_model.specs.declared.instances.Path.{Path}
 use Rattle.flow_model.specs.declared.instances.Who.{Who}
 use Rattle.flow_model.specs.declared.instances.Who.TheVariants.{Person, Agent}
 use Rattle.flow_model.specs.declared.transactions.Transaction.{Transaction}
-use Rattle.flow_model.specs.declared.transactions.Transaction.TheVariants.{Import, Start, Turn, Claim, Release, Transfer, Take, Done, Force, Restart, Suspend, Resume, Terminate, Delete, Clock}
+use Rattle.flow_model.specs.declared.transactions.Transaction.TheVariants.{Import, Start, Turn, Claim, Release}
+use Rattle.flow_model.specs.declared.transactions.Transaction.TheVariants.{Transfer, Take, Done, Force, Restart}
+use Rattle.flow_model.specs.declared.transactions.Transaction.TheVariants.{Suspend, Resume, Terminate, Delete, Clock}
 use Rattle.flow_text.specs.Spelling.{name_in_quotes}
 
 -- a path in single quotes
@@ -22,7 +24,8 @@ truth_word false = codes "FALSE"
 -- the text of a message, as `SIGNAL '1' 'A' 'B' TRUE`
 abbrev pub message_text : Message → List ℕ
 message_text (Begin scope) = codes "BEGIN " ++ path_in_quotes scope
-message_text (Signal scope source target truth) = codes "SIGNAL " ++ path_in_quotes scope ++ codes " " ++ name_in_quotes source ++ codes " " ++ name_in_quotes target ++ codes " " ++ truth_word truth
+message_text (Signal scope source target truth) = codes "SIGNAL " ++ path_in_quotes scope ++ codes " "
+    ++ name_in_quotes source ++ codes " " ++ name_in_quotes target ++ codes " " ++ truth_word truth
 message_text (End scope) = codes "END " ++ path_in_quotes scope
 
 -- who completed an item: a person, or an agent by the take number
@@ -51,13 +54,16 @@ is_audited (Clock minutes) = false
 -- what happened; rc is the return code of the output that a completion gave
 abbrev pub event_text : Transaction → ℤ → List ℕ
 event_text (Import text) rc = []
-event_text (Start root process version starter key settings) rc = codes "START " ++ name_in_quotes process ++ codes " " ++ decimal version ++ codes " BY " ++ name_in_quotes starter
+event_text (Start root process version starter key settings) rc = codes "START " ++ name_in_quotes process ++ codes " "
+    ++ decimal version ++ codes " BY " ++ name_in_quotes starter
 event_text (Turn queue message) rc = codes "TURN " ++ decimal queue ++ codes " " ++ message_text message
 event_text (Claim item who) rc = codes "CLAIM " ++ path_in_quotes item ++ codes " BY " ++ name_in_quotes who
 event_text (Release item who) rc = codes "RELEASE " ++ path_in_quotes item ++ codes " BY " ++ name_in_quotes who
-event_text (Transfer item who to) rc = codes "TRANSFER " ++ path_in_quotes item ++ codes " BY " ++ name_in_quotes who ++ codes " TO " ++ name_in_quotes to
+event_text (Transfer item who to) rc = codes "TRANSFER " ++ path_in_quotes item ++ codes " BY " ++ name_in_quotes who
+    ++ codes " TO " ++ name_in_quotes to
 event_text (Take item take) rc = codes "TAKE " ++ path_in_quotes item ++ codes " " ++ decimal take
-event_text (Done item who settings) rc = codes "DONE " ++ path_in_quotes item ++ who_text who ++ codes " RC " ++ signed_decimal rc
+event_text (Done item who settings) rc = codes "DONE " ++ path_in_quotes item ++ who_text who ++ codes " RC "
+    ++ signed_decimal rc
 event_text (Force item settings) rc = codes "FORCE " ++ path_in_quotes item ++ codes " RC " ++ signed_decimal rc
 event_text (Restart item) rc = codes "RESTART " ++ path_in_quotes item
 event_text (Suspend root) rc = codes "SUSPEND " ++ decimal root

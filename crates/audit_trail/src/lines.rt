@@ -2,7 +2,8 @@
 ghost use Rattle.std.specs.Prelude.{◌≡◌, ◌∷◌, [], ◌++◌, OnOk};
 ghost use Rattle.std.specs.Fmt.{decimal as digits_of, signed_decimal};
 ghost use Rattle.flow_text.specs.Spelling.{name_in_quotes};
-ghost use Rattle.audit_trail.specs.Lines.{path_in_quotes, truth_word as word_of, message_text, who_text, is_audited as audited_test, event_text, audit_line};
+ghost use Rattle.audit_trail.specs.Lines.{path_in_quotes, truth_word as word_of, message_text, who_text};
+ghost use Rattle.audit_trail.specs.Lines.{is_audited as audited_test, event_text, audit_line};
 
 use flow_model::{Message, Name, Path, Transaction, Who, write_path};
 use flow_text::{decimal, quoted_name, signed};

@@ -41,7 +41,8 @@ fn with_line(
     ends: &[SourceEnd],
     target: Container,
 ) -> Result<Container, AllocError>
-    ensures { IfOk result (λ c. c ≡ mapped_if line.now.maps (what_brings line.now.from scope_input.now (ends_of ends.now)) target) }
+    ensures { IfOk result (λ c. c ≡ mapped_if line.now.maps
+        (what_brings line.now.from scope_input.now (ends_of ends.now)) target) }
 {
     match brought(line.from, scope_input, ends) {
         None => Ok(target),
@@ -58,7 +59,8 @@ fn with_line_at(
     ends: &[SourceEnd],
     target: Container,
 ) -> Result<Container, AllocError>
-    ensures { IfOk result (λ c. c ≡ option_map_or (λ line. mapped_if line.maps (what_brings line.from scope_input.now (ends_of ends.now)) target) (slice_get lines.now place) target) }
+    ensures { IfOk result (λ c. c ≡ option_map_or (λ line. mapped_if line.maps
+        (what_brings line.from scope_input.now (ends_of ends.now)) target) (slice_get lines.now place) target) }
 {
     match lines.get(place as usize) {
         None => Ok(target),
@@ -75,7 +77,9 @@ fn with_lines(
     ends: &[SourceEnd],
     target: Container,
 ) -> Result<Container, AllocError>
-    ensures { IfOk result (λ c. c ≡ fold (λ d p. option_map_or (λ line. mapped_if line.maps (what_brings line.from scope_input.now (ends_of ends.now)) d) (slice_get lines.now p) d) target places.now) }
+    ensures { IfOk result (λ c. c ≡ fold (λ d p. option_map_or
+        (λ line. mapped_if line.maps (what_brings line.from scope_input.now (ends_of ends.now)) d)
+        (slice_get lines.now p) d) target places.now) }
 {
     let mut changed = target;
     for place in places {
@@ -93,7 +97,8 @@ pub fn first_input(
     scope_input: &Container,
     ends: &[SourceEnd],
 ) -> Result<Container, AllocError>
-    ensures { IsFeeding graph.now → IfOk result (λ c. c ≡ base_of graph.now activity.now place scope_input.now (ends_of ends.now)) }
+    ensures { IsFeeding graph.now → IfOk result (λ c. c
+        ≡ base_of graph.now activity.now place scope_input.now (ends_of ends.now)) }
 {
     let target = fresh(alloc, &activity.input)?;
     let places = row(graph.wiring.feeding.as_slice(), place);
@@ -115,7 +120,9 @@ pub fn base_input(
     scope_input: &Container,
     ends: &[SourceEnd],
 ) -> Result<Container, AllocError>
-    ensures { IsFeeding graph.now → IfOk result (λ c. c ≡ option_map_or (λ a. base_of graph.now a place scope_input.now (ends_of ends.now)) (slice_get (out-Graph graph.now).activities place) (record { values = [] })) }
+    ensures { IsFeeding graph.now → IfOk result (λ c. c
+        ≡ option_map_or (λ a. base_of graph.now a place scope_input.now (ends_of ends.now))
+        (slice_get (out-Graph graph.now).activities place) (record { values = [] })) }
 {
     match graph.activities.as_slice().get(place as usize) {
         None => Ok(Container {
@@ -133,7 +140,8 @@ fn with_loop_at(
     last: &Container,
     target: Container,
 ) -> Result<Container, AllocError>
-    ensures { IfOk result (λ c. c ≡ option_map_or (λ line. mapped line.maps last.now target) (slice_get loops.now place) target) }
+    ensures { IfOk result (λ c. c ≡ option_map_or (λ line. mapped line.maps last.now target)
+        (slice_get loops.now place) target) }
 {
     match loops.get(place as usize) {
         None => Ok(target),
@@ -166,7 +174,9 @@ pub fn output_of(
     scope_input: &Container,
     ends: &[SourceEnd],
 ) -> Result<Container, AllocError>
-    ensures { IsSinking graph.now → IfOk result (λ c. c ≡ fed (out-Graph graph.now).lines Border scope_input.now (ends_of ends.now) (fresh_container (out-Graph graph.now).output)) }
+    ensures { IsSinking graph.now → IfOk result (λ c. c
+        ≡ fed (out-Graph graph.now).lines Border scope_input.now (ends_of ends.now)
+        (fresh_container (out-Graph graph.now).output)) }
 {
     let target = fresh(alloc, &graph.output)?;
     let places = graph.wiring.sinking.as_slice();

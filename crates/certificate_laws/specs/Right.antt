@@ -36,8 +36,10 @@ pub record HasEnded (ts : List Template) (root : Standing) (path : List Part) : 
 -- what the line says is so: the scope starts, the row of the activity is shown, the scope is complete
 abbrev pub IsRight : Basis → Graph → ℕ → ℕ → CertLine → Type 0
 IsRight b g depth most (Scope p) = is_some (scope_in b.templates (root_in b g depth most) p.parts) ≡ true
-IsRight b g depth most (Dead p name) = Contains (rows_in b g depth most) (record { scope = p; name = name; fate = fate.Dead })
-IsRight b g depth most (Finished p name n) = Contains (rows_in b g depth most) (record { scope = p; name = name; fate = fate.Finished n })
+IsRight b g depth most (Dead p name) = Contains (rows_in b g depth most)
+    (record { scope = p; name = name; fate = fate.Dead })
+IsRight b g depth most (Finished p name n) = Contains (rows_in b g depth most)
+    (record { scope = p; name = name; fate = fate.Finished n })
 IsRight b g depth most (Ended p) = HasEnded b.templates (root_in b g depth most) p.parts
 
 -- ---- what is asked of lines and completions, as they are read
@@ -61,6 +63,7 @@ AreOwn most root facts = All (λ (f : Fact). IsRead most f.item × (f.item.root 
 -- each line of a certificate whose lines are justified is right
 abbrev pub JustifiedIsRight : Type 0
 JustifiedIsRight =
-    (b : Basis) (g : Graph) (depth most : ℕ) (lines : List CertLine) → most < 2 ^ 64 → root_graph b ≡ Some g → Well b.templates depth g
+    (b : Basis) (g : Graph) (depth most : ℕ) (lines : List CertLine) → most < 2 ^ 64 → root_graph b ≡ Some g
+    → Well b.templates depth g
     → AreOwn most b.root b.facts → All (IsLineRead depth most) lines → AreJustified b lines (length lines)
     → All (IsRight b g depth most) lines

@@ -1,5 +1,6 @@
 -- The scope at the end of a path, by the completions alone.
-use Rattle.std.specs.Prelude.{ℕ, zero, suc, ◌+◌, ◌==◌, ◌&&◌, if◌then◌else◌, Option, Some, None, option_map, option_and_then, List, [], ◌∷◌, reverse}
+use Rattle.std.specs.Prelude.{ℕ, zero, suc, ◌+◌, ◌==◌, ◌&&◌, if◌then◌else◌, Option, Some, None, option_map}
+use Rattle.std.specs.Prelude.{option_and_then, List, [], ◌∷◌, reverse}
 use Rattle.flow_model.specs.declared.graphs.Container.{Container}
 use Rattle.flow_model.specs.declared.graphs.Graph.{Graph, out-Graph}
 use Rattle.flow_model.specs.declared.graphs.Template.{Template}
@@ -46,7 +47,8 @@ after t next out = if holds t.exit out then None else next (t.loops out)
 -- the input of attempt c, where it is one of n attempts from attempt j on this input
 abbrev pub attempt_input : ℕ → Gives → Trial → ℕ → Container → ℕ → Option Container
 attempt_input zero gives t j i c = None
-attempt_input (suc n) gives t j i c = if j == c then Some i else option_and_then (after t (λ k. attempt_input n gives t (j + 1) k c)) (gives j i)
+attempt_input (suc n) gives t j i c = if j == c then Some i else option_and_then
+    (after t (λ k. attempt_input n gives t (j + 1) k c)) (gives j i)
 
 module _ (ts : List Template) where
   -- the input of an attempt that starts
@@ -58,7 +60,8 @@ module _ (ts : List Template) where
 
   -- the scope of an attempt of an activity, one step down
   abbrev pub step_to : ℕ → Part → Standing → Placed → Graph → Option Standing
-  step_to d q st x h = option_map (λ i. record { depth = d; known = at q st.known; graph = h; input = i }) (input_in st x q.attempt)
+  step_to d q st x h = option_map (λ i. record { depth = d; known = at q st.known; graph = h; input = i })
+      (input_in st x q.attempt)
 
   -- so, where the activity is a block or a process activity
   abbrev pub step_by : ℕ → Part → Standing → Placed → Option Standing

@@ -1,5 +1,6 @@
 -- Which lines of a certificate are justified: each by those before it.
-use Rattle.std.specs.Prelude.{◌≡◌, ℕ, ◌<◌, Bool, true, false, Some, None, is_some, unwrap_or, List, take, slice_get, fold}
+use Rattle.std.specs.Prelude.{◌≡◌, ℕ, ◌<◌, Bool, true, false, Some, None, is_some, unwrap_or, List, take, slice_get}
+use Rattle.std.specs.Prelude.{fold}
 use Rattle.certificates.specs.declared.accepting.AcceptFault.{AcceptFault}
 use Rattle.certificates.specs.declared.accepting.AcceptFault.TheVariants.{Line, NoMemory}
 use Rattle.certificates.specs.declared.lines.CertLine.{CertLine}
@@ -15,7 +16,8 @@ is_justified b before line = is_some (taken b (told b before) line)
 
 -- each of the first n lines is justified by those before it
 abbrev pub AreJustified : Basis → List CertLine → ℕ → Type 0
-AreJustified b lines n = (i : ℕ) (line : CertLine) → i < n → slice_get lines i ≡ Some line → is_justified b (take i lines) line ≡ true
+AreJustified b lines n = (i : ℕ) (line : CertLine) → i < n → slice_get lines i ≡ Some line
+    → is_justified b (take i lines) line ≡ true
 
 -- the line at this place is the first that isn't justified
 pub record IsFirstUnjustified (b : Basis) (lines : List CertLine) (place : ℕ) : Type 0 where

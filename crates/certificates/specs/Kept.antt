@@ -18,7 +18,14 @@ use Rattle.certificates.specs.Told.{Opened, Told, Basis, Placed, accepted}
 
 -- what a certificate rests on, as the checker is given it
 abbrev pub basis_of : Grounds → Basis
-basis_of g = record { templates = g.library.now.templates; root = g.root; template = g.template; input = g.input.now; facts = g.facts.now }
+basis_of g = record {
+  templates = g.library.now.templates;
+  root = g.root;
+  template = g.template;
+  input =
+      g.input.now;
+  facts = g.facts.now;
+}
 
 -- an activity with its place, as the code has it
 abbrev pub placed_of : PlacedActivity → Placed

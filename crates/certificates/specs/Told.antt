@@ -1,5 +1,7 @@
 -- What the lines of a certificate tell of the scopes of a root, and when a line follows from what is told.
-use Rattle.std.specs.Prelude.{ℕ, ◌-◌, ◌==◌, nat_lt, Bool, true, false, not, ◌&&◌, if◌then◌else◌, Option, Some, None, option_map, option_and_then, List, [], ◌∷◌, length, take, slice_get, slice_set, replicate, position, bytes_eq, ◌^◌}
+use Rattle.std.specs.Prelude.{ℕ, ◌-◌, ◌==◌, nat_lt, Bool, true, false, not, ◌&&◌, if◌then◌else◌, Option, Some, None}
+use Rattle.std.specs.Prelude.{option_map, option_and_then, List, [], ◌∷◌, length, take, slice_get, slice_set, replicate}
+use Rattle.std.specs.Prelude.{position, bytes_eq, ◌^◌}
 use Rattle.std.specs.Option.{option_or}
 use Rattle.std.specs.List.{list_all}
 use Rattle.flow_model.specs.declared.graphs.Activity.{Activity}
@@ -40,7 +42,13 @@ pub record Opened : Type 0 where
 
 -- a scope as it begins
 abbrev pub opened : Graph → Container → Opened
-opened g input = record { graph = g; input = input; ends = replicate (length (out-Graph g).activities) end.Unsettled; output = None }
+opened g input = record {
+  graph = g;
+  input = input;
+  ends = replicate
+      (length (out-Graph g).activities) end.Unsettled;
+  output = None;
+}
 
 -- a scope of which one end more is told
 abbrev pub with_end : ℕ → SourceEnd → Opened → Opened
@@ -90,7 +98,8 @@ pub record Placed : Type 0 where
 
 -- the activity at a place; places have 32 bits
 abbrev pub placed : Graph → ℕ → Option Placed
-placed g a = if nat_lt a (2 ^ 32) then option_map (λ x. record { place = a; activity = x }) (slice_get (out-Graph g).activities a) else None
+placed g a = if nat_lt a (2 ^ 32) then option_map (λ x. record { place = a; activity = x })
+    (slice_get (out-Graph g).activities a) else None
 
 -- the first activity of this name
 abbrev pub activity_at : Graph → Name → Option Placed
@@ -126,7 +135,8 @@ first_start ts s x = option_map (λ g. opened g (first_input s x)) (graph_in ts 
 
 -- that of the next attempt, where the exit condition is false on what the last one gave
 abbrev pub start_after : Opened → Placed → Opened → Container → Option Opened
-start_after s x last out = if holds x.activity.exit out then None else Some (opened last.graph (looped (out-Graph s.graph).loops x.place out (first_input s x)))
+start_after s x last out = if holds x.activity.exit out then None else Some
+    (opened last.graph (looped (out-Graph s.graph).loops x.place out (first_input s x)))
 
 -- so, where it is told what the last one gave
 abbrev pub next_start : Opened → Placed → Opened → Option Opened
@@ -161,7 +171,8 @@ stops exit (Some out) = if holds exit out then Some out else None
 
 -- what attempt n gave, where it is the last: one more follows each of those before it, and none follows it
 abbrev pub final : Option Expr → (ℕ → Option Container) → ℕ → Option Container
-final exit gives n = if not (n == 0) && list_all (λ j. goes_on exit (gives j)) (up_to (n - 1) 1) then stops exit (gives n) else None
+final exit gives n = if not (n == 0) && list_all (λ j. goes_on exit (gives j)) (up_to (n - 1) 1) then stops exit
+    (gives n) else None
 
 -- ---- lines
 
@@ -175,7 +186,8 @@ outer p = record { root = p.root; parts = take (length p.parts - 1) p.parts }
 
 -- a scope inside this one as it begins, where it starts by what is told
 abbrev pub inner_begins : Basis → Told → Path → Part → Option Opened
-inner_begins b t p q = option_and_then (λ s. option_and_then (start b.templates t p q s) (activity_at s.graph q.name)) (t p)
+inner_begins b t p q = option_and_then (λ s. option_and_then (start b.templates t p q s) (activity_at s.graph q.name))
+    (t p)
 
 -- the root's graph
 abbrev pub root_graph : Basis → Option Graph
@@ -202,7 +214,8 @@ final_at b t p n x = final x.activity.exit (gave b t p x.activity.name x.activit
 abbrev pub scope_gives : Opened → Option Container
 scope_gives s =
     if list_all is_settled s.ends
-    then Some (with_return_code (fed (out-Graph s.graph).lines Border s.input (ends_of s.ends) (fresh (out-Graph s.graph).output)))
+    then Some (with_return_code (fed (out-Graph s.graph).lines Border s.input (ends_of s.ends)
+    (fresh (out-Graph s.graph).output)))
     else None
 
 -- the scope of which a line tells
@@ -212,14 +225,19 @@ line_scope (Dead p name) = p
 line_scope (Finished p name attempt) = p
 line_scope (Ended p) = p
 
--- what is told with one line more, which follows from what was told before; None where it doesn't follow: a scope that starts, an
--- activity whose join is false, one whose join is true and whose last attempt this was, a scope whose activities have all ended
+-- what is told with one line more, which follows from what was told before; None where it doesn't follow: a scope that
+-- starts, an
+-- activity whose join is false, one whose join is true and whose last attempt this was, a scope whose activities have
+-- all ended
 abbrev pub next : Basis → Told → CertLine → Option Told
 next b t (Scope p) = option_map (beginning t p) (begins b t p)
-next b t (Dead p name) = option_map (λ x. changed t p (with_end x.place end.Dead)) (option_and_then (joined_at false name) (t p))
+next b t (Dead p name) = option_map (λ x. changed t p (with_end x.place end.Dead))
+    (option_and_then (joined_at false name) (t p))
 next b t (Finished p name n) =
-    option_and_then (λ x. option_map (λ out. changed t p (with_end x.place (end.Finished out))) (final_at b t p n x)) (option_and_then (joined_at true name) (t p))
-next b t (Ended p) = if length p.parts == 0 then None else option_map (λ out. changed t p (with_output out)) (option_and_then scope_gives (t p))
+    option_and_then (λ x. option_map (λ out. changed t p (with_end x.place (end.Finished out))) (final_at b t p n x))
+    (option_and_then (joined_at true name) (t p))
+next b t (Ended p) = if length p.parts == 0 then None else option_map (λ out. changed t p (with_output out))
+    (option_and_then scope_gives (t p))
 
 -- a line of another root never follows
 abbrev pub taken : Basis → Told → CertLine → Option Told

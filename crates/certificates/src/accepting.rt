@@ -3,8 +3,10 @@ ghost use Rattle.std.specs.Prelude.{◌≡◌, ◌-◌, IfOk, IfErr, MatchResult
 ghost use Rattle.std.specs.List.{list_all};
 ghost use Rattle.fate_laws.specs.Layout.{IsLaid};
 ghost use Rattle.flow_model.specs.ScopeContainers.{up_to};
-ghost use Rattle.certificates.specs.Told.{joined_at, gave, goes_on as goes_on_after, stops, final_at, next, taken, scope_gives};
-ghost use Rattle.certificates.specs.Kept.{basis_of, opened_of, placed_of, told_by, AreLaid, AreLaidTemplates, IsReadied, Takes};
+ghost use Rattle.certificates.specs.Told.{joined_at, gave, goes_on as goes_on_after, stops, final_at, next, taken};
+ghost use Rattle.certificates.specs.Told.{scope_gives};
+ghost use Rattle.certificates.specs.Kept.{basis_of, opened_of, placed_of, told_by, AreLaid, AreLaidTemplates};
+ghost use Rattle.certificates.specs.Kept.{IsReadied, Takes};
 ghost use Rattle.certificates.specs.Justified.{AreJustified, StopsAt, IsWithin};
 ghost use Rattle.certificates.specs.declared.accepting.AcceptFault.TheVariants.{NoMemory};
 
@@ -45,7 +47,8 @@ fn joined_in<'a>(
     name: &Name,
     truth: bool,
 ) -> Result<Option<Placed<'a>>, AllocError>
-    ensures { IsLaid begun.now.graph.now → IfOk result (λ found. option_map placed_of found ≡ joined_at truth name.now (opened_of begun.now)) }
+    ensures { IsLaid begun.now.graph.now → IfOk result
+        (λ found. option_map placed_of found ≡ joined_at truth name.now (opened_of begun.now)) }
 {
     let Some(found) = activity_at(begun.graph, name) else {
         return Ok(None);
@@ -65,7 +68,9 @@ fn joined<'a>(
     name: &Name,
     truth: bool,
 ) -> Result<Option<Placed<'a>>, AllocError>
-    ensures { AreLaid (told_by scopes.now) → IfOk result (λ found. option_map placed_of found ≡ option_and_then (joined_at truth name.now) (told_by scopes.now scope.now)) }
+    ensures { AreLaid (told_by scopes.now) → IfOk result
+        (λ found. option_map placed_of found ≡ option_and_then (joined_at truth name.now)
+        (told_by scopes.now scope.now)) }
 {
     match scope_at(alloc, scopes, scope)? {
         None => Ok(None),
@@ -79,7 +84,8 @@ fn scope_output<'a, 'b>(
     scopes: &'b Scopes<'a>,
     scope: &Path,
 ) -> Result<Option<&'b Container>, AllocError>
-    ensures { IfOk result (λ out. option_map (λ o. o.now) out ≡ option_and_then (λ s. s.output) (told_by scopes.now scope.now)) }
+    ensures { IfOk result (λ out. option_map (λ o. o.now) out
+        ≡ option_and_then (λ s. s.output) (told_by scopes.now scope.now)) }
 {
     match scope_at(alloc, scopes, scope)? {
         None => Ok(None),
@@ -96,7 +102,9 @@ fn attempt_output<'a, 'b>(
     attempt: u64,
 ) -> Result<Option<&'b Container>, AllocError>
     requires { IsReadied checker.now }
-    ensures { IfOk result (λ out. option_map (λ o. o.now) out ≡ gave (basis_of checker.now.grounds) (told_by scopes.now) scope.now activity.now.name activity.now.work attempt) }
+    ensures { IfOk result (λ out. option_map (λ o. o.now) out
+        ≡ gave (basis_of checker.now.grounds) (told_by scopes.now) scope.now activity.now.name activity.now.work
+        attempt) }
 {
     let path = path_below(checker.alloc, scope, &activity.name, attempt)?;
     match &activity.work {
@@ -145,7 +153,9 @@ fn attempt_goes_on<'a>(
     attempt: u64,
 ) -> Result<bool, AllocError>
     requires { IsReadied checker.now }
-    ensures { IfOk result (λ yes. yes ≡ goes_on_after activity.now.exit (gave (basis_of checker.now.grounds) (told_by scopes.now) scope.now activity.now.name activity.now.work attempt)) }
+    ensures { IfOk result (λ yes. yes ≡ goes_on_after activity.now.exit
+        (gave (basis_of checker.now.grounds) (told_by scopes.now) scope.now activity.now.name activity.now.work
+        attempt)) }
 {
     let output = attempt_output(checker, scopes, scope, activity, attempt)?;
     Ok(goes_on(&activity.exit, output))
@@ -160,7 +170,9 @@ fn all_go_on<'a>(
     attempts: u64,
 ) -> Result<bool, AllocError>
     requires { IsReadied checker.now }
-    ensures { IfOk result (λ all. all ≡ list_all (λ j. goes_on_after activity.now.exit (gave (basis_of checker.now.grounds) (told_by scopes.now) scope.now activity.now.name activity.now.work j)) (up_to (attempts - 1) 1)) }
+    ensures { IfOk result (λ all. all ≡ list_all (λ j. goes_on_after activity.now.exit
+        (gave (basis_of checker.now.grounds) (told_by scopes.now) scope.now activity.now.name activity.now.work j))
+        (up_to (attempts - 1) 1)) }
 {
     for attempt in 1..attempts {
         if !attempt_goes_on(checker, scopes, scope, activity, attempt)? {
@@ -179,7 +191,8 @@ fn final_output<'a>(
     attempts: u64,
 ) -> Result<Option<Container>, AllocError>
     requires { IsReadied checker.now }
-    ensures { IfOk result (λ out. out ≡ final_at (basis_of checker.now.grounds) (told_by scopes.now) scope.now attempts (placed_of found.entry)) }
+    ensures { IfOk result (λ out. out ≡ final_at (basis_of checker.now.grounds) (told_by scopes.now) scope.now attempts
+        (placed_of found.entry)) }
 {
     let activity = found.activity;
     if attempts == 0 || !all_go_on(checker, scopes, scope, activity, attempts)? {
@@ -195,7 +208,9 @@ fn take_scope<'a>(
     scopes: &mut Scopes<'a>,
     scope: &Path,
 ) -> Result<bool, AllocError>
-    ensures { AreLaid (told_by scopes.old) → IfOk result (Takes (told_by scopes.old) (told_by scopes.new) (next (basis_of checker.now.grounds) (told_by scopes.old) (CertLine.Scope scope.now))) }
+    ensures { AreLaid (told_by scopes.old) → IfOk result
+        (Takes (told_by scopes.old) (told_by scopes.new)
+        (next (basis_of checker.now.grounds) (told_by scopes.old) (CertLine.Scope scope.now))) }
 {
     match starting(checker, scopes, scope)? {
         None => Ok(false),
@@ -213,7 +228,9 @@ fn take_dead<'a>(
     scope: &Path,
     name: &Name,
 ) -> Result<bool, AllocError>
-    ensures { AreLaid (told_by scopes.old) → IfOk result (Takes (told_by scopes.old) (told_by scopes.new) (next (basis_of checker.now.grounds) (told_by scopes.old) (CertLine.Dead scope.now name.now))) }
+    ensures { AreLaid (told_by scopes.old) → IfOk result
+        (Takes (told_by scopes.old) (told_by scopes.new)
+        (next (basis_of checker.now.grounds) (told_by scopes.old) (CertLine.Dead scope.now name.now))) }
 {
     match joined(checker.alloc, scopes, scope, name, false)? {
         None => Ok(false),
@@ -233,7 +250,9 @@ fn take_finished<'a>(
     attempts: u64,
 ) -> Result<bool, AllocError>
     requires { IsReadied checker.now }
-    ensures { AreLaid (told_by scopes.old) → IfOk result (Takes (told_by scopes.old) (told_by scopes.new) (next (basis_of checker.now.grounds) (told_by scopes.old) (CertLine.Finished scope.now name.now attempts))) }
+    ensures { AreLaid (told_by scopes.old) → IfOk result
+        (Takes (told_by scopes.old) (told_by scopes.new)
+        (next (basis_of checker.now.grounds) (told_by scopes.old) (CertLine.Finished scope.now name.now attempts))) }
 {
     let Some(found) = joined(checker.alloc, scopes, scope, name, true)? else {
         return Ok(false);
@@ -254,7 +273,8 @@ fn scope_given(
     scopes: &Scopes<'_>,
     scope: &Path,
 ) -> Result<Option<Container>, AllocError>
-    ensures { AreLaid (told_by scopes.now) → IfOk result (λ out. out ≡ option_and_then scope_gives (told_by scopes.now scope.now)) }
+    ensures { AreLaid (told_by scopes.now) → IfOk result
+        (λ out. out ≡ option_and_then scope_gives (told_by scopes.now scope.now)) }
 {
     match scope_at(alloc, scopes, scope)? {
         None => Ok(None),
@@ -268,7 +288,9 @@ fn take_ended<'a>(
     scopes: &mut Scopes<'a>,
     scope: &Path,
 ) -> Result<bool, AllocError>
-    ensures { AreLaid (told_by scopes.old) → IfOk result (Takes (told_by scopes.old) (told_by scopes.new) (next (basis_of checker.now.grounds) (told_by scopes.old) (CertLine.Ended scope.now))) }
+    ensures { AreLaid (told_by scopes.old) → IfOk result
+        (Takes (told_by scopes.old) (told_by scopes.new)
+        (next (basis_of checker.now.grounds) (told_by scopes.old) (CertLine.Ended scope.now))) }
 {
     if scope.parts.is_empty() {
         return Ok(false);
@@ -289,7 +311,9 @@ fn take_next<'a>(
     line: &CertLine,
 ) -> Result<bool, AllocError>
     requires { IsReadied checker.now }
-    ensures { AreLaid (told_by scopes.old) → IfOk result (Takes (told_by scopes.old) (told_by scopes.new) (next (basis_of checker.now.grounds) (told_by scopes.old) line.now)) }
+    ensures { AreLaid (told_by scopes.old) → IfOk result
+        (Takes (told_by scopes.old) (told_by scopes.new)
+        (next (basis_of checker.now.grounds) (told_by scopes.old) line.now)) }
 {
     match line {
         CertLine::Scope(scope) => take_scope(checker, scopes, scope),
@@ -309,7 +333,9 @@ fn take<'a>(
     line: &CertLine,
 ) -> Result<bool, AllocError>
     requires { IsReadied checker.now }
-    ensures { AreLaid (told_by scopes.old) → IfOk result (Takes (told_by scopes.old) (told_by scopes.new) (taken (basis_of checker.now.grounds) (told_by scopes.old) line.now)) }
+    ensures { AreLaid (told_by scopes.old) → IfOk result
+        (Takes (told_by scopes.old) (told_by scopes.new)
+        (taken (basis_of checker.now.grounds) (told_by scopes.old) line.now)) }
 {
     if line.scope().root != checker.grounds.root {
         return Ok(false);
@@ -322,7 +348,9 @@ fn take<'a>(
 /// `Line` comes with the first line that isn't justified by those before it. A line that says again what a
 /// line before it says is justified like any other.
 pub fn accept(alloc: Global, grounds: &Grounds<'_>, lines: &[CertLine]) -> Result<(), AcceptFault>
-    ensures exact { AreLaidTemplates grounds.now.library.now.templates → MatchResult result (λ _. AreJustified (basis_of grounds.now) lines.now (length lines.now)) (StopsAt (basis_of grounds.now) lines.now) }
+    ensures exact { AreLaidTemplates grounds.now.library.now.templates
+        → MatchResult result (λ _. AreJustified (basis_of grounds.now) lines.now (length lines.now))
+        (StopsAt (basis_of grounds.now) lines.now) }
     ensures within { IfErr result (IsWithin (length lines.now)) }
 {
     let checker = Checker::new(alloc, grounds)?;

@@ -33,7 +33,8 @@ pub struct Checker<'a> {
 
 /// Adds a completion, unless there is one of the same item.
 fn add_given<'a>(given: &mut Given<'a>, alloc: Global, fact: &'a Fact) -> Result<(), AllocError>
-    ensures { OnOk result ((p : PathOf) → accepted_by given.new p ≡ option_or (accepted_by given.old p) (if same_path fact.now.item p then Some fact.now.output else None)) }
+    ensures { OnOk result ((p : PathOf) → accepted_by given.new p
+        ≡ option_or (accepted_by given.old p) (if same_path fact.now.item p then Some fact.now.output else None)) }
 {
     let key = path_text(alloc, &fact.item)?;
     if !given.contains_key(key.as_slice()) {
@@ -68,7 +69,8 @@ impl<'a> Checker<'a> {
     /// The first accepted output of an item.
     pub fn accepted(&self, item: &Path) -> Result<Option<&'a Container>, AllocError>
         requires { IsReadied self.now }
-        ensures { IfOk result (λ found. option_map (λ out. out.now) found ≡ accepted self.now.grounds.facts.now item.now) }
+        ensures { IfOk result (λ found. option_map (λ out. out.now) found
+            ≡ accepted self.now.grounds.facts.now item.now) }
     {
         let key = path_text(self.alloc, item)?;
         Ok(self.given.get(key.as_slice()).copied())

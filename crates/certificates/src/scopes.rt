@@ -9,7 +9,9 @@ ghost use Rattle.flow_model.specs.declared.graphs.Graph.{out-Graph};
 ghost use Rattle.flow_model.specs.declared.instances.Path.{Path as PathOf};
 ghost use Rattle.flow_model.specs.Fates.{is_settled as is_settled_end};
 ghost use Rattle.flow_model.specs.Scopes.{is_fed as is_fed_by, is_ready_source};
-ghost use Rattle.certificates.specs.Told.{Opened, opened, beginning, changed, with_end, with_output, join_in, first_input as first_input_of, scope_gives, is_known as is_known_so, is_active as is_active_in};
+ghost use Rattle.certificates.specs.Told.{Opened, opened, beginning, changed, with_end, with_output, join_in};
+ghost use Rattle.certificates.specs.Told.{first_input as first_input_of, scope_gives, is_known as is_known_so};
+ghost use Rattle.certificates.specs.Told.{is_active as is_active_in};
 ghost use Rattle.certificates.specs.Kept.{opened_of, placed_of, told_by};
 
 use crate::graphs::Placed;
@@ -56,7 +58,8 @@ fn value_of(graph: &Graph, control: &Control, ends: &[SourceEnd]) -> Option<bool
 
 /// The value of the connector at a place, if it is there.
 fn value_at(graph: &Graph, ends: &[SourceEnd], place: u32) -> Option<Option<bool>>
-    ensures { IsLaid graph.now → result ≡ option_map (value_in (out-Graph graph.now).controls (ends_of ends.now)) (slice_get (out-Graph graph.now).controls place) }
+    ensures { IsLaid graph.now → result ≡ option_map (value_in (out-Graph graph.now).controls (ends_of ends.now))
+        (slice_get (out-Graph graph.now).controls place) }
 {
     match graph.controls.as_slice().get(place as usize) {
         None => None,
@@ -76,7 +79,8 @@ fn add(values: &mut Vec<Option<bool>>, value: Option<Option<bool>>) -> Result<()
 
 /// Whether what feeds the data line at a place is settled.
 fn is_ready_at(lines: &[DataLine], ends: &[SourceEnd], place: u32) -> bool
-    ensures { result ≡ option_map_or (λ line. is_ready_source line.from (ends_of ends.now)) (slice_get lines.now place) true }
+    ensures { result ≡ option_map_or (λ line. is_ready_source line.from (ends_of ends.now))
+        (slice_get lines.now place) true }
 {
     match lines.get(place as usize) {
         None => true,
@@ -99,7 +103,8 @@ fn is_ready(line: &DataLine, ends: &[SourceEnd]) -> bool
 
 /// Whether what feeds the data lines at these places is settled.
 fn are_ready(lines: &[DataLine], ends: &[SourceEnd], places: &[u32]) -> bool
-    ensures { result ≡ list_all (λ p. option_map_or (λ line. is_ready_source line.from (ends_of ends.now)) (slice_get lines.now p) true) places.now }
+    ensures { result ≡ list_all (λ p. option_map_or (λ line. is_ready_source line.from (ends_of ends.now))
+        (slice_get lines.now p) true) places.now }
 {
     places.iter().all(|place| is_ready_at(lines, ends, *place))
 }
@@ -150,7 +155,8 @@ impl<'a> Begun<'a> {
 
     /// The join of an activity; None where a source isn't settled.
     pub fn join_of(&self, alloc: Global, found: Placed<'_>) -> Result<Option<bool>, AllocError>
-        ensures { IsLaid self.now.graph.now → IfOk result (λ v. v ≡ join_in (opened_of self.now) (placed_of found.entry)) }
+        ensures { IsLaid self.now.graph.now → IfOk result
+            (λ v. v ≡ join_in (opened_of self.now) (placed_of found.entry)) }
     {
         let mut values = Vec::new(alloc);
         for place in row(self.graph.wiring.incoming.as_slice(), found.place) {
@@ -162,7 +168,8 @@ impl<'a> Begun<'a> {
 
     /// Whether the sources of the data lines to an activity are settled.
     fn is_fed(&self, place: u32) -> bool
-        ensures { IsLaid self.now.graph.now → result ≡ is_fed_by (out-Graph self.now.graph.now).lines place (ends_of self.now.ends.items) }
+        ensures { IsLaid self.now.graph.now → result ≡ is_fed_by (out-Graph self.now.graph.now).lines place
+            (ends_of self.now.ends.items) }
     {
         let places = row(self.graph.wiring.feeding.as_slice(), place);
         are_ready(self.graph.lines.as_slice(), &self.ends, places)
@@ -170,7 +177,8 @@ impl<'a> Begun<'a> {
 
     /// Whether attempts of an activity start.
     pub fn is_active(&self, alloc: Global, found: Placed<'_>) -> Result<bool, AllocError>
-        ensures { IsLaid self.now.graph.now → IfOk result (λ yes. yes ≡ is_active_in (opened_of self.now) (placed_of found.entry)) }
+        ensures { IsLaid self.now.graph.now → IfOk result
+            (λ yes. yes ≡ is_active_in (opened_of self.now) (placed_of found.entry)) }
     {
         Ok(is_known(true, self.join_of(alloc, found)?) && self.is_fed(found.place))
     }
@@ -184,7 +192,8 @@ impl<'a> Begun<'a> {
 
     /// The input of attempt 1 of an activity.
     pub fn first_input(&self, alloc: Global, found: Placed<'_>) -> Result<Container, AllocError>
-        ensures { IsLaid self.now.graph.now → IfOk result (λ c. c ≡ first_input_of (opened_of self.now) (placed_of found.entry)) }
+        ensures { IsLaid self.now.graph.now → IfOk result
+            (λ c. c ≡ first_input_of (opened_of self.now) (placed_of found.entry)) }
     {
         first_input(
             alloc,
@@ -227,7 +236,8 @@ pub fn begin<'a>(
     scope: &Path,
     begun: Begun<'a>,
 ) -> Result<(), AllocError>
-    ensures { OnOk result ((p : PathOf) → told_by scopes.new p ≡ beginning (told_by scopes.old) scope.now (opened_of begun.entry) p) }
+    ensures { OnOk result ((p : PathOf) → told_by scopes.new p
+        ≡ beginning (told_by scopes.old) scope.now (opened_of begun.entry) p) }
 {
     let key = path_text(alloc, scope)?;
     if !scopes.contains_key(key.as_slice()) {
@@ -244,7 +254,8 @@ pub fn settle(
     place: u32,
     end: SourceEnd,
 ) -> Result<(), AllocError>
-    ensures { OnOk result ((p : PathOf) → told_by scopes.new p ≡ changed (told_by scopes.old) scope.now (with_end place end) p) }
+    ensures { OnOk result ((p : PathOf) → told_by scopes.new p
+        ≡ changed (told_by scopes.old) scope.now (with_end place end) p) }
 {
     let key = path_text(alloc, scope)?;
     if let Some(begun) = scopes.get_mut(key.as_slice()) {
@@ -260,7 +271,8 @@ pub fn give(
     scope: &Path,
     output: Container,
 ) -> Result<(), AllocError>
-    ensures { OnOk result ((p : PathOf) → told_by scopes.new p ≡ changed (told_by scopes.old) scope.now (with_output output) p) }
+    ensures { OnOk result ((p : PathOf) → told_by scopes.new p
+        ≡ changed (told_by scopes.old) scope.now (with_output output) p) }
 {
     let key = path_text(alloc, scope)?;
     if let Some(begun) = scopes.get_mut(key.as_slice()) {

@@ -1,7 +1,8 @@
 //! The attempts of block and process activities: which of them starts, and with which input.
 ghost use Rattle.std.specs.Prelude.{◌≡◌, IfOk, option_copied, option_map};
 ghost use Rattle.fate_laws.specs.Layout.{IsLaid};
-ghost use Rattle.certificates.specs.Told.{attempt_start, begins, first_start, inner_begins, next_start, root_begins, root_graph as graph_of_root, start, start_after};
+ghost use Rattle.certificates.specs.Told.{attempt_start, begins, first_start, inner_begins, next_start, root_begins};
+ghost use Rattle.certificates.specs.Told.{root_graph as graph_of_root, start, start_after};
 ghost use Rattle.certificates.specs.Kept.{basis_of, opened_of, placed_of, told_by, AreLaid};
 
 use crate::graphs::{Placed, activity_at, outer_scope, path_below};
@@ -19,7 +20,9 @@ fn first_attempt<'a>(
     outer: &Begun<'a>,
     found: Placed<'a>,
 ) -> Result<Option<Begun<'a>>, AllocError>
-    ensures { IsLaid outer.now.graph.now → IfOk result (λ b. option_map opened_of b ≡ first_start library.now.templates (opened_of outer.now) (placed_of found.entry)) }
+    ensures { IsLaid outer.now.graph.now → IfOk result
+        (λ b. option_map opened_of b ≡ first_start library.now.templates (opened_of outer.now)
+        (placed_of found.entry)) }
 {
     match graph_of(library, &found.activity.work) {
         None => Ok(None),
@@ -38,7 +41,9 @@ fn attempt_after<'a>(
     found: Placed<'_>,
     output: &Container,
 ) -> Result<Option<Begun<'a>>, AllocError>
-    ensures { IsLaid outer.now.graph.now → IfOk result (λ b. option_map opened_of b ≡ start_after (opened_of outer.now) (placed_of found.entry) (opened_of last.now) output.now) }
+    ensures { IsLaid outer.now.graph.now → IfOk result
+        (λ b. option_map opened_of b ≡ start_after (opened_of outer.now) (placed_of found.entry)
+        (opened_of last.now) output.now) }
 {
     if holds(&found.activity.exit, output) {
         return Ok(None);
@@ -55,7 +60,8 @@ fn later_attempt<'a>(
     last: &Begun<'a>,
     found: Placed<'_>,
 ) -> Result<Option<Begun<'a>>, AllocError>
-    ensures { IsLaid outer.now.graph.now → IfOk result (λ b. option_map opened_of b ≡ next_start (opened_of outer.now) (placed_of found.entry) (opened_of last.now)) }
+    ensures { IsLaid outer.now.graph.now → IfOk result
+        (λ b. option_map opened_of b ≡ next_start (opened_of outer.now) (placed_of found.entry) (opened_of last.now)) }
 {
     match &last.output {
         None => Ok(None),
@@ -72,7 +78,9 @@ fn active_attempt<'a>(
     outer: &Begun<'a>,
     found: Placed<'a>,
 ) -> Result<Option<Begun<'a>>, AllocError>
-    ensures { IsLaid outer.now.graph.now → IfOk result (λ b. option_map opened_of b ≡ attempt_start checker.now.grounds.library.now.templates (told_by scopes.now) path.now part.now (opened_of outer.now) (placed_of found.entry)) }
+    ensures { IsLaid outer.now.graph.now → IfOk result
+        (λ b. option_map opened_of b ≡ attempt_start checker.now.grounds.library.now.templates
+        (told_by scopes.now) path.now part.now (opened_of outer.now) (placed_of found.entry)) }
 {
     let alloc = checker.alloc;
     if part.attempt == 0 {
@@ -97,7 +105,9 @@ fn attempt<'a>(
     outer: &Begun<'a>,
     found: Placed<'a>,
 ) -> Result<Option<Begun<'a>>, AllocError>
-    ensures { IsLaid outer.now.graph.now → IfOk result (λ b. option_map opened_of b ≡ start checker.now.grounds.library.now.templates (told_by scopes.now) path.now part.now (opened_of outer.now) (placed_of found.entry)) }
+    ensures { IsLaid outer.now.graph.now → IfOk result
+        (λ b. option_map opened_of b ≡ start checker.now.grounds.library.now.templates
+        (told_by scopes.now) path.now part.now (opened_of outer.now) (placed_of found.entry)) }
 {
     if !outer.is_active(checker.alloc, found)? {
         return Ok(None);
@@ -112,7 +122,9 @@ fn inner_scope<'a>(
     path: &Path,
     part: &Part,
 ) -> Result<Option<Begun<'a>>, AllocError>
-    ensures { AreLaid (told_by scopes.now) → IfOk result (λ b. option_map opened_of b ≡ inner_begins (basis_of checker.now.grounds) (told_by scopes.now) path.now part.now) }
+    ensures { AreLaid (told_by scopes.now) → IfOk result
+        (λ b. option_map opened_of b ≡ inner_begins (basis_of checker.now.grounds)
+        (told_by scopes.now) path.now part.now) }
 {
     let Some(outer) = scope_at(checker.alloc, scopes, path)? else {
         return Ok(None);
@@ -153,7 +165,8 @@ pub fn starting<'a>(
     scopes: &Scopes<'a>,
     scope: &Path,
 ) -> Result<Option<Begun<'a>>, AllocError>
-    ensures { AreLaid (told_by scopes.now) → IfOk result (λ b. option_map opened_of b ≡ begins (basis_of checker.now.grounds) (told_by scopes.now) scope.now) }
+    ensures { AreLaid (told_by scopes.now) → IfOk result
+        (λ b. option_map opened_of b ≡ begins (basis_of checker.now.grounds) (told_by scopes.now) scope.now) }
 {
     match scope.parts.as_slice().last() {
         None => root_scope(checker),

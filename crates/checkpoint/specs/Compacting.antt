@@ -9,7 +9,8 @@ use Rattle.txn_log.specs.Stores.{Counts, store_of}
 
 -- one slot stands for what it did, or is unmade, or stands for what it is to; the other has these bytes
 pub record Turns (slot : Slot) (before after : SlotState) (there : List ℕ) (image : Image) : Type 0 where
-  pub here : (slot_state (bytes_in image slot) ≡ before) ⊎ ((slot_state (bytes_in image slot) ≡ Unmade) ⊎ (slot_state (bytes_in image slot) ≡ after))
+  pub here : (slot_state (bytes_in image slot) ≡ before)
+      ⊎ ((slot_state (bytes_in image slot) ≡ Unmade) ⊎ (slot_state (bytes_in image slot) ≡ after))
   pub other : bytes_in image (opposite slot) ≡ there
 
 -- this slot counts, with this header and the kept records alone

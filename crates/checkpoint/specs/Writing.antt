@@ -17,7 +17,8 @@ spelled (payload ∷ payloads) = record_text payload ++ spelled payloads
 
 -- what begins with so many bytes goes on with this piece behind them, and the other slot is as it was
 abbrev pub Adds : Slot → ℕ → List ℕ → Image → Image → Type 0
-Adds slot at piece old new = (front there : List ℕ) → length front ≡ at → Begins slot front there old → Begins slot (front ++ piece) there new
+Adds slot at piece old new = (front there : List ℕ) → length front ≡ at → Begins slot front there old
+    → Begins slot (front ++ piece) there new
 
 -- the gate is closed as between the first and the second step of a new slot, and the other slot has these bytes
 pub record ShutBeside (slot : Slot) (from : ℕ) (there : List ℕ) (image : Image) : Type 0 where
@@ -25,10 +26,14 @@ pub record ShutBeside (slot : Slot) (from : ℕ) (there : List ℕ) (image : Ima
   pub other : bytes_in image (opposite slot) ≡ there
 
 -- each image since old has P, and so has each image of now
-pub record Keeps {D : Type 0} (moment : D → ℕ) (left_since : D → ℕ → Image → Type 0) (images : D → Image → Type 0) (old new : D) (P : Image → Type 0) : Type 0 where
+pub record Keeps {D : Type 0} (moment : D → ℕ) (left_since : D → ℕ → Image → Type 0) (images : D → Image → Type 0)
+    (old new : D) (P : Image → Type 0) : Type 0 where
   pub leaves : LeavesOnly moment left_since old new P
   pub now : (c : Image) → images new c → P c
 
 -- writes from a place on keep a gate closed whose front ends there or before
-abbrev pub KeepsShut : {D : Type 0} → (D → ℕ) → (D → ℕ → Image → Type 0) → (D → Image → Type 0) → Slot → ℕ → D → D → Type 0
-KeepsShut moment left_since images slot at old new = (from : ℕ) (there : List ℕ) → from ≤ at → ((c : Image) → images old c → ShutBeside slot from there c) → Keeps moment left_since images old new (ShutBeside slot from there)
+abbrev pub KeepsShut : {D : Type 0} → (D → ℕ) → (D → ℕ → Image → Type 0) → (D → Image → Type 0) → Slot → ℕ → D → D
+    → Type 0
+KeepsShut moment left_since images slot at old new = (from : ℕ) (there : List ℕ) → from ≤ at
+    → ((c : Image) → images old c → ShutBeside slot from there c)
+    → Keeps moment left_since images old new (ShutBeside slot from there)

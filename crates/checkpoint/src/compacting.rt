@@ -1,5 +1,6 @@
 //! The live part of a store, moved to the other slot.
-ghost use Rattle.std.specs.Prelude.{◌≡◌, ◌⊎◌, ℕ, ◌+◌, ◌*◌, ◌<◌, ◌≤◌, ◌^◌, ◌↔◌, List, length, false, IfOk, IsErr, IsTrue, OnOk, All};
+ghost use Rattle.std.specs.Prelude.{◌≡◌, ◌⊎◌, ℕ, ◌+◌, ◌*◌, ◌<◌, ◌≤◌, ◌^◌, ◌↔◌, List, length, false, IfOk, IsErr};
+ghost use Rattle.std.specs.Prelude.{IsTrue, OnOk, All};
 ghost use Rattle.flow_disk.specs.Causes.{HasCause};
 ghost use Rattle.flow_disk.specs.Images.{bytes_in, opposite};
 ghost use Rattle.flow_disk.specs.Moments.{LeavesOnly, Only};
@@ -27,11 +28,13 @@ fn write_generation<D: Disk>(
     requires ours { D.tells → IsOurs (slot_state (bytes_in (D.seen disk.old) slot)) }
     ensures end { IfOk result (λ end. end ≡ reach 42 kept.now) }
     ensures small { IfOk result (λ end. end ≤ 42 + 2097157 * length kept.now) }
-    ensures made { OnOk result (D.tells → Stands slot (Good header.now kept.now (reach 42 kept.now)) (bytes_in (D.seen disk.old) (opposite slot)) (D.seen disk.new)) }
+    ensures made { OnOk result (D.tells → Stands slot (Good header.now kept.now (reach 42 kept.now))
+        (bytes_in (D.seen disk.old) (opposite slot)) (D.seen disk.new)) }
     ensures durable { OnOk result (Only (D.seen disk.new) (D.images disk.new)) }
     ensures any_moment { D.tells → Only (D.seen disk.old) (D.images disk.old)
         → LeavesOnly D.moment D.left_since disk.old disk.new
-        (Turns slot (slot_state (bytes_in (D.seen disk.old) slot)) (Good header.now kept.now (reach 42 kept.now)) (bytes_in (D.seen disk.old) (opposite slot))) }
+        (Turns slot (slot_state (bytes_in (D.seen disk.old) slot)) (Good header.now kept.now (reach 42 kept.now))
+        (bytes_in (D.seen disk.old) (opposite slot))) }
     ensures cause { HasCause (D.faults disk.old) (D.faults disk.new) result }
 {
     let from = shut(disk, slot)?;
@@ -59,14 +62,18 @@ pub fn compact<D: Disk>(
     requires next { header.now.generation ≡ log.old.generation + 1 }
     requires stands { D.tells → StandsOn log.old (D.seen disk.old) }
     ensures stands { OnOk result (D.tells → StandsOn log.new (D.seen disk.new)) }
-    ensures compacted { OnOk result (D.tells → IsCompacted (opposite log.old.slot) header.now kept.now (D.seen disk.new)) }
+    ensures compacted { OnOk result (D.tells → IsCompacted (opposite log.old.slot) header.now kept.now
+        (D.seen disk.new)) }
     ensures durable { OnOk result (Only (D.seen disk.new) (D.images disk.new)) }
     ensures any_moment { D.tells → Only (D.seen disk.old) (D.images disk.old)
-        → LeavesOnly D.moment D.left_since disk.old disk.new (MayBeCompacted (opposite log.old.slot) header.now kept.now (D.seen disk.old)) }
-    ensures read { D.tells → Only (D.seen disk.old) (D.images disk.old) → MayBeCompacted (opposite log.old.slot) header.now kept.now (D.seen disk.old) (D.seen disk.new) }
+        → LeavesOnly D.moment D.left_since disk.old disk.new
+        (MayBeCompacted (opposite log.old.slot) header.now kept.now (D.seen disk.old)) }
+    ensures read { D.tells → Only (D.seen disk.old) (D.images disk.old)
+        → MayBeCompacted (opposite log.old.slot) header.now kept.now (D.seen disk.old) (D.seen disk.new) }
     ensures cause { HasCause (D.faults disk.old) (D.faults disk.new) result }
     ensures failed { IsTrue log.new.failed ↔ IsErr result }
-    ensures log { OnOk result (IsAt (opposite log.old.slot) header.now.generation (length kept.now) (reach 42 kept.now) log.new) }
+    ensures log { OnOk result (IsAt (opposite log.old.slot) header.now.generation (length kept.now)
+        (reach 42 kept.now) log.new) }
 {
     match write_generation(disk, other_slot(log.slot()), header, kept) {
         Ok(end) => {

@@ -16,7 +16,8 @@ use txn_log::{Header, header_bytes};
 fn write_header<D: Disk>(disk: &mut D, slot: Slot, from: u64, header: &Header) -> Result<(), Failed>
     requires from { (from ≡ 1) ⊎ (from ≡ 8) }
     requires within { D.tells → from ≤ length (bytes_in (D.seen disk.old) slot) }
-    ensures adds { OnOk result (D.tells → Adds slot from (drop (from - 1) (header_text header.now)) (D.seen disk.old) (D.seen disk.new)) }
+    ensures adds { OnOk result (D.tells → Adds slot from (drop (from - 1) (header_text header.now)) (D.seen disk.old)
+        (D.seen disk.new)) }
     ensures keeps { KeepsShut D.moment D.left_since D.images slot from disk.old disk.new }
     ensures cause { HasCause (D.faults disk.old) (D.faults disk.new) result }
 {
@@ -76,10 +77,12 @@ pub fn write_body<D: Disk>(
     ensures end { IfOk result (λ end. end ≡ reach 42 kept.now) }
     ensures small { IfOk result (λ end. end ≤ 42 + 2097157 * length kept.now) }
     ensures body { OnOk result (D.tells → HasBody slot header.now kept.now (reach 42 kept.now) (D.seen disk.new)) }
-    ensures other { OnOk result (D.tells → bytes_in (D.seen disk.new) (opposite slot) ≡ bytes_in (D.seen disk.old) (opposite slot)) }
+    ensures other { OnOk result (D.tells → bytes_in (D.seen disk.new) (opposite slot)
+        ≡ bytes_in (D.seen disk.old) (opposite slot)) }
     ensures durable { OnOk result (Only (D.seen disk.new) (D.images disk.new)) }
     ensures any_moment { D.tells → Only (D.seen disk.old) (D.images disk.old)
-        → LeavesOnly D.moment D.left_since disk.old disk.new (Stands slot Unmade (bytes_in (D.seen disk.old) (opposite slot))) }
+        → LeavesOnly D.moment D.left_since disk.old disk.new
+        (Stands slot Unmade (bytes_in (D.seen disk.old) (opposite slot))) }
     ensures cause { HasCause (D.faults disk.old) (D.faults disk.new) result }
 {
     write_header(disk, slot, from, header)?;

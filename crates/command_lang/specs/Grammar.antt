@@ -1,4 +1,5 @@
--- The grammar of commands and completions: what is said, the tokens before it, and those behind it. One case for each alternative.
+-- The grammar of commands and completions: what is said, the tokens before it, and those behind it. One case for each
+-- alternative.
 use Rattle.std.specs.Prelude.{ℕ, Option, Some, None, List, [], ◌∷◌, ◌++◌}
 use Rattle.flow_table.specs.declared.keyword.TheConstants as word
 use Rattle.flow_model.specs.declared.commands.Command.{Command}
@@ -33,12 +34,15 @@ pub data IsValue : RawValue → Tokens → Tokens → Type 0 where
 
 -- leaf = value
 pub data IsSetting : RawSetting → Tokens → Tokens → Type 0 where
-  LeafAndValue : {l : LeafAt} {v : RawValue} {p : ℕ} {a b c d : Tokens} → IsLeaf l a b → IsMark mark.EQUAL p b c → IsValue v c d → IsSetting (record { leaf = l; value = v }) a d
+  LeafAndValue : {l : LeafAt} {v : RawValue} {p : ℕ} {a b c d : Tokens} → IsLeaf l a b → IsMark mark.EQUAL p b c
+      → IsValue v c d → IsSetting (record { leaf = l; value = v }) a d
 
 -- with = WITH leaf = value (, leaf = value)*
 pub data AreSettings : List RawSetting → Tokens → Tokens → Type 0 where
-  FirstSetting : {s : RawSetting} {p : ℕ} {a b c : Tokens} → IsWord word.WITH p a b → IsSetting s b c → AreSettings (s ∷ []) a c
-  MoreSettings : {ss : List RawSetting} {s : RawSetting} {p : ℕ} {a b c d : Tokens} → AreSettings ss a b → IsMark mark.COMMA p b c → IsSetting s c d → AreSettings (ss ++ s ∷ []) a d
+  FirstSetting : {s : RawSetting} {p : ℕ} {a b c : Tokens} → IsWord word.WITH p a b → IsSetting s b c
+      → AreSettings (s ∷ []) a c
+  MoreSettings : {ss : List RawSetting} {s : RawSetting} {p : ℕ} {a b c d : Tokens} → AreSettings ss a b
+      → IsMark mark.COMMA p b c → IsSetting s c d → AreSettings (ss ++ s ∷ []) a d
 
 -- [with]
 pub data IsWith : List RawSetting → Tokens → Tokens → Type 0 where
@@ -52,7 +56,8 @@ pub data IsReturnCode : Option NumberAt → Tokens → Tokens → Type 0 where
 
 -- result = [RC [-] number] [with]
 pub data IsOutcome : Outcome → Tokens → Tokens → Type 0 where
-  CodeAndSettings : {rc : Option NumberAt} {ss : List RawSetting} {a b c : Tokens} → IsReturnCode rc a b → IsWith ss b c → IsOutcome (record { rc = rc; settings = ss }) a c
+  CodeAndSettings : {rc : Option NumberAt} {ss : List RawSetting} {a b c : Tokens} → IsReturnCode rc a b → IsWith ss b c
+      → IsOutcome (record { rc = rc; settings = ss }) a c
 
 -- [KEY name]
 pub data IsKey : Option Name → Tokens → Tokens → Type 0 where
@@ -62,7 +67,8 @@ pub data IsKey : Option Name → Tokens → Tokens → Type 0 where
 -- BY name | TAKE number
 pub data IsWho : Who → Tokens → Tokens → Type 0 where
   ByPerson : {n : Name} {a b : Tokens} → IsNamed word.BY n a b → IsWho (who.Person n) a b
-  ByTake : {n : NumberAt} {p : ℕ} {a b c : Tokens} → IsWord word.TAKE p a b → IsNumber n b c → IsWho (who.Agent n.size) a c
+  ByTake : {n : NumberAt} {p : ℕ} {a b c : Tokens} → IsWord word.TAKE p a b → IsNumber n b c
+      → IsWho (who.Agent n.size) a c
 
 -- ---- commands, by what stands behind their first word
 
@@ -70,15 +76,21 @@ pub data IsWho : Who → Tokens → Tokens → Type 0 where
 pub data IsBehind : ℕ → Command → Tokens → Tokens → Type 0 where
   Import : {a : Tokens} → IsBehind word.IMPORT (command.Import []) a a
   Start : {starter : Name} {n : NameAt} {key : Option Name} {ss : List RawSetting} {a b c d e : Tokens}
-      → IsName n a b → IsNamed word.BY starter b c → IsKey key c d → IsWith ss d e → IsBehind word.START (command.Start n.name starter key ss) a e
+      → IsName n a b → IsNamed word.BY starter b c → IsKey key c d → IsWith ss d e
+      → IsBehind word.START (command.Start n.name starter key ss) a e
   Turn : {n : NumberAt} {a b : Tokens} → IsNumber n a b → IsBehind word.TURN (command.Turn n.size) a b
   Drain : {a : Tokens} → IsBehind word.DRAIN command.Drain a a
-  Claim : {item : List ℕ} {person : Name} {a b c : Tokens} → IsItemToken item a b → IsNamed word.BY person b c → IsBehind word.CLAIM (command.Claim item person) a c
-  Release : {item : List ℕ} {person : Name} {a b c : Tokens} → IsItemToken item a b → IsNamed word.BY person b c → IsBehind word.RELEASE (command.Release item person) a c
-  Transfer : {item : List ℕ} {from to : Name} {a b c d : Tokens} → IsItemToken item a b → IsNamed word.BY from b c → IsNamed word.TO to c d → IsBehind word.TRANSFER (command.Transfer item from to) a d
+  Claim : {item : List ℕ} {person : Name} {a b c : Tokens} → IsItemToken item a b → IsNamed word.BY person b c
+      → IsBehind word.CLAIM (command.Claim item person) a c
+  Release : {item : List ℕ} {person : Name} {a b c : Tokens} → IsItemToken item a b → IsNamed word.BY person b c
+      → IsBehind word.RELEASE (command.Release item person) a c
+  Transfer : {item : List ℕ} {from to : Name} {a b c d : Tokens} → IsItemToken item a b → IsNamed word.BY from b c
+      → IsNamed word.TO to c d → IsBehind word.TRANSFER (command.Transfer item from to) a d
   Take : {item : List ℕ} {a b : Tokens} → IsItemToken item a b → IsBehind word.TAKE (command.Take item) a b
-  Done : {item : List ℕ} {by : Who} {o : Outcome} {a b c d : Tokens} → IsItemToken item a b → IsWho by b c → IsOutcome o c d → IsBehind word.DONE (command.Done item by o) a d
-  Force : {item : List ℕ} {o : Outcome} {a b c : Tokens} → IsItemToken item a b → IsOutcome o b c → IsBehind word.FORCE (command.Force item o) a c
+  Done : {item : List ℕ} {by : Who} {o : Outcome} {a b c d : Tokens} → IsItemToken item a b → IsWho by b c
+      → IsOutcome o c d → IsBehind word.DONE (command.Done item by o) a d
+  Force : {item : List ℕ} {o : Outcome} {a b c : Tokens} → IsItemToken item a b → IsOutcome o b c
+      → IsBehind word.FORCE (command.Force item o) a c
   Restart : {item : List ℕ} {a b : Tokens} → IsItemToken item a b → IsBehind word.RESTART (command.Restart item) a b
   Suspend : {n : NumberAt} {a b : Tokens} → IsNumber n a b → IsBehind word.SUSPEND (command.Suspend n.size) a b
   Resume : {n : NumberAt} {a b : Tokens} → IsNumber n a b → IsBehind word.RESUME (command.Resume n.size) a b
@@ -88,8 +100,10 @@ pub data IsBehind : ℕ → Command → Tokens → Tokens → Type 0 where
   Checkpoint : {a : Tokens} → IsBehind word.CHECKPOINT command.Checkpoint a a
   Show : {n : NumberAt} {a b : Tokens} → IsNumber n a b → IsBehind word.SHOW (command.Ask (query.Show n.size)) a b
   Output : {n : NumberAt} {a b : Tokens} → IsNumber n a b → IsBehind word.OUTPUT (command.Ask (query.Output n.size)) a b
-  Input : {item : List ℕ} {a b : Tokens} → IsItemToken item a b → IsBehind word.INPUT (command.Ask (query.Input item)) a b
-  Worklist : {n : NameAt} {a b : Tokens} → IsName n a b → IsBehind word.WORKLIST (command.Ask (query.Worklist n.name)) a b
+  Input : {item : List ℕ} {a b : Tokens} → IsItemToken item a b
+      → IsBehind word.INPUT (command.Ask (query.Input item)) a b
+  Worklist : {n : NameAt} {a b : Tokens} → IsName n a b
+      → IsBehind word.WORKLIST (command.Ask (query.Worklist n.name)) a b
   Queue : {n : NumberAt} {a b : Tokens} → IsNumber n a b → IsBehind word.QUEUE (command.Ask (query.Queue n.size)) a b
   Audit : {n : NumberAt} {a b : Tokens} → IsNumber n a b → IsBehind word.AUDIT (command.Ask (query.Audit n.size)) a b
   Templates : {a : Tokens} → IsBehind word.TEMPLATES (command.Ask query.Templates) a a
@@ -107,4 +121,5 @@ pub data IsTarget : Target → Tokens → Tokens → Type 0 where
 
 -- the whole row says this completion: DONE target result
 pub data IsCompletion : Completion → Tokens → Type 0 where
-  DoneTarget : {t : Target} {o : Outcome} {p : ℕ} {a b c : Tokens} → IsWord word.DONE p a b → IsTarget t b c → IsOutcome o c [] → IsCompletion (record { target = t; outcome = o }) a
+  DoneTarget : {t : Target} {o : Outcome} {p : ℕ} {a b c : Tokens} → IsWord word.DONE p a b → IsTarget t b c
+      → IsOutcome o c [] → IsCompletion (record { target = t; outcome = o }) a

@@ -1,6 +1,7 @@
 -- What a line says by its bytes and its tokens: nothing, something, or that it can't be read. Places are
 -- counted from 1.
-use Rattle.std.specs.Prelude.{◌≡◌, ◌⊎◌, ℕ, ◌+◌, ◌-◌, ◌^◌, min, take, slice_get, ◌<◌, ◌≤◌, ◌==◌, nat_le, Bool, not, ◌||◌, ◌&&◌, Option, Some, None, Result, Ok, Err, List, [], length, position}
+use Rattle.std.specs.Prelude.{◌≡◌, ◌⊎◌, ℕ, ◌+◌, ◌-◌, ◌^◌, min, take, slice_get, ◌<◌, ◌≤◌, ◌==◌, nat_le, Bool, not, ◌||◌}
+use Rattle.std.specs.Prelude.{◌&&◌, Option, Some, None, Result, Ok, Err, List, [], length, position}
 use Rattle.std.specs.Option.{option_map_or}
 use Rattle.flow_model.specs.declared.commands.Command.{Command}
 use Rattle.flow_model.specs.declared.commands.Completion.{Completion}
@@ -56,12 +57,14 @@ spoken_in line tokens = take (last_end tokens) line
 -- the tokens of the line say this command, if there is one
 abbrev pub SaysCommand : List ℕ → Option Command → Type 0
 SaysCommand line None = Unit {0}
-SaysCommand line (Some command) = (tokens : List Token) × AreLineTokens line tokens × IsCommand command (spell line tokens)
+SaysCommand line (Some command) = (tokens : List Token) × AreLineTokens line tokens
+    × IsCommand command (spell line tokens)
 
 -- the tokens of the line say this completion, if there is one
 abbrev pub SaysCompletion : List ℕ → Option Completion → Type 0
 SaysCompletion line None = Unit {0}
-SaysCompletion line (Some completion) = (tokens : List Token) × AreLineTokens line tokens × IsCompletion completion (spell line tokens)
+SaysCompletion line (Some completion) = (tokens : List Token) × AreLineTokens line tokens
+    × IsCompletion completion (spell line tokens)
 
 -- the line says no other command, and none where this is none
 abbrev pub IsOnlyCommand : List ℕ → Option Command → Type 0
@@ -84,12 +87,14 @@ NamesToken line NoMemory = Unit {0}
 abbrev pub IsRefusal : List ℕ → CommandFault → Type 0
 IsRefusal line e = HasNoTokens line e ⊎ NamesToken line e
 
--- for its tokens: the place, counted from 1, is that of the first of them with which they begin nothing that is said so,
+-- for its tokens: the place, counted from 1, is that of the first of them with which they begin nothing that is said
+-- so,
 -- or the place behind the last, where they begin something and don't say it
 abbrev pub RefusesToken : (Tokens → Type 0) → List ℕ → CommandFault → Type 0
 RefusesToken says line (Word place) =
     (tokens : List Token) × AreLineTokens line tokens × (0 < length tokens)
-    × ((rest : Tokens) × IsFirstFault says (spell line tokens) rest × (place ≡ min (place_in rest (reading (spoken_in line tokens) tokens).end + 1) (2 ^ 32 - 1)))
+    × ((rest : Tokens) × IsFirstFault says (spell line tokens) rest
+    × (place ≡ min (place_in rest (reading (spoken_in line tokens) tokens).end + 1) (2 ^ 32 - 1)))
 RefusesToken says line NoMemory = Unit {0}
 
 -- a line is refused for its bytes, or for the first of its tokens that can't stand there

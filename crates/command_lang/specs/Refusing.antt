@@ -14,11 +14,13 @@ is_query_word word = nat_le keyword.SHOW word && nat_le word keyword.TEMPLATES
 
 -- this, or a command on a root, a queue or the clock
 abbrev pub is_number_word : ℕ → Bool
-is_number_word word = word == keyword.TURN || nat_le keyword.SUSPEND word && nat_le word keyword.CLOCK || is_query_word word
+is_number_word word = word == keyword.TURN || nat_le keyword.SUSPEND word
+    && nat_le word keyword.CLOCK || is_query_word word
 
 -- this, or a command on an item
 abbrev pub is_item_word : ℕ → Bool
-is_item_word word = nat_le keyword.CLAIM word && nat_le word keyword.DONE || nat_le keyword.FORCE word && nat_le word keyword.RESTART || is_number_word word
+is_item_word word = nat_le keyword.CLAIM word && nat_le word keyword.DONE || nat_le keyword.FORCE word
+    && nat_le word keyword.RESTART || is_number_word word
 
 -- any command
 abbrev pub is_first_word : ℕ → Bool

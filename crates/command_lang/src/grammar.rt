@@ -4,8 +4,10 @@ ghost use Rattle.fdl_parser.specs.Faults.{Names};
 ghost use Rattle.flow_table.specs.declared.keyword.TheConstants as first;
 ghost use Rattle.fdl_parser.specs.Stops.{Reads, Anything, AtEnd, IsTaken, Stops};
 ghost use Rattle.fdl_parser.specs.Tokens.{StaysWithin, first_kind};
-ghost use Rattle.command_lang.specs.Grammar.{IsNamed, IsValue, IsSetting, IsWith, IsReturnCode, IsOutcome, IsKey, IsWho, IsBehind, IsCommand, IsTarget, IsCompletion};
-ghost use Rattle.command_lang.specs.Refusing.{is_query_word, is_number_word, is_item_word, is_first_word, NoWord, SomeCommand, SomeCompletion, Refuses};
+ghost use Rattle.command_lang.specs.Grammar.{IsNamed, IsValue, IsSetting, IsWith, IsReturnCode, IsOutcome, IsKey};
+ghost use Rattle.command_lang.specs.Grammar.{IsWho, IsBehind, IsCommand, IsTarget, IsCompletion};
+ghost use Rattle.command_lang.specs.Refusing.{is_query_word, is_number_word, is_item_word, is_first_word, NoWord};
+ghost use Rattle.command_lang.specs.Refusing.{SomeCommand, SomeCompletion, Refuses};
 
 use fdl_lexer::What;
 use fdl_parser::{Cursor, SyntaxFault, mark};
@@ -367,7 +369,8 @@ fn first_of(what: What) -> Option<u8>
 fn first_word(cursor: &Cursor<'_>) -> Option<u8>
     ensures word { IfSome result (λ word. first_kind cursor.now.left ≡ Some (What.Word word)) }
     ensures begins { IfSome result (λ word. is_first_word word ≡ true) }
-    ensures other { (word : ℕ) → first_kind cursor.now.left ≡ Some (What.Word word) → is_first_word word ≡ true → result ≡ Some word }
+    ensures other { (word : ℕ) → first_kind cursor.now.left ≡ Some (What.Word word) → is_first_word word ≡ true
+        → result ≡ Some word }
 {
     match cursor.peek() {
         Some(what) => first_of(what),

@@ -1,7 +1,11 @@
 //! From the bytes of a line to what it says. Places are counted from 1.
-ghost use Rattle.std.specs.Prelude.{◌≡◌, ◌≤◌, ◌<◌, ◌+◌, ◌-◌, ◌^◌, ℕ, [], Some, None, Err, length, min, IfOk, IfErr, IfSome};
+ghost use Rattle.std.specs.Prelude.{◌≡◌, ◌≤◌, ◌<◌, ◌+◌, ◌-◌, ◌^◌, ℕ, [], Some, None, Err, length, min, IfOk, IfErr};
+ghost use Rattle.std.specs.Prelude.{IfSome};
 ghost use Rattle.command_lang.specs.declared.reading.CommandFault.TheVariants.{Word};
-ghost use Rattle.command_lang.specs.Reading.{may_stand as may_stand_test, wrong_byte as wrong_byte_of, spoken_in, AreLineTokens, HasNoTokens, IsReading, SaysCommand, SaysCompletion, IsOnlyCommand, IsOnlyCompletion, IsRefusal, RefusesFirst, RefusesNoCommand, RefusesNoCompletion};
+ghost use Rattle.command_lang.specs.Reading.{may_stand as may_stand_test, wrong_byte as wrong_byte_of, spoken_in};
+ghost use Rattle.command_lang.specs.Reading.{AreLineTokens, HasNoTokens, IsReading, SaysCommand, SaysCompletion};
+ghost use Rattle.command_lang.specs.Reading.{IsOnlyCommand, IsOnlyCompletion, IsRefusal, RefusesFirst};
+ghost use Rattle.command_lang.specs.Reading.{RefusesNoCommand, RefusesNoCompletion};
 ghost use Rattle.command_lang.specs.Refusing.{SomeCommand, SomeCompletion};
 ghost use Rattle.command_lang.specs.declared.reading.CommandFault.TheVariants.{NoMemory};
 

@@ -1,5 +1,6 @@
 -- Why a written condition can't be resolved: the first place that stands against it, in the order of its text.
-use Rattle.std.specs.Prelude.{ℕ, Bool, true, false, if◌then◌else◌, ◌==◌, Option, Some, None, List, [], ◌∷◌, length, map, slice_get}
+use Rattle.std.specs.Prelude.{ℕ, Bool, true, false, if◌then◌else◌, ◌==◌, Option, Some, None, List, [], ◌∷◌, length, map}
+use Rattle.std.specs.Prelude.{slice_get}
 use Rattle.std.specs.List.{list_any}
 use Rattle.std.specs.Option.{option_or, option_map}
 use Rattle.containers.specs.Named.{leaf_place}
@@ -47,7 +48,8 @@ abbrev pub unknown_by : List Leaf → Cond-F (Option ℕ) → Option ℕ
 unknown_by leaves (Cond-F.Or members) = first_found members
 unknown_by leaves (Cond-F.And members) = first_found members
 unknown_by leaves (Cond-F.Not member) = member.value
-unknown_by leaves (Cond-F.Compare left operator right) = option_or (unknown_side leaves left) (unknown_side leaves right)
+unknown_by leaves (Cond-F.Compare left operator right) = option_or (unknown_side leaves left)
+    (unknown_side leaves right)
 
 -- the place of the first leaf of a condition that isn't one of these
 abbrev pub unknown_leaf : List Leaf → Cond → Option ℕ
@@ -74,7 +76,8 @@ is_text_term leaves term = is_text_operand leaves term.operand
 
 -- the kind of a sum; none where a text stands beside another term
 abbrev pub sum_kind : List Leaf → List TermTree → Option Kind
-sum_kind leaves terms = if list_any (is_text_term leaves) terms then (if length terms == 1 then Some Str else None) else Some Long
+sum_kind leaves terms = if list_any (is_text_term leaves) terms then
+    (if length terms == 1 then Some Str else None) else Some Long
 
 -- the kind of a side
 abbrev pub side_kind : List Leaf → Side → Option Kind
@@ -106,7 +109,8 @@ abbrev pub mismatch_by : List Leaf → Cond-F (Option ℕ) → Option ℕ
 mismatch_by leaves (Cond-F.Or members) = first_found members
 mismatch_by leaves (Cond-F.And members) = first_found members
 mismatch_by leaves (Cond-F.Not member) = member.value
-mismatch_by leaves (Cond-F.Compare left operator right) = if same_kind (side_kind leaves left) (side_kind leaves right) then None else Some (side_place left)
+mismatch_by leaves (Cond-F.Compare left operator right) = if same_kind (side_kind leaves left)
+    (side_kind leaves right) then None else Some (side_place left)
 
 -- the place of the first comparison whose sides don't have one kind
 abbrev pub mismatch : List Leaf → Cond → Option ℕ

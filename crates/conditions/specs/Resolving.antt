@@ -23,7 +23,8 @@ use Rattle.flow_model.specs.declared.trees.Side.TheVariants as side
 use Rattle.flow_model.specs.declared.trees.TermTree.{TermTree}
 use Rattle.conditions.specs.declared.resolving.TypeFault.{TypeFault}
 use Rattle.conditions.specs.declared.resolving.TypeFault.TheVariants.{NoMemory}
-use Rattle.conditions.specs.Faults.{first_found, is_text_operand, side_kind, unknown_term, unknown_side, unsized_side, unknown_leaf, mismatch, unsized_term, unsized_number, fault_of}
+use Rattle.conditions.specs.Faults.{first_found, is_text_operand, side_kind, unknown_term, unknown_side, unsized_side}
+use Rattle.conditions.specs.Faults.{unknown_leaf, mismatch, unsized_term, unsized_number, fault_of}
 
 -- a leaf is its place, a number its value
 abbrev pub resolved_operand : List Leaf → OperandTree → Option Operand
@@ -31,7 +32,8 @@ resolved_operand leaves (operand.Leaf leaf) = option_map (λ place. resolved.Lea
 resolved_operand leaves (operand.Number number) = option_map (λ value. resolved.Number value) (written_number number)
 
 abbrev pub resolved_term : List Leaf → TermTree → Option Term
-resolved_term leaves term = option_map (λ made. record { minus = term.minus; operand = made }) (resolved_operand leaves term.operand)
+resolved_term leaves term = option_map (λ made. record { minus = term.minus; operand = made })
+    (resolved_operand leaves term.operand)
 
 -- a sum, term by term
 abbrev pub IsSumOf : List Leaf → Side → List Term → Type 0
@@ -40,7 +42,8 @@ IsSumOf leaves (side.Sum written) terms = map (resolved_term leaves) written ≡
 
 -- a leaf alone, where it holds a text
 abbrev pub text_operand : List Leaf → OperandTree → Option TextSide
-text_operand leaves (operand.Leaf leaf) = if is_text_operand leaves (operand.Leaf leaf) then option_map (λ place. text.Leaf place) (leaf_place leaves leaf.steps) else None
+text_operand leaves (operand.Leaf leaf) = if is_text_operand leaves (operand.Leaf leaf) then option_map
+    (λ place. text.Leaf place) (leaf_place leaves leaf.steps) else None
 text_operand leaves (operand.Number number) = None
 
 -- a text, as it is written or as a leaf holds it
@@ -53,16 +56,24 @@ resolved_text leaves (side.Sum (term ∷ next ∷ terms)) = None
 mutual
   -- a condition with places of these leaves, member by member
   pub data IsResolved (leaves : List Leaf) : Cond → Expr → Type 0 where
-    EitherOf : {members : List Cond} {made : List Expr} → AreResolved leaves members made → IsResolved leaves (cond.Or members) (expr.Or made)
-    BothOf : {members : List Cond} {made : List Expr} → AreResolved leaves members made → IsResolved leaves (cond.And members) (expr.And made)
-    NotOf : {member : Box Cond Global} {made : Box Expr Global} → IsResolved leaves member.value made.value → IsResolved leaves (cond.Not member) (expr.Not made)
-    TextsOf : {left right : Side} {operator : Operator} {first second : TextSide} → resolved_text leaves left ≡ Some first → resolved_text leaves right ≡ Some second → IsResolved leaves (cond.Compare left operator right) (expr.Texts operator first second)
-    NumbersOf : {left right : Side} {operator : Operator} {first second : List Term} → side_kind leaves left ≡ Some Long → side_kind leaves right ≡ Some Long → IsSumOf leaves left first → IsSumOf leaves right second → IsResolved leaves (cond.Compare left operator right) (expr.Whole operator first second)
+    EitherOf : {members : List Cond} {made : List Expr} → AreResolved leaves members made
+        → IsResolved leaves (cond.Or members) (expr.Or made)
+    BothOf : {members : List Cond} {made : List Expr} → AreResolved leaves members made
+        → IsResolved leaves (cond.And members) (expr.And made)
+    NotOf : {member : Box Cond Global} {made : Box Expr Global} → IsResolved leaves member.value made.value
+        → IsResolved leaves (cond.Not member) (expr.Not made)
+    TextsOf : {left right : Side} {operator : Operator} {first second : TextSide}
+        → resolved_text leaves left ≡ Some first → resolved_text leaves right ≡ Some second
+        → IsResolved leaves (cond.Compare left operator right) (expr.Texts operator first second)
+    NumbersOf : {left right : Side} {operator : Operator} {first second : List Term} → side_kind leaves left ≡ Some Long
+        → side_kind leaves right ≡ Some Long → IsSumOf leaves left first → IsSumOf leaves right second
+        → IsResolved leaves (cond.Compare left operator right) (expr.Whole operator first second)
 
   -- each member, in order
   pub data AreResolved (leaves : List Leaf) : List Cond → List Expr → Type 0 where
     NoMembers : AreResolved leaves [] []
-    OneMember : {member : Cond} {members : List Cond} {one : Expr} {made : List Expr} → IsResolved leaves member one → AreResolved leaves members made → AreResolved leaves (member ∷ members) (one ∷ made)
+    OneMember : {member : Cond} {members : List Cond} {one : Expr} {made : List Expr} → IsResolved leaves member one
+        → AreResolved leaves members made → AreResolved leaves (member ∷ members) (one ∷ made)
 
 -- nothing stands against a condition
 pub record IsClear (leaves : List Leaf) (written : Cond) : Type 0 where

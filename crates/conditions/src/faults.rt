@@ -1,7 +1,11 @@
 //! Why a written condition can't be resolved, and how large it is.
 ghost use Rattle.std.specs.Prelude.{◌≡◌, ◌<◌, ◌+◌, ◌-◌, ◌^◌, if◌then◌else◌, Option, Some, None, length, map, sum_by};
 ghost use Rattle.std.specs.List.{list_any};
-ghost use Rattle.conditions.specs.Faults.{first_found, unknown_term, unknown_side, unknown_leaf, kind_at, is_text_term as holds_text, side_kind as kind_of, sum_kind as kind_of_sum, same_kind as alike, operand_place as token_of, side_place as place_of, mismatch, unsized_term as unsized_in, unsized_side as unsized_among, unsized_number};
+ghost use Rattle.conditions.specs.Faults.{first_found, unknown_term, unknown_side, unknown_leaf, kind_at};
+ghost use Rattle.conditions.specs.Faults.{is_text_term as holds_text, side_kind as kind_of, sum_kind as kind_of_sum};
+ghost use Rattle.conditions.specs.Faults.{same_kind as alike, operand_place as token_of, side_place as place_of};
+ghost use Rattle.conditions.specs.Faults.{mismatch, unsized_term as unsized_in, unsized_side as unsized_among};
+ghost use Rattle.conditions.specs.Faults.{unsized_number};
 ghost use Rattle.conditions.specs.Sizes.{told, side_operands as count_of, operands_of, nodes_of};
 ghost use Rattle.containers.specs.Named.{leaf_place};
 
@@ -17,7 +21,8 @@ pub struct Size {
 
 /// The kind of the leaf that is written so, if there is one.
 fn leaf_kind(leaves: &Leaves, leaf: &LeafAt) -> Option<Kind>
-    ensures { length leaves.now.leaves < 2 ^ 32 → result ≡ kind_at leaves.now.leaves (leaf_place leaves.now.leaves leaf.now.steps) }
+    ensures { length leaves.now.leaves < 2 ^ 32 → result
+        ≡ kind_at leaves.now.leaves (leaf_place leaves.now.leaves leaf.now.steps) }
 {
     let place = find_leaf(leaves, leaf)?;
     leaves.kind(place as usize)
@@ -38,7 +43,8 @@ fn unknown_in_term(term: &TermTree, leaves: &Leaves) -> Option<u32>
 
 /// The place of the first leaf of a sum that isn't there.
 fn unknown_in_sum(terms: &[TermTree], leaves: &Leaves) -> Option<u32>
-    ensures { length leaves.now.leaves < 2 ^ 32 → result ≡ first_found (map (unknown_term leaves.now.leaves) terms.now) }
+    ensures { length leaves.now.leaves < 2 ^ 32 → result
+        ≡ first_found (map (unknown_term leaves.now.leaves) terms.now) }
 {
     for term in terms {
         if let Some(place) = unknown_in_term(term, leaves) {
@@ -61,7 +67,8 @@ fn unknown_in_side(side: &Side, leaves: &Leaves) -> Option<u32>
 /// The place of the first leaf of some conditions that isn't one of these.
 #[cycle(unknown)]
 fn first_unknown_among(members: &[Cond], leaves: &Leaves) -> Option<u32>
-    ensures { length leaves.now.leaves < 2 ^ 32 → result ≡ first_found (map (unknown_leaf leaves.now.leaves) members.now) }
+    ensures { length leaves.now.leaves < 2 ^ 32 → result
+        ≡ first_found (map (unknown_leaf leaves.now.leaves) members.now) }
 {
     for member in members {
         if let Some(place) = first_unknown(member, leaves) {
@@ -171,7 +178,9 @@ fn side_place(side: &Side) -> u32
 
 /// The place of a comparison, where its sides don't have one kind.
 fn mismatch_between(left: &Side, right: &Side, leaves: &Leaves) -> Option<u32>
-    ensures { length leaves.now.leaves < 2 ^ 32 → result ≡ (if alike (kind_of leaves.now.leaves left.now) (kind_of leaves.now.leaves right.now) then None else Some (place_of left.now)) }
+    ensures { length leaves.now.leaves < 2 ^ 32 → result
+        ≡ (if alike (kind_of leaves.now.leaves left.now) (kind_of leaves.now.leaves right.now) then None else Some
+        (place_of left.now)) }
 {
     if is_same_kind(side_kind(left, leaves), side_kind(right, leaves)) {
         None

@@ -1,6 +1,7 @@
 //! From a written condition to one whose leaves are places.
 ghost use Rattle.std.specs.Prelude.{◌≡◌, ◌<◌, ◌^◌, Some, None, IfOk, MatchResult, length};
-ghost use Rattle.conditions.specs.Resolving.{resolved_term, resolved_text, text_operand, AreKnown, IsSumMade, IsNumbers, IsSideMade, IsClear, AreClear, IsMade, AreMade, IsResolution};
+ghost use Rattle.conditions.specs.Resolving.{resolved_term, resolved_text, text_operand, AreKnown, IsSumMade};
+ghost use Rattle.conditions.specs.Resolving.{IsNumbers, IsSideMade, IsClear, AreClear, IsMade, AreMade, IsResolution};
 ghost use Rattle.conditions.specs.declared.resolving.TypeFault.TheVariants.{NoMemory};
 ghost use Rattle.flow_model.specs.declared.trees.Cond.TheVariants.{Compare};
 
@@ -61,7 +62,8 @@ fn term_of(term: &TermTree, leaves: &Leaves) -> Result<Term, TypeFault>
 
 /// The terms of a sum.
 fn sum_of(alloc: Global, written: &[TermTree], leaves: &Leaves) -> Result<List<Term>, TypeFault>
-    ensures { length leaves.now.leaves < 2 ^ 32 → AreKnown leaves.now.leaves written.now → IsSumMade leaves.now.leaves written.now result }
+    ensures { length leaves.now.leaves < 2 ^ 32 → AreKnown leaves.now.leaves written.now
+        → IsSumMade leaves.now.leaves written.now result }
 {
     let mut terms = List::new(alloc);
     for term in written {
@@ -72,7 +74,8 @@ fn sum_of(alloc: Global, written: &[TermTree], leaves: &Leaves) -> Result<List<T
 
 /// The terms of a side of numbers; none of a text.
 fn side_sum(alloc: Global, side: &Side, leaves: &Leaves) -> Result<List<Term>, TypeFault>
-    ensures { length leaves.now.leaves < 2 ^ 32 → IsNumbers leaves.now.leaves side.now → IsSideMade leaves.now.leaves side.now result }
+    ensures { length leaves.now.leaves < 2 ^ 32 → IsNumbers leaves.now.leaves side.now
+        → IsSideMade leaves.now.leaves side.now result }
 {
     match side {
         Side::Text(_, _) => Ok(List::new(alloc)),
@@ -98,7 +101,8 @@ fn text_leaf(term: &TermTree, leaves: &Leaves) -> Option<TextSide>
 
 /// The text, or the leaf, of a side of texts.
 fn text_of(alloc: Global, side: &Side, leaves: &Leaves) -> Result<Option<TextSide>, AllocError>
-    ensures { length leaves.now.leaves < 2 ^ 32 → IfOk result (λ made. made ≡ resolved_text leaves.now.leaves side.now) }
+    ensures { length leaves.now.leaves < 2 ^ 32 → IfOk result
+        (λ made. made ≡ resolved_text leaves.now.leaves side.now) }
 {
     match side {
         Side::Text(text, _) => Ok(Some(TextSide::Text(text.copy(alloc)?))),
@@ -117,7 +121,8 @@ fn numbers(
     right: &Side,
     leaves: &Leaves,
 ) -> Result<Expr, TypeFault>
-    ensures { length leaves.now.leaves < 2 ^ 32 → IsNumbers leaves.now.leaves left.now → IsNumbers leaves.now.leaves right.now
+    ensures { length leaves.now.leaves < 2 ^ 32 → IsNumbers leaves.now.leaves left.now
+        → IsNumbers leaves.now.leaves right.now
         → IsMade leaves.now.leaves (Compare left.now operator right.now) result }
 {
     let first = side_sum(alloc, left, leaves)?;
@@ -158,7 +163,8 @@ fn boxed(alloc: Global, expr: Expr) -> Result<Box<Expr>, TypeFault>
 /// The members of a condition with places for leaves, where nothing stands against them.
 #[cycle(expression)]
 fn members_of(alloc: Global, members: &[Cond], leaves: &Leaves) -> Result<List<Expr>, TypeFault>
-    ensures { length leaves.now.leaves < 2 ^ 32 → AreClear leaves.now.leaves members.now → AreMade leaves.now.leaves members.now result }
+    ensures { length leaves.now.leaves < 2 ^ 32 → AreClear leaves.now.leaves members.now
+        → AreMade leaves.now.leaves members.now result }
 {
     let mut resolved = List::new(alloc);
     for member in members {
@@ -170,7 +176,8 @@ fn members_of(alloc: Global, members: &[Cond], leaves: &Leaves) -> Result<List<E
 /// The condition with places for leaves, where nothing stands against it.
 #[cycle(expression)]
 fn expr_of(alloc: Global, cond: &Cond, leaves: &Leaves) -> Result<Expr, TypeFault>
-    ensures { length leaves.now.leaves < 2 ^ 32 → IsClear leaves.now.leaves cond.now → IsMade leaves.now.leaves cond.now result }
+    ensures { length leaves.now.leaves < 2 ^ 32 → IsClear leaves.now.leaves cond.now
+        → IsMade leaves.now.leaves cond.now result }
 {
     match cond {
         Cond::Or(members) => Ok(Expr::Or(members_of(alloc, members.as_slice(), leaves)?)),

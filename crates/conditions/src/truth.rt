@@ -1,6 +1,8 @@
 //! The value of a condition on a container.
-ghost use Rattle.std.specs.Prelude.{◌≡◌, ◌≤◌, ◌-◌, ◌*◌, ◌^◌, ◌+ℤ◌, ◌≤ℤ◌, pos, [], ◌∷◌, length, slice_get, Option, List, ℕ, true, false};
-ghost use Rattle.flow_model.specs.Conditions.{truth, holds as is_held, satisfies as is_satisfied, side_text, sum_from, sum_of, operand_value as number_of};
+ghost use Rattle.std.specs.Prelude.{◌≡◌, ◌≤◌, ◌-◌, ◌*◌, ◌^◌, ◌+ℤ◌, ◌≤ℤ◌, pos, [], ◌∷◌, length, slice_get, Option, List};
+ghost use Rattle.std.specs.Prelude.{ℕ, true, false};
+ghost use Rattle.flow_model.specs.Conditions.{truth, holds as is_held, satisfies as is_satisfied, side_text, sum_from};
+ghost use Rattle.flow_model.specs.Conditions.{sum_of, operand_value as number_of};
 
 use flow_model::{Container, Expr, Operand, Operator, Term, TextSide, Value};
 use std::cmp::Ordering;

@@ -1,5 +1,6 @@
 -- Settings: what a line writes for the leaves of a new container.
-use Rattle.std.specs.Prelude.{ℕ, zero, suc, ◌^◌, nat_lt, nat_le, ℤ, pos, negsuc, if◌then◌else◌, Result, Ok, Err, Option, Some, None, option_map, List, [], ◌∷◌, ◌++◌, slice_get}
+use Rattle.std.specs.Prelude.{ℕ, zero, suc, ◌^◌, nat_lt, nat_le, ℤ, pos, negsuc, if◌then◌else◌, Result, Ok, Err, Option}
+use Rattle.std.specs.Prelude.{Some, None, option_map, List, [], ◌∷◌, ◌++◌, slice_get}
 use Rattle.containers.specs.Named.{leaf_place}
 use Rattle.flow_model.specs.Containers.{put}
 use Rattle.flow_model.specs.declared.commands.RawSetting.{RawSetting}

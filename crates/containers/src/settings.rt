@@ -1,7 +1,8 @@
 //! Settings: what is written for the leaves of a new container.
 ghost use Rattle.std.specs.Prelude.{◌≡◌, IfOk, slice_get, option_copied};
 ghost use Rattle.containers.specs.Named.{leaf_place};
-ghost use Rattle.containers.specs.Settings.{filled, written_number, number_place as first_token, value_place as value_token, value_for, setting_by, outcome_by};
+ghost use Rattle.containers.specs.Settings.{filled, written_number, number_place as first_token};
+ghost use Rattle.containers.specs.Settings.{value_place as value_token, value_for, setting_by, outcome_by};
 
 use crate::fill::set_if_there;
 use crate::find::find_leaf;

@@ -1,5 +1,6 @@
 -- A state whose roots are right, and how the runs of its roots go on with a transaction.
-use Rattle.std.specs.Prelude.{◌≡◌, ℕ, zero, suc, ◌==◌, ◌≤◌, Bool, true, false, if◌then◌else◌, Option, Some, None, option_and_then, List, [], ◌∷◌, ◌++◌, length}
+use Rattle.std.specs.Prelude.{◌≡◌, ℕ, zero, suc, ◌==◌, ◌≤◌, Bool, true, false, if◌then◌else◌, Option, Some, None}
+use Rattle.std.specs.Prelude.{option_and_then, List, [], ◌∷◌, ◌++◌, length}
 use Rattle.std.specs.List.{filter, list_any}
 use Rattle.containers.specs.Settings.{filled}
 use Rattle.flow_core.specs.Allowing.{IsFree, CountsRoot, IsAllowed}
@@ -20,7 +21,9 @@ use Rattle.flow_model.specs.declared.instances.Path.{Path}
 use Rattle.flow_model.specs.declared.transactions.Numbered.{Numbered}
 use Rattle.flow_model.specs.declared.transactions.Setting.{Setting}
 use Rattle.flow_model.specs.declared.transactions.Transaction.{Transaction}
-use Rattle.flow_model.specs.declared.transactions.Transaction.TheVariants.{Import, Start, Turn, Claim, Release, Transfer, Take, Done, Force, Restart, Suspend, Resume, Terminate, Delete, Clock}
+use Rattle.flow_model.specs.declared.transactions.Transaction.TheVariants.{Import, Start, Turn, Claim, Release}
+use Rattle.flow_model.specs.declared.transactions.Transaction.TheVariants.{Transfer, Take, Done, Force, Restart}
+use Rattle.flow_model.specs.declared.transactions.Transaction.TheVariants.{Suspend, Resume, Terminate, Delete, Clock}
 use Rattle.navigator.specs.Items.{Entry}
 use Rattle.navigator.specs.Showing.{note_in}
 use Rattle.navigator.specs.declared.instance.Instance.{Instance}
@@ -80,7 +83,8 @@ with_turn (Some note) h = Turned note ∷ h
 -- a run goes on with a completion of an item, where it is there
 abbrev pub with_output : Path → List Setting → Option Entry → List Event → List Event
 with_output item settings None h = h
-with_output item settings (Some e) h = Completed (record { item = item; output = filled settings (fresh e.activity.output) }) ∷ h
+with_output item settings (Some e) h = Completed
+    (record { item = item; output = filled settings (fresh e.activity.output) }) ∷ h
 
 -- a message by the places of its activities, where its root is live
 abbrev pub note_now : Core → Message → Option Note
@@ -152,7 +156,8 @@ completed_by root (n ∷ ns) = completes_in root n.transaction ++ completed_by r
 abbrev pub has_start : ℕ → List Numbered → Bool
 has_start root live = list_any (λ n. is_root root (started n.transaction)) live
 
--- the live transactions tell of a live root: they start it, and the completions of its run are exactly those that they tell, item by item and with these outputs
+-- the live transactions tell of a live root: they start it, and the completions of its run are exactly those that they
+-- tell, item by item and with these outputs
 pub record IsTold (c : Core) (root : ℕ) (h : List Event) : Type 0 where
   pub began : has_start root c.live.items ≡ true
   pub items : completed_items h ≡ completed_by root c.live.items
@@ -173,7 +178,8 @@ known_now c root = by_facts (length (accepted c root)) (accepted c root)
 
 -- ---- states that transactions come to
 
--- a state is right: its roots are after these runs, which complete what the live transactions do, free numbers are unused, there is a queue, the library is sound, and names lead to the newest of it
+-- a state is right: its roots are after these runs, which complete what the live transactions do, free numbers are
+-- unused, there is a queue, the library is sound, and names lead to the newest of it
 pub record IsRightState (c : Core) (runs : ℕ → List Event) : Type 0 where
   pub are : AreRight c runs
   pub told : AreTold c runs

@@ -20,7 +20,8 @@ signal s None b v = None
 -- the SIGNAL of a connector whose source has ended so
 abbrev pub signal_of : Graph → Path → SourceEnd → Control → Option Message
 signal_of g s e c =
-    signal s (slice_get (out-Graph g).activities c.from) (slice_get (out-Graph g).activities c.to) (connector_value (out-Graph g).controls c e)
+    signal s (slice_get (out-Graph g).activities c.from) (slice_get (out-Graph g).activities c.to)
+    (connector_value (out-Graph g).controls c e)
 
 -- the SIGNALs of an activity that has ended so, in text order
 abbrev pub signals : Graph → Path → ℕ → SourceEnd → List Message

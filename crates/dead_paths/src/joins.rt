@@ -110,7 +110,8 @@ impl Tally {
 
     /// One more value is known.
     pub fn take(&mut self, value: bool)
-        ensures { (xs ys : List (Option Bool)) → Counts self.old (xs ++ None ∷ ys) → Counts self.new (xs ++ Some value ∷ ys) }
+        ensures { (xs ys : List (Option Bool)) → Counts self.old (xs ++ None ∷ ys)
+            → Counts self.new (xs ++ Some value ∷ ys) }
     {
         *self = self.with(value);
     }

@@ -1,5 +1,6 @@
 //! Connector values and the signals that tell them.
-ghost use Rattle.std.specs.Prelude.{◌≡◌, ◌==◌, ◌++◌, [], Option, None, Some, slice_get, option_and_then, false, IfOk, OnOk};
+ghost use Rattle.std.specs.Prelude.{◌≡◌, ◌==◌, ◌++◌, [], Option, None, Some, slice_get, option_and_then, false, IfOk};
+ghost use Rattle.std.specs.Prelude.{OnOk};
 ghost use Rattle.std.specs.List.{list_any};
 ghost use Rattle.std.specs.Option.{option_map_or, option_to_list};
 ghost use Rattle.flow_model.specs.Fates.{connector_value as value_of, truth_of, when_true};
@@ -35,7 +36,8 @@ fn is_true_at(controls: &[Control], place: u32, output: &Container) -> bool
 
 /// Whether one of the connectors at these places has a WHEN that is true on this output.
 fn some_when(controls: &[Control], places: &[u32], output: &Container) -> bool
-    ensures { result ≡ list_any (λ p. option_map_or (λ c. when_true c.when output.now) (slice_get controls.now p) false) places.now }
+    ensures { result ≡ list_any (λ p. option_map_or (λ c. when_true c.when output.now) (slice_get controls.now p) false)
+        places.now }
 {
     places
         .iter()
@@ -44,7 +46,8 @@ fn some_when(controls: &[Control], places: &[u32], output: &Container) -> bool
 
 /// The truth of a connector of a finished source.
 fn truth(graph: &Graph, control: &Control, output: &Container) -> bool
-    ensures { IsOutgoing graph.now → result ≡ truth_of (out-Graph graph.now).controls control.now.from control.now.when output.now }
+    ensures { IsOutgoing graph.now → result ≡ truth_of
+        (out-Graph graph.now).controls control.now.from control.now.when output.now }
 {
     match &control.when {
         When::Always => true,
@@ -75,7 +78,9 @@ fn signal(
     control: &Control,
     value: bool,
 ) -> Result<Option<Message>, AllocError>
-    ensures { IfOk result (λ m. m ≡ signal_between scope.now (slice_get (out-Graph graph.now).activities control.now.from) (slice_get (out-Graph graph.now).activities control.now.to) (Some value)) }
+    ensures { IfOk result (λ m. m ≡ signal_between scope.now
+        (slice_get (out-Graph graph.now).activities control.now.from)
+        (slice_get (out-Graph graph.now).activities control.now.to) (Some value)) }
 {
     let activities = graph.activities.as_slice();
     let Some(from) = activities.get(control.from as usize) else {
@@ -116,7 +121,8 @@ fn signal_at(
     place: u32,
     end: &SourceEnd,
 ) -> Result<Option<Message>, AllocError>
-    ensures { IsOutgoing graph.now → IfOk result (λ m. m ≡ option_and_then (signal_of graph.now scope.now end.now) (slice_get (out-Graph graph.now).controls place)) }
+    ensures { IsOutgoing graph.now → IfOk result (λ m. m
+        ≡ option_and_then (signal_of graph.now scope.now end.now) (slice_get (out-Graph graph.now).controls place)) }
 {
     match graph.controls.as_slice().get(place as usize) {
         None => Ok(None),
@@ -142,7 +148,8 @@ pub fn signals_of(
     activity: u32,
     end: &SourceEnd,
 ) -> Result<List<Message>, AllocError>
-    ensures { IsOutgoing graph.now → IfOk result (λ signals. signals ≡ signals_after graph.now scope.now activity end.now) }
+    ensures { IsOutgoing graph.now → IfOk result (λ signals. signals
+        ≡ signals_after graph.now scope.now activity end.now) }
 {
     let mut signals = List::new(alloc);
     for place in row(graph.wiring.outgoing.as_slice(), activity) {

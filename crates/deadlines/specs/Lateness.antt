@@ -1,5 +1,6 @@
 -- Which of the open items are late, by how many minutes, and who is to be notified of each.
-use Rattle.std.specs.Prelude.{◌≡◌, ℕ, ◌+◌, ◌-◌, ◌<◌, nat_lt, Bool, if◌then◌else◌, Option, Some, None, option_map, option_and_then, List, [], ◌∷◌, map, length, bytes_eq}
+use Rattle.std.specs.Prelude.{◌≡◌, ℕ, ◌+◌, ◌-◌, ◌<◌, nat_lt, Bool, if◌then◌else◌, Option, Some, None, option_map}
+use Rattle.std.specs.Prelude.{option_and_then, List, [], ◌∷◌, map, length, bytes_eq}
 use Rattle.std.specs.Option.{option_or}
 use Rattle.std.specs.List.{filter, filter_map}
 use Rattle.std.specs.List.Sorted.{IsStrictlySortedBy}
@@ -44,7 +45,8 @@ latest (person ∷ people) name = option_or (latest people name) (if bytes_eq pe
 
 -- those whom a library declares, each by the latest declaration of the name
 abbrev pub AreDeclared : Library → People → Type 0
-AreDeclared library people = IsStrictlySortedBy (slice_cmp nat_cmp) (keys_of people) × ((name : List ℕ) → lookup (bytes_eq name) people ≡ latest library.people name)
+AreDeclared library people = IsStrictlySortedBy (slice_cmp nat_cmp) (keys_of people)
+    × ((name : List ℕ) → lookup (bytes_eq name) people ≡ latest library.people name)
 
 -- the person may do the item
 abbrev pub may_do : OpenItem → PersonDef → Bool
@@ -59,7 +61,8 @@ abbrev pub these_or : Name → List Name → List Name
 these_or starter [] = starter ∷ []
 these_or starter (name ∷ names) = name ∷ names
 
--- the person who holds the item; where nobody does, those who may do it; the starter where there is none of them or an agent holds it
+-- the person who holds the item; where nobody does, those who may do it; the starter where there is none of them or an
+-- agent holds it
 abbrev pub notified_by : Hold → List Name → Name → List Name
 notified_by Nobody names starter = these_or starter names
 notified_by (Person holder) names starter = holder ∷ []
@@ -69,7 +72,9 @@ notified_by (Agent take) names starter = starter ∷ []
 
 -- what is said of an open item, if it is late
 abbrev pub late_of : ℕ → People → OpenItem → Option Late
-late_of clock people o = option_map (λ minutes. record { item = o.item; minutes = minutes; notify = notified_by o.hold.now (able people o) o.starter.now }) (minutes_late clock o.since o.program.now.expires)
+late_of clock people o = option_map (λ minutes.
+    record { item = o.item; minutes = minutes; notify = notified_by o.hold.now (able people o) o.starter.now })
+    (minutes_late clock o.since o.program.now.expires)
 
 -- exactly the late ones of the items that are open, in their order
 abbrev pub AreOverdue : Core → List Late → Type 0
@@ -80,4 +85,5 @@ AreOverdue c lates =
 
 -- what is overdue goes by the clock, the live roots and the library of a state alone
 abbrev pub GoesByTheState : Type 0
-GoesByTheState = (c c' : Core) (lates : List Late) → c'.clock ≡ c.clock → c'.live_roots ≡ c.live_roots → c'.store.catalog.library ≡ c.store.catalog.library → AreOverdue c lates → AreOverdue c' lates
+GoesByTheState = (c c' : Core) (lates : List Late) → c'.clock ≡ c.clock → c'.live_roots ≡ c.live_roots
+    → c'.store.catalog.library ≡ c.store.catalog.library → AreOverdue c lates → AreOverdue c' lates

@@ -15,7 +15,8 @@ notified_text name = 32 ∷ [] ++ name_in_quotes name
 
 -- a late item as a line: its path in quotes, the minutes, and who is to be notified
 abbrev pub late_text : Late → List ℕ
-late_text late = 39 ∷ [] ++ spelling late.item ++ codes "' " ++ decimal late.minutes ++ flat_map notified_text late.notify ++ 10 ∷ []
+late_text late = 39 ∷ [] ++ spelling late.item ++ codes "' " ++ decimal late.minutes
+    ++ flat_map notified_text late.notify ++ 10 ∷ []
 
 -- their number, then a line for each
 abbrev pub overdue_lines : List Late → List ℕ

@@ -1,7 +1,8 @@
 //! The late items.
 ghost use Rattle.std.specs.Prelude.{◌≡◌, ◌+◌, [], ◌∷◌, IfOk};
 ghost use Rattle.std.specs.List.{All};
-ghost use Rattle.deadlines.specs.Lateness.{IsNotice, minutes_beyond, minutes_late as late_by, AreDeclared, able, notified_by, late_of, AreOverdue};
+ghost use Rattle.deadlines.specs.Lateness.{IsNotice, minutes_beyond, minutes_late as late_by, AreDeclared, able};
+ghost use Rattle.deadlines.specs.Lateness.{notified_by, late_of, AreOverdue};
 ghost use Rattle.deadlines.specs.Rolls.{roll};
 
 use flow_core::{Core, OpenItem};
@@ -85,7 +86,8 @@ fn notified(
     open_item: &OpenItem<'_>,
     people: &People<'_>,
 ) -> Result<List<Name>, AllocError>
-    ensures { IfOk result (λ names. names ≡ notified_by open_item.now.hold.now (able (roll people.now) open_item.now) open_item.now.starter.now) }
+    ensures { IfOk result (λ names. names ≡ notified_by open_item.now.hold.now
+        (able (roll people.now) open_item.now) open_item.now.starter.now) }
 {
     match open_item.hold {
         Hold::Person(holder) => alone(alloc, holder),

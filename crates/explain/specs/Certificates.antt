@@ -1,8 +1,10 @@
 -- What is known of a certificate that was made, and of what is printed, whatever the process is.
-use Rattle.std.specs.Prelude.{◌≡◌, ◌≤◌, ◌+◌, ◌==◌, if◌then◌else◌, ℕ, Bool, true, false, List, [], ◌∷◌, ◌++◌, length, codes, decimal}
+use Rattle.std.specs.Prelude.{◌≡◌, ◌≤◌, ◌+◌, ◌==◌, if◌then◌else◌, ℕ, Bool, true, false, List, [], ◌∷◌, ◌++◌, length}
+use Rattle.std.specs.Prelude.{codes, decimal}
 use Rattle.std.specs.List.{flat_map}
 use Rattle.flow_model.specs.declared.instances.Fate.{Fate}
-use Rattle.flow_model.specs.declared.instances.Fate.TheVariants.{Waiting, Ready, Running, Finished as FinishedFate, Dead as DeadFate}
+use Rattle.flow_model.specs.declared.instances.Fate.TheVariants.{Waiting, Ready, Running, Finished as FinishedFate}
+use Rattle.flow_model.specs.declared.instances.Fate.TheVariants.{Dead as DeadFate}
 use Rattle.flow_model.specs.declared.instances.Path.{Path}
 use Rattle.certificates.specs.Lines.{line_text}
 use Rattle.certificates.specs.declared.lines.CertLine.{CertLine}
@@ -33,7 +35,8 @@ certificate_printed lines = codes "ok EXPLAIN " ++ decimal (length lines) ++ 10 
 
 -- what is printed where so many of the lines, from the first on, are justified
 abbrev pub verdict_printed : ℕ → ℕ → List ℕ
-verdict_printed good total = if good == total then codes "ok VERIFY " ++ decimal good ++ 10 ∷ [] else codes "no STEP " ++ decimal (good + 1) ++ 10 ∷ []
+verdict_printed good total = if good == total then codes "ok VERIFY " ++ decimal good ++ 10 ∷ [] else codes "no STEP "
+    ++ decimal (good + 1) ++ 10 ∷ []
 
 -- a verdict on so many lines, of which so many are justified from the first on: its text, and whether it is a refusal
 pub record IsVerdict (good total : ℕ) (text : List ℕ) (refused : Bool) : Type 0 where

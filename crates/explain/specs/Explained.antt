@@ -1,5 +1,6 @@
 -- What `explain` answers: a certificate of an activity that holds over a state, or why there is none.
-use Rattle.std.specs.Prelude.{◌≡◌, ◌⊎◌, ℕ, ◌-◌, Bool, true, false, Option, Some, None, MatchOption, List, [], ◌∷◌, ◌++◌, length, slice_get, codes, decimal}
+use Rattle.std.specs.Prelude.{◌≡◌, ◌⊎◌, ℕ, ◌-◌, Bool, true, false, Option, Some, None, MatchOption, List, [], ◌∷◌, ◌++◌}
+use Rattle.std.specs.Prelude.{length, slice_get, codes, decimal}
 use Rattle.certificates.specs.Justified.{AreJustified}
 use Rattle.certificates.specs.Kept.{AreLaidTemplates}
 use Rattle.certificates.specs.declared.lines.CertLine.{CertLine}
@@ -26,7 +27,8 @@ EndsWith p name fate lines = MatchOption (slice_get lines (length lines - 1)) �
 abbrev pub AreJustifiedBy : Core → RootFacts → List CertLine → Type 0
 AreJustifiedBy c f lines = AreLaidTemplates (templates c) → AreJustified (basis_in c f) lines (length lines)
 
--- a certificate of this activity over a state: all its lines are justified, and its last one tells the fate that the state shows of it
+-- a certificate of this activity over a state: all its lines are justified, and its last one tells the fate that the
+-- state shows of it
 pub record IsCertificate (c : Core) (p : Path) (name : List ℕ) (lines : List CertLine) : Type 0 where
   pub facts : RootFacts
   pub of_root : AreFactsOf c p.root facts
@@ -37,7 +39,8 @@ pub record IsCertificate (c : Core) (p : Path) (name : List ℕ) (lines : List C
 
 -- ---- why there is none
 
--- why an activity of this scope has no certificate: no root of its number is live; else what is begun of the root has no such
+-- why an activity of this scope has no certificate: no root of its number is live; else what is begun of the root has
+-- no such
 -- activity, or shows it as neither dead nor finished
 abbrev pub HasNone : Core → Path → List ℕ → ExplainFault → Type 0
 HasNone c p name (Root root) = (root ≡ p.root) × (graph_now c root ≡ None)
@@ -73,4 +76,5 @@ IsExplained c p name text refused =
 
 -- the same of the activity that a word names
 abbrev pub ExplainsWord : Core → List ℕ → List ℕ → Bool → Type 0
-ExplainsWord c word text refused = (p : Path) × (name : List ℕ) × (activity_spelling p name ≡ word) × IsExplained c p name text refused
+ExplainsWord c word text refused = (p : Path) × (name : List ℕ) × (activity_spelling p name ≡ word)
+    × IsExplained c p name text refused

@@ -1,4 +1,5 @@
--- What `verify` answers: how many of the lines, from the first on, are lines of a certificate that are justified by a root of a state.
+-- What `verify` answers: how many of the lines, from the first on, are lines of a certificate that are justified by a
+-- root of a state.
 use Rattle.std.specs.Prelude.{◌≡◌, ◌⊎◌, ℕ, ◌≤◌, Bool, None, List, [], ◌∷◌, length, map, take}
 use Rattle.std.specs.Global.{Vec}
 use Rattle.certificates.specs.Justified.{AreJustified, IsFirstUnjustified}
@@ -18,7 +19,14 @@ AreFirst read lines = map line_text read ≡ map (λ line. line.0.items) (take (
 
 -- a certificate rests on the library of a state and what the fates of a root follow from
 abbrev pub basis_in : Core → RootFacts → Basis
-basis_in c f = record { templates = templates c; root = f.root; template = f.template; input = f.input; facts = f.facts }
+basis_in c f = record {
+  templates = templates c;
+  root = f.root;
+  template = f.template;
+  input = f.input;
+  facts =
+      f.facts;
+}
 
 -- so many of the lines, from the first on, are justified, and the next one, if there is one, isn't
 abbrev pub AreGood : Basis → List CertLine → ℕ → Type 0
@@ -29,7 +37,8 @@ abbrev pub AreGoodIn : Core → List CertLine → ℕ → Type 0
 AreGoodIn c [] good = good ≡ 0
 AreGoodIn c (first ∷ rest) good =
     ((graph_now c (line_scope first).root ≡ None) × (good ≡ 0))
-    ⊎ ((f : RootFacts) × AreFactsOf c (line_scope first).root f × (AreLaidTemplates (templates c) → AreGood (basis_in c f) (first ∷ rest) good))
+    ⊎ ((f : RootFacts) × AreFactsOf c (line_scope first).root f
+    × (AreLaidTemplates (templates c) → AreGood (basis_in c f) (first ∷ rest) good))
 
 -- a verdict on lines, and whether it is a refusal
 pub record IsVerified (c : Core) (lines : List (Vec ℕ × Bool)) (text : List ℕ) (refused : Bool) : Type 0 where

@@ -17,7 +17,8 @@ pub fn justified(
     facts: &RootFacts,
     lines: &[CertLine],
 ) -> Result<u64, AllocError>
-    ensures good { IfOk result (λ count. AreLaidTemplates (templates core.now) → AreGood (basis_in core.now facts.now) lines.now count) }
+    ensures good { IfOk result (λ count. AreLaidTemplates (templates core.now)
+        → AreGood (basis_in core.now facts.now) lines.now count) }
     ensures within { IfOk result (λ count. count ≤ length lines.now) }
 {
     let grounds = Grounds {
@@ -45,7 +46,8 @@ pub fn checked(
     lines: List<CertLine>,
 ) -> Result<List<CertLine>, AllocError>
     ensures same { IfOk result (λ checked. checked ≡ lines) }
-    ensures justified { IfOk result (λ checked. AreLaidTemplates (templates core.now) → AreJustified (basis_in core.now facts.now) checked (length checked)) }
+    ensures justified { IfOk result (λ checked. AreLaidTemplates (templates core.now)
+        → AreJustified (basis_in core.now facts.now) checked (length checked)) }
 {
     let good = justified(alloc, core, facts, lines.as_slice())?;
     if good == lines.len() as u64 {

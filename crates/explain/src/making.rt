@@ -1,5 +1,6 @@
 //! Certificates from what the engine shows.
-ghost use Rattle.std.specs.Prelude.{◌≡◌, ℕ, ◌-◌, List, length, option_copied, slice_get, Some, IfOk, IfErr, MatchOption};
+ghost use Rattle.std.specs.Prelude.{◌≡◌, ℕ, ◌-◌, List, length, option_copied, slice_get, Some, IfOk, IfErr};
+ghost use Rattle.std.specs.Prelude.{MatchOption};
 ghost use Rattle.flow_core.specs.Driving.{templates};
 ghost use Rattle.flow_core.specs.Facts.{AreFactsOf};
 ghost use Rattle.flow_model.specs.ScopeContainers.{graph_of};
@@ -314,7 +315,8 @@ fn explain_shown(
     scope: &Path,
     activity: &Name,
 ) -> Result<List<CertLine>, ExplainFault>
-    ensures certificate { IfOk result (EndsAs (fate_at shown.now.fates (activity_spelling scope.now activity.now)) scope.now activity.now) }
+    ensures certificate { IfOk result (EndsAs (fate_at shown.now.fates (activity_spelling scope.now activity.now))
+        scope.now activity.now) }
     ensures fault { IfErr result (IsWithout (fate_at shown.now.fates (activity_spelling scope.now activity.now))) }
 {
     let text = activity_text(shown.alloc, scope, activity)?;

@@ -76,7 +76,8 @@ pub fn explain_word(
     core: &Core,
     path_word: &[u8],
 ) -> Result<Option<(Vec<u8>, bool)>, AllocError>
-    ensures explains { IfOk result (λ found. IfSome found (λ answer. ExplainsWord core.now path_word.now answer.0.items answer.1)) }
+    ensures explains { IfOk result (λ found. IfSome found
+        (λ answer. ExplainsWord core.now path_word.now answer.0.items answer.1)) }
     ensures none { IfOk result (λ found. found ≡ None → NamesNoActivity path_word.now) }
 {
     let Some((scope, name)) = named_activity(alloc, path_word)? else {

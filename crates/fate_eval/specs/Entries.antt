@@ -24,7 +24,8 @@ dated_in (e ∷ es) p = if same_parts e.parts.now p then Some (dated e) else dat
 -- the same of the completions of a root, of which so many came before
 abbrev pub dated_from : ℕ → List Fact → List Part → Option Dated
 dated_from n [] p = None
-dated_from n (f ∷ fs) p = if same_parts f.item.parts p then Some (record { after = n + 1; output = f.output }) else dated_from (n + 1) fs p
+dated_from n (f ∷ fs) p = if same_parts f.item.parts p then Some
+    (record { after = n + 1; output = f.output }) else dated_from (n + 1) fs p
 
 -- the first accepted output of an item
 abbrev pub output_in : List Entry → List Part → Option Container

@@ -14,7 +14,8 @@ Tried = Bor (List ℕ) × ℕ
 
 -- the completions of the attempt that a part names
 abbrev pub at_part : {S : Type 0} → HashMap Tried (Vec Entry) S → Part → List Entry
-at_part groups q = option_map_or (λ group. group.items) (get_by (λ (k : Tried). bytes_eq q.name k.0.now && (q.attempt == k.1)) groups) []
+at_part groups q = option_map_or (λ group. group.items)
+    (get_by (λ (k : Tried). bytes_eq q.name k.0.now && (q.attempt == k.1)) groups) []
 
 -- one more completion of an attempt
 abbrev pub with_entry : Tried → Entry → (Part → List Entry) → Part → List Entry

@@ -15,13 +15,16 @@ AreOf root fs = (i : ℕ) (f : Fact) → slice_get fs i ≡ Some f → f.item.ro
 -- the first n completions are ready, each by those before it, in a process that nests at most so deep
 abbrev pub AreReadyIn : List Template → ℕ → Graph → ℕ → Container → List Fact → ℕ → Type 0
 AreReadyIn ts depth g root input fs n =
-    (i : ℕ) (f : Fact) → i < n → slice_get fs i ≡ Some f → IsReady (rows_in ts depth (by_facts (length fs) (take i fs)) g input (record { root = root; parts = [] })) f.item
+    (i : ℕ) (f : Fact) → i < n → slice_get fs i ≡ Some f
+    → IsReady (rows_in ts depth (by_facts (length fs) (take i fs)) g input (record { root = root; parts = [] }))
+    f.item
 
 -- completion n is none that is ready by those before it, unless its item has an output
 abbrev pub IsUnreadyIn : List Template → ℕ → Graph → ℕ → Container → List Fact → ℕ → Type 0
 IsUnreadyIn ts depth g root input fs n =
     (f : Fact) → slice_get fs n ≡ Some f → output_of (take n fs) f.item.parts ≡ None
-    → IsReady (rows_in ts depth (by_facts (length fs) (take n fs)) g input (record { root = root; parts = [] })) f.item → ⊥
+    → IsReady (rows_in ts depth (by_facts (length fs) (take n fs)) g input (record { root = root; parts = [] })) f.item
+    → ⊥
 
 -- the first n are marked
 abbrev pub AreMarked : List Bool → ℕ → Type 0
@@ -46,5 +49,6 @@ IsUnready ts depth g root input fs NoMemory = Unit {0}
 
 -- the fault names the first completion that isn't ready by those before it
 abbrev pub IsFirstUnready : List Template → Graph → ℕ → Container → List Fact → FateFault → Type 0
-IsFirstUnready ts g root input fs (NotReady n) = AreReady ts g root input fs n × ((f : Fact) → slice_get fs n ≡ Some f → IsReadyBy ts g root input fs n f → ⊥)
+IsFirstUnready ts g root input fs (NotReady n) = AreReady ts g root input fs n
+    × ((f : Fact) → slice_get fs n ≡ Some f → IsReadyBy ts g root input fs n f → ⊥)
 IsFirstUnready ts g root input fs NoMemory = Unit {0}

@@ -48,7 +48,8 @@ fn add_to<'a>(
     tried: Tried<'a>,
     entry: Entry<'a>,
 ) -> Result<(), AllocError>
-    ensures { OnOk result ((q : PartOf) → at_part groups.new q ≡ with_entry tried.entry entry.entry (at_part groups.old) q) }
+    ensures { OnOk result ((q : PartOf) → at_part groups.new q
+        ≡ with_entry tried.entry entry.entry (at_part groups.old) q) }
 {
     if let Some(group) = groups.get_mut(&tried) {
         group.push(entry)?;
@@ -62,7 +63,9 @@ fn add_to<'a>(
 
 /// Adds a completion to those of the attempt that its path leads to.
 fn add<'a>(alloc: Global, groups: &mut Groups<'a>, entry: &Entry<'a>) -> Result<(), AllocError>
-    ensures { OnOk result ((q : PartOf) (p : List PartOf) → dated_in (at_part groups.new q) p ≡ option_or (dated_in (at_part groups.old q) p) (dated_in (entry.now ∷ []) (q ∷ p))) }
+    ensures { OnOk result ((q : PartOf) (p : List PartOf)
+        → dated_in (at_part groups.new q) p ≡ option_or (dated_in (at_part groups.old q) p)
+        (dated_in (entry.now ∷ []) (q ∷ p))) }
 {
     match entry.parts {
         [] => Ok(()),

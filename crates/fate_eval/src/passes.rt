@@ -1,5 +1,7 @@
 //! The recursion over scopes.
-ghost use Rattle.std.specs.Prelude.{◌≡◌, ◌<◌, ◌≤◌, ◌+◌, ◌^◌, ◌∷◌, [], ◌++◌, ℕ, Option, List, Some, None, true, slice_get, slice_set, length, false, unwrap_or, IfOk, IfErr, IfSome, OnOk, replicate};
+ghost use Rattle.std.specs.Prelude.{◌≡◌, ◌<◌, ◌≤◌, ◌+◌, ◌^◌, ◌∷◌, [], ◌++◌, ℕ, Option, List, Some, None, true};
+ghost use Rattle.std.specs.Prelude.{slice_get, slice_set, length, false, unwrap_or, IfOk, IfErr, IfSome, OnOk};
+ghost use Rattle.std.specs.Prelude.{replicate};
 ghost use Rattle.std.specs.List.{flat_map, All, Contains};
 ghost use Rattle.std.specs.Option.{option_map};
 ghost use Rattle.flow_model.specs.Fates.{goes_on as next_try};
@@ -14,12 +16,16 @@ ghost use Rattle.blocks_subprocs.specs.Ends.{ends_of};
 ghost use Rattle.flow_model.specs.Wiring.{IsLooping, IsSinking};
 ghost use Rattle.fate_eval.specs.Entries.{dated_in, output_in, known_in};
 ghost use Rattle.fate_eval.specs.Grouped.{AreByAttempt};
-ghost use Rattle.fate_eval.specs.Refusals.{IsWithin, IsBehindReady, IsUnready, IsFirstUnready, AreOf, AreReadyIn, AreMarked};
-ghost use Rattle.fate_eval.specs.Whole.{IsNested, WellBelow, IsWholeProgram, IsWholeAttempt, IsWholeScope, IsWholePass, IsWholeLast, AreWhole, IsWholeOpen, IsWholeFound};
-ghost use Rattle.fate_eval.specs.Timely.{IsTimelyProgram, IsTimelyAttempt, IsTimelyScope, IsTimelyPass, IsTimelyLast, AreTimely, IsTimelyOpen, IsTimelyFound};
+ghost use Rattle.fate_eval.specs.Refusals.{IsWithin, IsBehindReady, IsUnready, IsFirstUnready, AreOf, AreReadyIn};
+ghost use Rattle.fate_eval.specs.Refusals.{AreMarked};
+ghost use Rattle.fate_eval.specs.Whole.{IsNested, WellBelow, IsWholeProgram, IsWholeAttempt, IsWholeScope, IsWholePass};
+ghost use Rattle.fate_eval.specs.Whole.{IsWholeLast, AreWhole, IsWholeOpen, IsWholeFound};
+ghost use Rattle.fate_eval.specs.Timely.{IsTimelyProgram, IsTimelyAttempt, IsTimelyScope, IsTimelyPass, IsTimelyLast};
+ghost use Rattle.fate_eval.specs.Timely.{AreTimely, IsTimelyOpen, IsTimelyFound};
 ghost use Rattle.fate_laws.specs.Layout.{IsLaid, OfInside, Laid, LaidBelow};
 ghost use Rattle.fate_laws.specs.WellFormed.{Well};
-ghost use Rattle.fate_eval.specs.Passing.{IsAttempt, IsScopeAttempt, IsLast, AreAttempts, IsOpen, IsFound, IsPassed, AreFates, turn_of};
+ghost use Rattle.fate_eval.specs.Passing.{IsAttempt, IsScopeAttempt, IsLast, AreAttempts, IsOpen, IsFound, IsPassed};
+ghost use Rattle.fate_eval.specs.Passing.{AreFates, turn_of};
 
 use crate::accepted::{Entry, Groups, completion, entries_at, entries_of, groups_of};
 use crate::results::{FateFault, Fates};
@@ -187,9 +193,12 @@ fn program_attempt<'a>(
     attempt: u64,
     since: u64,
 ) -> Result<Attempt, AllocError>
-    ensures exact { IfOk result (λ r. (r.output ≡ output_in scope.now.entries.items (part activity.now.name attempt ∷ [])) × (r.rows.items ≡ [])) }
-    ensures timely { IfOk result (λ r. IsTimelyProgram (dated_in scope.now.entries.items (part activity.now.name attempt ∷ [])) since r.output r.after r.ready.items) }
-    ensures whole { IfOk result (λ r. IsWholeProgram (dated_in scope.now.entries.items (part activity.now.name attempt ∷ [])) since r.output r.after r.ready.items) }
+    ensures exact { IfOk result (λ r. (r.output ≡ output_in scope.now.entries.items
+        (part activity.now.name attempt ∷ [])) × (r.rows.items ≡ [])) }
+    ensures timely { IfOk result (λ r. IsTimelyProgram
+        (dated_in scope.now.entries.items (part activity.now.name attempt ∷ [])) since r.output r.after r.ready.items) }
+    ensures whole { IfOk result (λ r. IsWholeProgram
+        (dated_in scope.now.entries.items (part activity.now.name attempt ∷ [])) since r.output r.after r.ready.items) }
 {
     let name = activity.name.as_slice();
     match completion(entries_at(&scope.groups, name, attempt)) {
@@ -225,9 +234,20 @@ fn scope_attempt<'a>(
     input: &Container,
     since: u64,
 ) -> Result<Attempt, AllocError>
-    ensures exact { Laid root.now.library.now.templates depth graph.now → IfOk result (λ r. (r.output ≡ option_map with_code (output_of_scope root.now.library.now.templates (depth + 1) (at (part activity.now.name attempt) (known_in root.now.most scope.now.entries.items)) graph.now input.now)) × (r.rows.items ≡ rows_in root.now.library.now.templates depth (at (part activity.now.name attempt) (known_in root.now.most scope.now.entries.items)) graph.now input.now (path_below scope.now.path (part activity.now.name attempt)))) }
-    ensures timely { Laid root.now.library.now.templates depth graph.now → IfOk result (λ r. IsTimelyScope root.now.library.now.templates depth root.now.most scope.now.entries.items scope.now.path (part activity.now.name attempt) graph.now input.now since r.output r.after r.ready.items) }
-    ensures whole { Laid root.now.library.now.templates depth graph.now → Well root.now.library.now.templates depth graph.now → IfOk result (λ r. IsWholeScope root.now.library.now.templates depth root.now.most scope.now.entries.items scope.now.path (part activity.now.name attempt) graph.now input.now since r.output r.after r.ready.items) }
+    ensures exact { Laid root.now.library.now.templates depth graph.now
+        → IfOk result (λ r. (r.output ≡ option_map with_code
+        (output_of_scope root.now.library.now.templates (depth + 1)
+        (at (part activity.now.name attempt) (known_in root.now.most scope.now.entries.items)) graph.now input.now))
+        × (r.rows.items ≡ rows_in root.now.library.now.templates depth
+        (at (part activity.now.name attempt) (known_in root.now.most scope.now.entries.items)) graph.now input.now
+        (path_below scope.now.path (part activity.now.name attempt)))) }
+    ensures timely { Laid root.now.library.now.templates depth graph.now
+        → IfOk result (λ r. IsTimelyScope root.now.library.now.templates depth root.now.most scope.now.entries.items
+        scope.now.path (part activity.now.name attempt) graph.now input.now since r.output r.after r.ready.items) }
+    ensures whole { Laid root.now.library.now.templates depth graph.now
+        → Well root.now.library.now.templates depth graph.now
+        → IfOk result (λ r. IsWholeScope root.now.library.now.templates depth root.now.most scope.now.entries.items
+        scope.now.path (part activity.now.name attempt) graph.now input.now since r.output r.after r.ready.items) }
 {
     let found = entries_at(&scope.groups, activity.name.as_slice(), attempt);
     let below = Scope {
@@ -263,9 +283,18 @@ fn nested_attempt<'a>(
     input: &Container,
     since: u64,
 ) -> Result<Attempt, AllocError>
-    ensures exact { OfInside root.now.library.now.templates (LaidBelow root.now.library.now.templates depth) (Some activity.now) → IfOk result (λ r. IsScopeAttempt root.now.library.now.templates depth (known_in root.now.most scope.now.entries.items) scope.now.path activity.now attempt input.now r.output r.rows.items) }
-    ensures timely { OfInside root.now.library.now.templates (LaidBelow root.now.library.now.templates depth) (Some activity.now) → IfOk result (λ r. IsTimelyAttempt root.now.library.now.templates depth root.now.most scope.now.entries.items scope.now.path activity.now attempt input.now since r.output r.after r.ready.items) }
-    ensures whole { IsNested activity.now.work → OfInside root.now.library.now.templates (LaidBelow root.now.library.now.templates depth) (Some activity.now) → OfInside root.now.library.now.templates (WellBelow root.now.library.now.templates depth) (Some activity.now) → IfOk result (λ r. IsWholeAttempt root.now.library.now.templates depth root.now.most scope.now.entries.items scope.now.path activity.now attempt input.now since r.output r.after r.ready.items) }
+    ensures exact { OfInside root.now.library.now.templates (LaidBelow root.now.library.now.templates depth)
+        (Some activity.now) → IfOk result (λ r. IsScopeAttempt root.now.library.now.templates depth
+        (known_in root.now.most scope.now.entries.items) scope.now.path activity.now attempt input.now r.output
+        r.rows.items) }
+    ensures timely { OfInside root.now.library.now.templates (LaidBelow root.now.library.now.templates depth)
+        (Some activity.now) → IfOk result (λ r. IsTimelyAttempt root.now.library.now.templates depth root.now.most
+        scope.now.entries.items scope.now.path activity.now attempt input.now since r.output r.after r.ready.items) }
+    ensures whole { IsNested activity.now.work → OfInside root.now.library.now.templates
+        (LaidBelow root.now.library.now.templates depth) (Some activity.now)
+        → OfInside root.now.library.now.templates (WellBelow root.now.library.now.templates depth) (Some activity.now)
+        → IfOk result (λ r. IsWholeAttempt root.now.library.now.templates depth root.now.most scope.now.entries.items
+        scope.now.path activity.now attempt input.now since r.output r.after r.ready.items) }
 {
     match graph_of(root.library, &activity.work) {
         None => Ok(nothing(root.alloc, since)),
@@ -298,9 +327,17 @@ fn attempt_of<'a>(
     input: &Container,
     since: u64,
 ) -> Result<Attempt, AllocError>
-    ensures exact { OfInside root.now.library.now.templates (LaidBelow root.now.library.now.templates depth) (Some activity.now) → IfOk result (λ r. IsAttempt root.now.library.now.templates depth (known_in root.now.most scope.now.entries.items) scope.now.path activity.now attempt input.now r.output r.rows.items) }
-    ensures timely { OfInside root.now.library.now.templates (LaidBelow root.now.library.now.templates depth) (Some activity.now) → IfOk result (λ r. IsTimelyAttempt root.now.library.now.templates depth root.now.most scope.now.entries.items scope.now.path activity.now attempt input.now since r.output r.after r.ready.items) }
-    ensures whole { OfInside root.now.library.now.templates (LaidBelow root.now.library.now.templates depth) (Some activity.now) → OfInside root.now.library.now.templates (WellBelow root.now.library.now.templates depth) (Some activity.now) → IfOk result (λ r. IsWholeAttempt root.now.library.now.templates depth root.now.most scope.now.entries.items scope.now.path activity.now attempt input.now since r.output r.after r.ready.items) }
+    ensures exact { OfInside root.now.library.now.templates (LaidBelow root.now.library.now.templates depth)
+        (Some activity.now) → IfOk result (λ r. IsAttempt root.now.library.now.templates depth
+        (known_in root.now.most scope.now.entries.items) scope.now.path activity.now attempt input.now r.output
+        r.rows.items) }
+    ensures timely { OfInside root.now.library.now.templates (LaidBelow root.now.library.now.templates depth)
+        (Some activity.now) → IfOk result (λ r. IsTimelyAttempt root.now.library.now.templates depth root.now.most
+        scope.now.entries.items scope.now.path activity.now attempt input.now since r.output r.after r.ready.items) }
+    ensures whole { OfInside root.now.library.now.templates (LaidBelow root.now.library.now.templates depth)
+        (Some activity.now) → OfInside root.now.library.now.templates (WellBelow root.now.library.now.templates depth)
+        (Some activity.now) → IfOk result (λ r. IsWholeAttempt root.now.library.now.templates depth root.now.most
+        scope.now.entries.items scope.now.path activity.now attempt input.now since r.output r.after r.ready.items) }
 {
     match &activity.work {
         Work::Program(_) => { program_attempt(root.alloc, scope, activity, attempt, since) }
@@ -319,7 +356,8 @@ fn next_turn(
     attempt: u64,
     output: Option<Container>,
 ) -> Result<Turn, AllocError>
-    ensures { IsLooping graph.now → IfOk result (λ t. t ≡ turn_of graph.now place activity.now base.now attempt output) }
+    ensures { IsLooping graph.now → IfOk result (λ t. t
+        ≡ turn_of graph.now place activity.now base.now attempt output) }
 {
     let Some(output) = output else {
         return Ok(Turn::Stops(goes_on(&activity.work, attempt), SourceEnd::Unsettled));
@@ -345,9 +383,19 @@ fn last_attempt<'a>(
     since: u64,
     before: Shown,
 ) -> Result<Attempts, AllocError>
-    ensures exact { OfInside root.now.library.now.templates (LaidBelow root.now.library.now.templates depth) (Some activity.now) → IfOk result (λ r. IsLast root.now.library.now.templates depth (known_in root.now.most scope.now.entries.items) scope.now.path activity.now (root.now.most + 1) input.now before.rows.items r.fate r.end r.rows.items) }
-    ensures timely { OfInside root.now.library.now.templates (LaidBelow root.now.library.now.templates depth) (Some activity.now) → IfOk result (λ r. IsTimelyLast root.now.library.now.templates depth root.now.most scope.now.entries.items scope.now.path activity.now (root.now.most + 1) input.now since before.ready.items r.end r.ready.items) }
-    ensures whole { OfInside root.now.library.now.templates (LaidBelow root.now.library.now.templates depth) (Some activity.now) → OfInside root.now.library.now.templates (WellBelow root.now.library.now.templates depth) (Some activity.now) → IfOk result (λ r. IsWholeLast root.now.library.now.templates depth root.now.most scope.now.entries.items scope.now.path activity.now (root.now.most + 1) input.now since before.ready.items r.ready.items) }
+    ensures exact { OfInside root.now.library.now.templates (LaidBelow root.now.library.now.templates depth)
+        (Some activity.now) → IfOk result (λ r. IsLast root.now.library.now.templates depth
+        (known_in root.now.most scope.now.entries.items) scope.now.path activity.now
+        (root.now.most + 1) input.now before.rows.items r.fate r.end r.rows.items) }
+    ensures timely { OfInside root.now.library.now.templates (LaidBelow root.now.library.now.templates depth)
+        (Some activity.now) → IfOk result (λ r. IsTimelyLast root.now.library.now.templates depth root.now.most
+        scope.now.entries.items scope.now.path activity.now
+        (root.now.most + 1) input.now since before.ready.items r.end r.ready.items) }
+    ensures whole { OfInside root.now.library.now.templates (LaidBelow root.now.library.now.templates depth)
+        (Some activity.now) → OfInside root.now.library.now.templates (WellBelow root.now.library.now.templates depth)
+        (Some activity.now) → IfOk result (λ r. IsWholeLast root.now.library.now.templates depth root.now.most
+        scope.now.entries.items scope.now.path activity.now
+        (root.now.most + 1) input.now since before.ready.items r.ready.items) }
 {
     let number = root.most + 1;
     let last = attempt_of(root, depth, scope, activity, number, input, since)?;
@@ -383,9 +431,20 @@ fn attempts_from<'a>(
     base: &Container,
     since: u64,
 ) -> Result<Attempts, AllocError>
-    ensures exact { IsLooping scope.now.graph.now → OfInside root.now.library.now.templates (LaidBelow root.now.library.now.templates depth) (Some activity.now) → IfOk result (λ r. AreAttempts root.now.library.now.templates depth (known_in root.now.most scope.now.entries.items) scope.now.graph.now scope.now.path place activity.now base.now r.fate r.end r.rows.items) }
-    ensures timely { IsLooping scope.now.graph.now → OfInside root.now.library.now.templates (LaidBelow root.now.library.now.templates depth) (Some activity.now) → IfOk result (λ r. AreTimely root.now.library.now.templates depth root.now.most scope.now.entries.items scope.now.graph.now scope.now.path place activity.now base.now since r.end r.after r.ready.items) }
-    ensures whole { IsLooping scope.now.graph.now → OfInside root.now.library.now.templates (LaidBelow root.now.library.now.templates depth) (Some activity.now) → OfInside root.now.library.now.templates (WellBelow root.now.library.now.templates depth) (Some activity.now) → IfOk result (λ r. AreWhole root.now.library.now.templates depth root.now.most scope.now.entries.items scope.now.graph.now scope.now.path place activity.now base.now since r.end r.after r.ready.items) }
+    ensures exact { IsLooping scope.now.graph.now → OfInside root.now.library.now.templates
+        (LaidBelow root.now.library.now.templates depth) (Some activity.now)
+        → IfOk result (λ r. AreAttempts root.now.library.now.templates depth
+        (known_in root.now.most scope.now.entries.items) scope.now.graph.now scope.now.path place activity.now base.now
+        r.fate r.end r.rows.items) }
+    ensures timely { IsLooping scope.now.graph.now
+        → OfInside root.now.library.now.templates (LaidBelow root.now.library.now.templates depth) (Some activity.now)
+        → IfOk result (λ r. AreTimely root.now.library.now.templates depth root.now.most scope.now.entries.items
+        scope.now.graph.now scope.now.path place activity.now base.now since r.end r.after r.ready.items) }
+    ensures whole { IsLooping scope.now.graph.now → OfInside root.now.library.now.templates
+        (LaidBelow root.now.library.now.templates depth) (Some activity.now)
+        → OfInside root.now.library.now.templates (WellBelow root.now.library.now.templates depth) (Some activity.now)
+        → IfOk result (λ r. AreWhole root.now.library.now.templates depth root.now.most scope.now.entries.items
+        scope.now.graph.now scope.now.path place activity.now base.now since r.end r.after r.ready.items) }
 {
     let alloc = root.alloc;
     let mut input = base.copy(alloc)?;
@@ -422,7 +481,8 @@ fn attempts_from<'a>(
 
 /// An activity with this fate and end, and no attempts.
 fn untried(alloc: Global, fate: Fate, end: SourceEnd, after: u64) -> Attempts
-    ensures { (result.fate ≡ fate) × (result.end ≡ end) × (result.rows.items ≡ []) × (result.after ≡ after) × (result.ready.items ≡ []) }
+    ensures { (result.fate ≡ fate) × (result.end ≡ end) × (result.rows.items ≡ []) × (result.after ≡ after)
+        × (result.ready.items ≡ []) }
 {
     Attempts {
         fate,
@@ -445,9 +505,22 @@ fn open_activity<'a>(
     activity: &'a Activity,
     since: u64,
 ) -> Result<Attempts, AllocError>
-    ensures exact { IsLaid scope.now.graph.now → OfInside root.now.library.now.templates (LaidBelow root.now.library.now.templates depth) (Some activity.now) → IfOk result (λ r. IsOpen root.now.library.now.templates depth (known_in root.now.most scope.now.entries.items) scope.now.graph.now scope.now.input scope.now.path (ends_of ends.now) place activity.now r.fate r.end r.rows.items) }
-    ensures timely { IsLaid scope.now.graph.now → OfInside root.now.library.now.templates (LaidBelow root.now.library.now.templates depth) (Some activity.now) → IfOk result (λ r. IsTimelyOpen root.now.library.now.templates depth root.now.most scope.now.entries.items scope.now.graph.now scope.now.input scope.now.path ends.now afters.now place activity.now since r.end r.after r.ready.items) }
-    ensures whole { IsLaid scope.now.graph.now → OfInside root.now.library.now.templates (LaidBelow root.now.library.now.templates depth) (Some activity.now) → OfInside root.now.library.now.templates (WellBelow root.now.library.now.templates depth) (Some activity.now) → IfOk result (λ r. IsWholeOpen root.now.library.now.templates depth root.now.most scope.now.entries.items scope.now.graph.now scope.now.input scope.now.path ends.now afters.now place activity.now since r.end r.after r.ready.items) }
+    ensures exact { IsLaid scope.now.graph.now → OfInside root.now.library.now.templates
+        (LaidBelow root.now.library.now.templates depth) (Some activity.now)
+        → IfOk result (λ r. IsOpen root.now.library.now.templates depth
+        (known_in root.now.most scope.now.entries.items) scope.now.graph.now scope.now.input scope.now.path
+        (ends_of ends.now) place activity.now r.fate r.end r.rows.items) }
+    ensures timely { IsLaid scope.now.graph.now → OfInside root.now.library.now.templates
+        (LaidBelow root.now.library.now.templates depth) (Some activity.now)
+        → IfOk result (λ r. IsTimelyOpen root.now.library.now.templates depth root.now.most scope.now.entries.items
+        scope.now.graph.now scope.now.input scope.now.path ends.now afters.now place activity.now since r.end r.after
+        r.ready.items) }
+    ensures whole { IsLaid scope.now.graph.now → OfInside root.now.library.now.templates
+        (LaidBelow root.now.library.now.templates depth) (Some activity.now)
+        → OfInside root.now.library.now.templates (WellBelow root.now.library.now.templates depth) (Some activity.now)
+        → IfOk result (λ r. IsWholeOpen root.now.library.now.templates depth root.now.most scope.now.entries.items
+        scope.now.graph.now scope.now.input scope.now.path ends.now afters.now place activity.now since r.end r.after
+        r.ready.items) }
 {
     let graph = scope.graph;
     if !is_fed(graph, ends, place) {
@@ -466,7 +539,9 @@ fn with_row(
     activity: &Activity,
     tried: Attempts,
 ) -> Result<Found, AllocError>
-    ensures { IfOk result (λ f. (f.end ≡ tried.end) × (f.rows.items ≡ record { scope = scope.now; name = activity.now.name; fate = tried.fate } ∷ tried.rows.items) × (f.after ≡ tried.after) × (f.ready.items ≡ tried.ready.items)) }
+    ensures { IfOk result (λ f. (f.end ≡ tried.end)
+        × (f.rows.items ≡ record { scope = scope.now; name = activity.now.name; fate = tried.fate } ∷ tried.rows.items)
+        × (f.after ≡ tried.after) × (f.ready.items ≡ tried.ready.items)) }
 {
     let Attempts {
         fate,
@@ -501,9 +576,22 @@ fn activity<'a>(
     place: u32,
     activity: &'a Activity,
 ) -> Result<Found, AllocError>
-    ensures exact { IsLaid scope.now.graph.now → OfInside root.now.library.now.templates (LaidBelow root.now.library.now.templates depth) (Some activity.now) → IfOk result (λ f. IsFound root.now.library.now.templates depth (known_in root.now.most scope.now.entries.items) scope.now.graph.now scope.now.input scope.now.path (ends_of ends.now) place (Some activity.now) f.end f.rows.items) }
-    ensures timely { IsLaid scope.now.graph.now → OfInside root.now.library.now.templates (LaidBelow root.now.library.now.templates depth) (Some activity.now) → IfOk result (λ f. IsTimelyFound root.now.library.now.templates depth root.now.most scope.now.entries.items scope.now.graph.now scope.now.input scope.now.path scope.now.since ends.now afters.now place (Some activity.now) f.end f.after f.ready.items) }
-    ensures whole { IsLaid scope.now.graph.now → OfInside root.now.library.now.templates (LaidBelow root.now.library.now.templates depth) (Some activity.now) → OfInside root.now.library.now.templates (WellBelow root.now.library.now.templates depth) (Some activity.now) → IfOk result (λ f. IsWholeFound root.now.library.now.templates depth root.now.most scope.now.entries.items scope.now.graph.now scope.now.input scope.now.path scope.now.since ends.now afters.now place (Some activity.now) f.end f.after f.ready.items) }
+    ensures exact { IsLaid scope.now.graph.now → OfInside root.now.library.now.templates
+        (LaidBelow root.now.library.now.templates depth) (Some activity.now)
+        → IfOk result (λ f. IsFound root.now.library.now.templates depth
+        (known_in root.now.most scope.now.entries.items) scope.now.graph.now scope.now.input scope.now.path
+        (ends_of ends.now) place (Some activity.now) f.end f.rows.items) }
+    ensures timely { IsLaid scope.now.graph.now → OfInside root.now.library.now.templates
+        (LaidBelow root.now.library.now.templates depth) (Some activity.now)
+        → IfOk result (λ f. IsTimelyFound root.now.library.now.templates depth root.now.most scope.now.entries.items
+        scope.now.graph.now scope.now.input scope.now.path scope.now.since ends.now afters.now place
+        (Some activity.now) f.end f.after f.ready.items) }
+    ensures whole { IsLaid scope.now.graph.now → OfInside root.now.library.now.templates
+        (LaidBelow root.now.library.now.templates depth) (Some activity.now)
+        → OfInside root.now.library.now.templates (WellBelow root.now.library.now.templates depth) (Some activity.now)
+        → IfOk result (λ f. IsWholeFound root.now.library.now.templates depth root.now.most scope.now.entries.items
+        scope.now.graph.now scope.now.input scope.now.path scope.now.since ends.now afters.now place
+        (Some activity.now) f.end f.after f.ready.items) }
 {
     let alloc = root.alloc;
     let values = values(alloc, scope.graph, ends, place)?;
@@ -534,9 +622,19 @@ fn found_at<'a>(
     afters: &[u64],
     place: u32,
 ) -> Result<Found, AllocError>
-    ensures exact { Laid root.now.library.now.templates depth scope.now.graph.now → IfOk result (λ f. IsFound root.now.library.now.templates depth (known_in root.now.most scope.now.entries.items) scope.now.graph.now scope.now.input scope.now.path (ends_of ends.now) place (slice_get (out-Graph scope.now.graph.now).activities place) f.end f.rows.items) }
-    ensures timely { Laid root.now.library.now.templates depth scope.now.graph.now → IfOk result (λ f. IsTimelyFound root.now.library.now.templates depth root.now.most scope.now.entries.items scope.now.graph.now scope.now.input scope.now.path scope.now.since ends.now afters.now place (slice_get (out-Graph scope.now.graph.now).activities place) f.end f.after f.ready.items) }
-    ensures whole { Laid root.now.library.now.templates depth scope.now.graph.now → Well root.now.library.now.templates depth scope.now.graph.now → IfOk result (λ f. IsWholeFound root.now.library.now.templates depth root.now.most scope.now.entries.items scope.now.graph.now scope.now.input scope.now.path scope.now.since ends.now afters.now place (slice_get (out-Graph scope.now.graph.now).activities place) f.end f.after f.ready.items) }
+    ensures exact { Laid root.now.library.now.templates depth scope.now.graph.now
+        → IfOk result (λ f. IsFound root.now.library.now.templates depth
+        (known_in root.now.most scope.now.entries.items) scope.now.graph.now scope.now.input scope.now.path
+        (ends_of ends.now) place (slice_get (out-Graph scope.now.graph.now).activities place) f.end f.rows.items) }
+    ensures timely { Laid root.now.library.now.templates depth scope.now.graph.now
+        → IfOk result (λ f. IsTimelyFound root.now.library.now.templates depth root.now.most scope.now.entries.items
+        scope.now.graph.now scope.now.input scope.now.path scope.now.since ends.now afters.now place
+        (slice_get (out-Graph scope.now.graph.now).activities place) f.end f.after f.ready.items) }
+    ensures whole { Laid root.now.library.now.templates depth scope.now.graph.now
+        → Well root.now.library.now.templates depth scope.now.graph.now
+        → IfOk result (λ f. IsWholeFound root.now.library.now.templates depth root.now.most scope.now.entries.items
+        scope.now.graph.now scope.now.input scope.now.path scope.now.since ends.now afters.now place
+        (slice_get (out-Graph scope.now.graph.now).activities place) f.end f.after f.ready.items) }
 {
     match scope.graph.activities.as_slice().get(place as usize) {
         None => Ok(Found {
@@ -589,7 +687,8 @@ fn complete_output(
     input: &Container,
     ends: &[SourceEnd],
 ) -> Result<Option<Container>, AllocError>
-    ensures { IsSinking graph.now → length ends.now ≡ length (out-Graph graph.now).activities → IfOk result (λ o. o ≡ output_by graph.now input.now (ends_of ends.now)) }
+    ensures { IsSinking graph.now → length ends.now ≡ length (out-Graph graph.now).activities
+        → IfOk result (λ o. o ≡ output_by graph.now input.now (ends_of ends.now)) }
 {
     if is_complete(ends) {
         Ok(Some(output_of(alloc, graph, input, ends)?))
@@ -601,9 +700,17 @@ fn complete_output(
 /// The pass over a scope in the order of its graph.
 #[cycle(scopes)]
 fn pass<'a>(root: &Root<'a>, depth: u32, scope: &Scope<'a>) -> Result<Passed, AllocError>
-    ensures exact { Laid root.now.library.now.templates depth scope.now.graph.now → IfOk result (λ r. IsPassed root.now.library.now.templates depth (known_in root.now.most scope.now.entries.items) scope.now.graph.now scope.now.input scope.now.path r.output r.rows.items) }
-    ensures timely { Laid root.now.library.now.templates depth scope.now.graph.now → IfOk result (λ r. IsTimelyPass root.now.library.now.templates depth root.now.most scope.now.entries.items scope.now.graph.now scope.now.input scope.now.path scope.now.since r.output r.after r.ready.items) }
-    ensures whole { Laid root.now.library.now.templates depth scope.now.graph.now → Well root.now.library.now.templates depth scope.now.graph.now → IfOk result (λ r. IsWholePass root.now.library.now.templates depth root.now.most scope.now.entries.items scope.now.graph.now scope.now.input scope.now.path scope.now.since r.output r.after r.ready.items) }
+    ensures exact { Laid root.now.library.now.templates depth scope.now.graph.now
+        → IfOk result (λ r. IsPassed root.now.library.now.templates depth
+        (known_in root.now.most scope.now.entries.items) scope.now.graph.now scope.now.input scope.now.path r.output
+        r.rows.items) }
+    ensures timely { Laid root.now.library.now.templates depth scope.now.graph.now
+        → IfOk result (λ r. IsTimelyPass root.now.library.now.templates depth root.now.most scope.now.entries.items
+        scope.now.graph.now scope.now.input scope.now.path scope.now.since r.output r.after r.ready.items) }
+    ensures whole { Laid root.now.library.now.templates depth scope.now.graph.now
+        → Well root.now.library.now.templates depth scope.now.graph.now
+        → IfOk result (λ r. IsWholePass root.now.library.now.templates depth root.now.most scope.now.entries.items
+        scope.now.graph.now scope.now.input scope.now.path scope.now.since r.output r.after r.ready.items) }
 {
     let alloc = root.alloc;
     let count = scope.graph.activities.len();
@@ -677,11 +784,17 @@ fn root_fates(
     input: &Container,
     facts: &[Fact],
 ) -> Result<Fates, FateFault>
-    ensures exact { Laid library.now.templates depth graph.now → IfOk result (λ v. AreFates library.now.templates depth graph.now root input.now facts.now v.rows v.output) }
+    ensures exact { Laid library.now.templates depth graph.now
+        → IfOk result (λ v. AreFates library.now.templates depth graph.now root input.now facts.now v.rows v.output) }
     ensures within { IfErr result (IsWithin (length facts.now)) }
-    ensures ready { Laid library.now.templates depth graph.now → AreOf root facts.now → IfOk result (λ v. AreReadyIn library.now.templates depth graph.now root input.now facts.now (length facts.now)) }
-    ensures refused { Laid library.now.templates depth graph.now → AreOf root facts.now → IfErr result (IsBehindReady library.now.templates depth graph.now root input.now facts.now) }
-    ensures unready { Laid library.now.templates depth graph.now → Well library.now.templates depth graph.now → AreOf root facts.now → IfErr result (IsUnready library.now.templates depth graph.now root input.now facts.now) }
+    ensures ready { Laid library.now.templates depth graph.now → AreOf root facts.now
+        → IfOk result (λ v. AreReadyIn library.now.templates depth graph.now root input.now facts.now
+        (length facts.now)) }
+    ensures refused { Laid library.now.templates depth graph.now → AreOf root facts.now
+        → IfErr result (IsBehindReady library.now.templates depth graph.now root input.now facts.now) }
+    ensures unready { Laid library.now.templates depth graph.now → Well library.now.templates depth graph.now
+        → AreOf root facts.now → IfErr result (IsUnready library.now.templates depth graph.now root input.now
+        facts.now) }
 {
     let entries = entries_of(alloc, facts)?;
     let groups = groups_of(alloc, &entries)?;
@@ -728,11 +841,19 @@ pub fn fates(
     input: &Container,
     facts: &[Fact],
 ) -> Result<Fates, FateFault>
-    ensures exact { (t : Template) → slice_get library.now.templates template ≡ Some t → Laid library.now.templates deepest t.graph → IfOk result (λ v. AreFates library.now.templates deepest t.graph root input.now facts.now v.rows v.output) }
+    ensures exact { (t : Template) → slice_get library.now.templates template ≡ Some t
+        → Laid library.now.templates deepest t.graph → IfOk result
+        (λ v. AreFates library.now.templates deepest t.graph root input.now facts.now v.rows v.output) }
     ensures within { IfErr result (IsWithin (length facts.now)) }
-    ensures ready { (t : Template) → slice_get library.now.templates template ≡ Some t → Laid library.now.templates deepest t.graph → AreOf root facts.now → IfOk result (λ v. AreReady library.now.templates t.graph root input.now facts.now (length facts.now)) }
-    ensures refused { (t : Template) → slice_get library.now.templates template ≡ Some t → Laid library.now.templates deepest t.graph → AreOf root facts.now → IfErr result (IsBehindReady library.now.templates deepest t.graph root input.now facts.now) }
-    ensures first { (t : Template) → slice_get library.now.templates template ≡ Some t → Laid library.now.templates deepest t.graph → Well library.now.templates deepest t.graph → AreOf root facts.now → IfErr result (IsFirstUnready library.now.templates t.graph root input.now facts.now) }
+    ensures ready { (t : Template) → slice_get library.now.templates template ≡ Some t
+        → Laid library.now.templates deepest t.graph → AreOf root facts.now
+        → IfOk result (λ v. AreReady library.now.templates t.graph root input.now facts.now (length facts.now)) }
+    ensures refused { (t : Template) → slice_get library.now.templates template ≡ Some t
+        → Laid library.now.templates deepest t.graph → AreOf root facts.now
+        → IfErr result (IsBehindReady library.now.templates deepest t.graph root input.now facts.now) }
+    ensures first { (t : Template) → slice_get library.now.templates template ≡ Some t
+        → Laid library.now.templates deepest t.graph → Well library.now.templates deepest t.graph → AreOf root facts.now
+        → IfErr result (IsFirstUnready library.now.templates t.graph root input.now facts.now) }
 {
     match library.templates.as_slice().get(template as usize) {
         None => Ok(Fates {

@@ -18,7 +18,8 @@ use std::alloc::{AllocError, Global};
 
 /// The value of a connector.
 fn value_of(graph: &Graph, ends: &[SourceEnd], control: &Control) -> Option<bool>
-    ensures { IsOutgoing graph.now → result ≡ value_by (out-Graph graph.now).controls control.now (ends_of ends.now control.now.from) }
+    ensures { IsOutgoing graph.now → result ≡ value_by (out-Graph graph.now).controls control.now
+        (ends_of ends.now control.now.from) }
 {
     match ends.get(control.from as usize) {
         Some(end) => connector_value(graph, control, end),
@@ -28,7 +29,9 @@ fn value_of(graph: &Graph, ends: &[SourceEnd], control: &Control) -> Option<bool
 
 /// The value of the connector at a place, if there is one.
 fn value_at(graph: &Graph, ends: &[SourceEnd], place: u32) -> Option<Option<bool>>
-    ensures { IsOutgoing graph.now → result ≡ option_map (λ c. value_by (out-Graph graph.now).controls c (ends_of ends.now c.from)) (slice_get (out-Graph graph.now).controls place) }
+    ensures { IsOutgoing graph.now → result ≡ option_map
+        (λ c. value_by (out-Graph graph.now).controls c (ends_of ends.now c.from))
+        (slice_get (out-Graph graph.now).controls place) }
 {
     match graph.controls.as_slice().get(place as usize) {
         Some(control) => Some(value_of(graph, ends, control)),
@@ -56,7 +59,9 @@ pub fn values(
     ends: &[SourceEnd],
     place: u32,
 ) -> Result<Vec<Option<bool>>, AllocError>
-    ensures { IsIncoming graph.now → IsOutgoing graph.now → IfOk result (λ v. v.items ≡ map (λ c. value_by (out-Graph graph.now).controls c (ends_of ends.now c.from)) (filter (λ c. c.to == place) (out-Graph graph.now).controls)) }
+    ensures { IsIncoming graph.now → IsOutgoing graph.now
+        → IfOk result (λ v. v.items ≡ map (λ c. value_by (out-Graph graph.now).controls c (ends_of ends.now c.from))
+        (filter (λ c. c.to == place) (out-Graph graph.now).controls)) }
 {
     let mut values = Vec::new(alloc);
     for place in row(graph.wiring.incoming.as_slice(), place) {
@@ -79,7 +84,8 @@ fn after(afters: &[u64], place: u32) -> u64
 /// After how many completions it is known how the source of the connector at a place has ended.
 fn control_after(controls: &[Control], afters: &[u64], place: u32) -> u64
     ensures later { (c : ControlOf) → slice_get controls.now place ≡ Some c → after_of afters.now c.from ≤ result }
-    ensures least { (n : ℕ) → ((c : ControlOf) → slice_get controls.now place ≡ Some c → after_of afters.now c.from ≤ n) → result ≤ n }
+    ensures least { (n : ℕ) → ((c : ControlOf) → slice_get controls.now place ≡ Some c → after_of afters.now c.from ≤ n)
+        → result ≤ n }
 {
     match controls.get(place as usize) {
         Some(control) => after(afters, control.from),
@@ -91,7 +97,8 @@ fn control_after(controls: &[Control], afters: &[u64], place: u32) -> u64
 pub fn joined_after(graph: &Graph, afters: &[u64], place: u32, since: u64) -> u64
     ensures later { since ≤ result }
     ensures controls { IsIncoming graph.now → AfterControls (out-Graph graph.now).controls afters.now place result }
-    ensures least { IsIncoming graph.now → (n : ℕ) → since ≤ n → AfterControls (out-Graph graph.now).controls afters.now place n → result ≤ n }
+    ensures least { IsIncoming graph.now → (n : ℕ) → since ≤ n
+        → AfterControls (out-Graph graph.now).controls afters.now place n → result ≤ n }
 {
     let mut known = since;
     for place in row(graph.wiring.incoming.as_slice(), place) {
@@ -126,7 +133,8 @@ fn is_ready_source(from: MapEnd, ends: &[SourceEnd]) -> bool
 
 /// Whether what feeds the data line at a place is settled, if there is one.
 fn is_ready_line(lines: &[DataLine], place: u32, ends: &[SourceEnd]) -> bool
-    ensures { result ≡ option_map_or (λ line. is_settled_source line.from (ends_of ends.now)) (slice_get lines.now place) true }
+    ensures { result ≡ option_map_or (λ line. is_settled_source line.from (ends_of ends.now))
+        (slice_get lines.now place) true }
 {
     match lines.get(place as usize) {
         Some(line) => is_ready_source(line.from, ends),
@@ -136,7 +144,8 @@ fn is_ready_line(lines: &[DataLine], place: u32, ends: &[SourceEnd]) -> bool
 
 /// Whether what feeds the data lines at these places is settled.
 fn are_ready_lines(lines: &[DataLine], places: &[u32], ends: &[SourceEnd]) -> bool
-    ensures { result ≡ list_all (λ p. option_map_or (λ line. is_settled_source line.from (ends_of ends.now)) (slice_get lines.now p) true) places.now }
+    ensures { result ≡ list_all (λ p. option_map_or (λ line. is_settled_source line.from (ends_of ends.now))
+        (slice_get lines.now p) true) places.now }
 {
     places
         .iter()
@@ -153,8 +162,10 @@ pub fn is_fed(graph: &Graph, ends: &[SourceEnd], place: u32) -> bool
 
 /// After how many completions it is known how the activity at the beginning of the data line at a place has ended.
 fn line_after(lines: &[DataLine], afters: &[u64], place: u32) -> u64
-    ensures later { (l : LineOf) (b : ℕ) → slice_get lines.now place ≡ Some l → l.from ≡ At b → after_of afters.now b ≤ result }
-    ensures least { (n : ℕ) → ((l : LineOf) (b : ℕ) → slice_get lines.now place ≡ Some l → l.from ≡ At b → after_of afters.now b ≤ n) → result ≤ n }
+    ensures later { (l : LineOf) (b : ℕ) → slice_get lines.now place ≡ Some l → l.from ≡ At b
+        → after_of afters.now b ≤ result }
+    ensures least { (n : ℕ) → ((l : LineOf) (b : ℕ) → slice_get lines.now place ≡ Some l → l.from ≡ At b
+        → after_of afters.now b ≤ n) → result ≤ n }
 {
     match lines.get(place as usize) {
         Some(line) => match line.from {
@@ -169,7 +180,8 @@ fn line_after(lines: &[DataLine], afters: &[u64], place: u32) -> u64
 pub fn fed_after(graph: &Graph, afters: &[u64], place: u32, since: u64) -> u64
     ensures later { since ≤ result }
     ensures lines { IsFeeding graph.now → AfterLines (out-Graph graph.now).lines afters.now place result }
-    ensures least { IsFeeding graph.now → (n : ℕ) → since ≤ n → AfterLines (out-Graph graph.now).lines afters.now place n → result ≤ n }
+    ensures least { IsFeeding graph.now → (n : ℕ) → since ≤ n
+        → AfterLines (out-Graph graph.now).lines afters.now place n → result ≤ n }
 {
     let mut known = since;
     for place in row(graph.wiring.feeding.as_slice(), place) {

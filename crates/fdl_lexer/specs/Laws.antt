@@ -6,11 +6,13 @@ use Rattle.fdl_lexer.specs.Tokens.{AreTokens, IsFirstBad, IsPlaced, IsStuckAt}
 
 -- two token lists of a text are one
 abbrev pub OneTokenList : Type 0
-OneTokenList = (text : List ℕ) (tokens others : List Token) → AreTokens text tokens → AreTokens text others → tokens ≡ others
+OneTokenList = (text : List ℕ) (tokens others : List Token) → AreTokens text tokens → AreTokens text others
+    → tokens ≡ others
 
 -- where no token begins, the text has no tokens
 abbrev pub NoTokensWhereStuck : Type 0
-NoTokensWhereStuck = (text : List ℕ) (tokens : List Token) (place : ℕ) → AreTokens text tokens → IsStuckAt text place → ⊥
+NoTokensWhereStuck = (text : List ℕ) (tokens : List Token) (place : ℕ) → AreTokens text tokens → IsStuckAt text place
+    → ⊥
 
 -- where a byte may not stand, the text has no tokens
 abbrev pub NoTokensWhereBad : Type 0

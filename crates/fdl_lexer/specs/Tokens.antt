@@ -1,5 +1,6 @@
 -- The tokens of a text: what each one's bytes are, and how they stand one after another.
-use Rattle.std.specs.Prelude.{◌≡◌, ◌≢◌, ℕ, ◌-◌, ◌^◌, ◌<◌, ◌≤◌, ◌==◌, min, true, false, List, [], ◌∷◌, length, take, drop, slice_index, slice_range, Option, Some, None, codes, if◌then◌else◌}
+use Rattle.std.specs.Prelude.{◌≡◌, ◌≢◌, ℕ, ◌-◌, ◌^◌, ◌<◌, ◌≤◌, ◌==◌, min, true, false, List, [], ◌∷◌, length, take}
+use Rattle.std.specs.Prelude.{drop, slice_index, slice_range, Option, Some, None, codes, if◌then◌else◌}
 use Rattle.std.specs.Str.Parse.{digits_value}
 use Rattle.std.specs.List.{prefix_len, AllPass}
 use Rattle.std.specs.Char.{is_ascii_digit, is_ascii_alphabetic}
@@ -39,12 +40,14 @@ AreFirst spelling n bytes = (take n bytes ≡ spelling) × (n ≡ length spellin
 -- the first n bytes spell this token, and no more of the bytes belong to it
 abbrev pub Spells : What → ℕ → List ℕ → Type 0
 Spells (Word code) n bytes =
-    (is_ascii_alphabetic (slice_index bytes 0) ≡ true) × (n ≡ prefix_len is_run_byte bytes) × (code_in keyword_rows (take n bytes) ≡ Some code)
+    (is_ascii_alphabetic (slice_index bytes 0) ≡ true) × (n ≡ prefix_len is_run_byte bytes)
+    × (code_in keyword_rows (take n bytes) ≡ Some code)
 Spells Name n bytes = (name : List ℕ) × (is_name name ≡ true) × AreFirst (single_quoted name) n bytes
 Spells Rc n bytes = AreFirst (codes "'_RC'") n bytes
 Spells Item n bytes = (item : List ℕ) × (is_item item ≡ true) × AreFirst (single_quoted item) n bytes
 Spells (Number value) n bytes =
-    (is_ascii_digit (slice_index bytes 0) ≡ true) × (n ≡ prefix_len is_ascii_digit bytes) × (n ≡ prefix_len is_run_byte bytes)
+    (is_ascii_digit (slice_index bytes 0) ≡ true) × (n ≡ prefix_len is_ascii_digit bytes)
+    × (n ≡ prefix_len is_run_byte bytes)
     × ((slice_index bytes 0 ≡ 48) → n ≡ 1) × (value ≡ min (digits_value 10 (take n bytes)) (2 ^ 64 - 1))
 Spells Text n bytes =
     (value : List ℕ) × (is_text value ≡ true) × AreFirst (double_quoted value) n bytes × (slice_index bytes n ≢ 34)

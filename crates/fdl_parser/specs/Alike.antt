@@ -40,7 +40,8 @@ mutual
 
 -- two conditions with their places
 pub data AlikeCondAt : CondAt → CondAt → Type 0 where
-  AtOnePlace : {x y : Cond} {p : ℕ} → AlikeCond x y → AlikeCondAt (record { place = p; cond = x }) (record { place = p; cond = y })
+  AtOnePlace : {x y : Cond} {p : ℕ} → AlikeCond x y
+      → AlikeCondAt (record { place = p; cond = x }) (record { place = p; cond = y })
 
 -- two transition conditions
 pub data AlikeWhen : WhenTree → WhenTree → Type 0 where
@@ -49,18 +50,52 @@ pub data AlikeWhen : WhenTree → WhenTree → Type 0 where
 
 -- two CONTROL lines
 pub data AlikeControl : ControlTree → ControlTree → Type 0 where
-  BothControl : {from to : NameAt} {p : ℕ} {x y : WhenTree} → AlikeWhen x y → AlikeControl (record { place = p; from = from; to = to; when = x }) (record { place = p; from = from; to = to; when = y })
+  BothControl : {from to : NameAt} {p : ℕ} {x y : WhenTree} → AlikeWhen x y
+      → AlikeControl (record { place = p; from = from; to = to; when = x })
+      (record { place = p; from = from; to = to; when = y })
 
 -- two attributes
 pub data AlikeAttr : AttrAt → AttrAt → Type 0 where
   EqualAttr : {x : AttrAt} → AlikeAttr x x
-  BothExit : {p : ℕ} {x y : CondAt} → AlikeCondAt x y → AlikeAttr (record { place = p; what = attr.Exit x }) (record { place = p; what = attr.Exit y })
+  BothExit : {p : ℕ} {x y : CondAt} → AlikeCondAt x y
+      → AlikeAttr (record { place = p; what = attr.Exit x }) (record { place = p; what = attr.Exit y })
 
 mutual
   -- two activities
   pub data AlikeActivity : ActivityTree → ActivityTree → Type 0 where
-    BothWork : {p : ℕ} {work : WorkTree} {name input output end : NameAt} {xs ys : List AttrAt} → Each AttrAt AlikeAttr xs ys → AlikeActivity (record { place = p; work = work; name = name; input = input; output = output; attrs = xs; end = end }) (record { place = p; work = work; name = name; input = input; output = output; attrs = ys; end = end })
-    BothBlock : {p : ℕ} {es fs : List ElementTree} {name input output end : NameAt} {xs ys : List AttrAt} → Each AttrAt AlikeAttr xs ys → AlikeElements es fs → AlikeActivity (record { place = p; work = work.Block es; name = name; input = input; output = output; attrs = xs; end = end }) (record { place = p; work = work.Block fs; name = name; input = input; output = output; attrs = ys; end = end })
+    BothWork : {p : ℕ} {work : WorkTree} {name input output end : NameAt} {xs ys : List AttrAt}
+        → Each AttrAt AlikeAttr xs ys → AlikeActivity (record {
+          place = p;
+          work = work;
+          name = name;
+          input =
+              input;
+          output = output;
+          attrs = xs;
+          end = end;
+        })
+        (record { place = p; work = work; name = name; input = input; output = output; attrs = ys; end = end })
+    BothBlock : {p : ℕ} {es fs : List ElementTree} {name input output end : NameAt} {xs ys : List AttrAt}
+        → Each AttrAt AlikeAttr xs ys → AlikeElements es fs
+        → AlikeActivity (record {
+          place = p;
+          work = work.Block es;
+          name = name;
+          input = input;
+          output = output;
+          attrs =
+              xs;
+          end = end;
+        }) (record {
+          place = p;
+          work = work.Block fs;
+          name = name;
+          input = input;
+          output = output;
+          attrs =
+              ys;
+          end = end;
+        })
 
   -- two elements
   pub data AlikeElement : ElementTree → ElementTree → Type 0 where
@@ -71,12 +106,30 @@ mutual
   -- the elements of two processes or blocks
   pub data AlikeElements : List ElementTree → List ElementTree → Type 0 where
     NoElements : AlikeElements [] []
-    OneElement : {x y : ElementTree} {xs ys : List ElementTree} → AlikeElement x y → AlikeElements xs ys → AlikeElements (x ∷ xs) (y ∷ ys)
+    OneElement : {x y : ElementTree} {xs ys : List ElementTree} → AlikeElement x y → AlikeElements xs ys
+        → AlikeElements (x ∷ xs) (y ∷ ys)
 
 -- two items
 pub data AlikeItem : ItemTree → ItemTree → Type 0 where
   EqualItem : {x : ItemTree} → AlikeItem x x
-  BothProcess : {p : ℕ} {es fs : List ElementTree} {name input output end : NameAt} → AlikeElements es fs → AlikeItem (item.Process (record { place = p; name = name; input = input; output = output; elements = es; end = end })) (item.Process (record { place = p; name = name; input = input; output = output; elements = fs; end = end }))
+  BothProcess : {p : ℕ} {es fs : List ElementTree} {name input output end : NameAt} → AlikeElements es fs
+      → AlikeItem (item.Process (record {
+        place = p;
+        name = name;
+        input = input;
+        output = output;
+        elements = es;
+        end =
+            end;
+      })) (item.Process (record {
+        place = p;
+        name = name;
+        input = input;
+        output = output;
+        elements = fs;
+        end =
+            end;
+      }))
 
 -- two trees
 abbrev pub AlikeTree : Tree → Tree → Type 0

@@ -37,13 +37,17 @@ pub data IsOperand : OperandTree → Tokens → Tokens → Type 0 where
 
 -- an operand behind another one: + operand | - operand
 pub data IsNextTerm : TermTree → Tokens → Tokens → Type 0 where
-  PlusTerm : {o : OperandTree} {p : ℕ} {a b c : Tokens} → IsMark mark.PLUS p a b → IsOperand o b c → IsNextTerm (record { minus = false; operand = o }) a c
-  MinusTerm : {o : OperandTree} {p : ℕ} {a b c : Tokens} → IsMark mark.MINUS p a b → IsOperand o b c → IsNextTerm (record { minus = true; operand = o }) a c
+  PlusTerm : {o : OperandTree} {p : ℕ} {a b c : Tokens} → IsMark mark.PLUS p a b → IsOperand o b c
+      → IsNextTerm (record { minus = false; operand = o }) a c
+  MinusTerm : {o : OperandTree} {p : ℕ} {a b c : Tokens} → IsMark mark.MINUS p a b → IsOperand o b c
+      → IsNextTerm (record { minus = true; operand = o }) a c
 
 -- a sum: operand ((+ | -) operand)*
 pub data IsSum : List TermTree → Tokens → Tokens → Type 0 where
-  FirstTerm : {o : OperandTree} {a b : Tokens} → IsOperand o a b → IsSum (record { minus = false; operand = o } ∷ []) a b
-  MoreTerms : {terms : List TermTree} {t : TermTree} {a b c : Tokens} → IsSum terms a b → IsNextTerm t b c → IsSum (terms ++ t ∷ []) a c
+  FirstTerm : {o : OperandTree} {a b : Tokens} → IsOperand o a b
+      → IsSum (record { minus = false; operand = o } ∷ []) a b
+  MoreTerms : {terms : List TermTree} {t : TermTree} {a b c : Tokens} → IsSum terms a b → IsNextTerm t b c
+      → IsSum (terms ++ t ∷ []) a c
 
 -- side = Text | sum
 pub data IsSide : Side → Tokens → Tokens → Type 0 where
@@ -52,7 +56,8 @@ pub data IsSide : Side → Tokens → Tokens → Type 0 where
 
 -- a comparison: side op side
 pub data IsComparison : Cond → Tokens → Tokens → Type 0 where
-  Compared : {l r : Side} {o : Operator} {p : ℕ} {a b c d : Tokens} → IsSide l a b → IsMark (mark_of o) p b c → IsSide r c d → IsComparison (cond.Compare l o r) a d
+  Compared : {l r : Side} {o : Operator} {p : ℕ} {a b c d : Tokens} → IsSide l a b → IsMark (mark_of o) p b c
+      → IsSide r c d → IsComparison (cond.Compare l o r) a d
 
 -- the first condition denies the second
 pub record Denies (denial denied : Cond) : Type 0 where
@@ -65,13 +70,17 @@ mutual
   -- neg = comparison | NOT neg | ( cond )
   pub data IsNegation : ℕ → Cond → Tokens → Tokens → Type 0 where
     Comparison : {n : ℕ} {x : Cond} {a b : Tokens} → IsComparison x a b → IsNegation n x a b
-    Denied : {n p : ℕ} {x y : Cond} {a b c : Tokens} → 0 < n → IsWord word.NOT p a b → IsNegation (n - 1) x b c → Denies y x → IsNegation n y a c
-    Bracketed : {n p q : ℕ} {x : Cond} {a b c d : Tokens} → 0 < n → IsMark mark.OPEN p a b → IsDisjunction (n - 1) x b c → IsMark mark.CLOSE q c d → IsNegation n x a d
+    Denied : {n p : ℕ} {x y : Cond} {a b c : Tokens} → 0 < n → IsWord word.NOT p a b → IsNegation (n - 1) x b c
+        → Denies y x → IsNegation n y a c
+    Bracketed : {n p q : ℕ} {x : Cond} {a b c d : Tokens} → 0 < n → IsMark mark.OPEN p a b → IsDisjunction (n - 1) x b c
+        → IsMark mark.CLOSE q c d → IsNegation n x a d
 
   -- two or more: neg AND neg (AND neg)*
   pub data AreConjoined : ℕ → List Cond → Tokens → Tokens → Type 0 where
-    TwoNegations : {n p : ℕ} {x y : Cond} {a b c d : Tokens} → IsNegation n x a b → IsWord word.AND p b c → IsNegation n y c d → AreConjoined n (x ∷ y ∷ []) a d
-    MoreNegations : {n p : ℕ} {xs : List Cond} {x : Cond} {a b c d : Tokens} → AreConjoined n xs a b → IsWord word.AND p b c → IsNegation n x c d → AreConjoined n (xs ++ x ∷ []) a d
+    TwoNegations : {n p : ℕ} {x y : Cond} {a b c d : Tokens} → IsNegation n x a b → IsWord word.AND p b c
+        → IsNegation n y c d → AreConjoined n (x ∷ y ∷ []) a d
+    MoreNegations : {n p : ℕ} {xs : List Cond} {x : Cond} {a b c d : Tokens} → AreConjoined n xs a b
+        → IsWord word.AND p b c → IsNegation n x c d → AreConjoined n (xs ++ x ∷ []) a d
 
   -- conj = neg (AND neg)*
   pub data IsConjunction : ℕ → Cond → Tokens → Tokens → Type 0 where
@@ -80,8 +89,10 @@ mutual
 
   -- two or more: conj OR conj (OR conj)*
   pub data AreDisjoined : ℕ → List Cond → Tokens → Tokens → Type 0 where
-    TwoConjunctions : {n p : ℕ} {x y : Cond} {a b c d : Tokens} → IsConjunction n x a b → IsWord word.OR p b c → IsConjunction n y c d → AreDisjoined n (x ∷ y ∷ []) a d
-    MoreConjunctions : {n p : ℕ} {xs : List Cond} {x : Cond} {a b c d : Tokens} → AreDisjoined n xs a b → IsWord word.OR p b c → IsConjunction n x c d → AreDisjoined n (xs ++ x ∷ []) a d
+    TwoConjunctions : {n p : ℕ} {x y : Cond} {a b c d : Tokens} → IsConjunction n x a b → IsWord word.OR p b c
+        → IsConjunction n y c d → AreDisjoined n (x ∷ y ∷ []) a d
+    MoreConjunctions : {n p : ℕ} {xs : List Cond} {x : Cond} {a b c d : Tokens} → AreDisjoined n xs a b
+        → IsWord word.OR p b c → IsConjunction n x c d → AreDisjoined n (xs ++ x ∷ []) a d
 
   -- cond = conj (OR conj)*
   pub data IsDisjunction : ℕ → Cond → Tokens → Tokens → Type 0 where
@@ -90,4 +101,5 @@ mutual
 
 -- ( cond ), behind WHEN
 pub data IsCondition : CondAt → Tokens → Tokens → Type 0 where
-  Whole : {x : Cond} {p q : ℕ} {a b c d : Tokens} → IsMark mark.OPEN p a b → IsDisjunction condition_levels x b c → IsMark mark.CLOSE q c d → IsCondition (record { place = p; cond = x }) a d
+  Whole : {x : Cond} {p q : ℕ} {a b c d : Tokens} → IsMark mark.OPEN p a b → IsDisjunction condition_levels x b c
+      → IsMark mark.CLOSE q c d → IsCondition (record { place = p; cond = x }) a d

@@ -30,25 +30,32 @@ pub data IsKind : KindTree → Tokens → Tokens → Type 0 where
 -- the count of an array: [ ( number ) ]
 pub data IsCount : Option NumberAt → Tokens → Tokens → Type 0 where
   NoCount : {a : Tokens} → IsCount None a a
-  OneCount : {n : NumberAt} {p q : ℕ} {a b c d : Tokens} → IsMark mark.OPEN p a b → IsNumber n b c → IsMark mark.CLOSE q c d → IsCount (Some n) a d
+  OneCount : {n : NumberAt} {p q : ℕ} {a b c d : Tokens} → IsMark mark.OPEN p a b → IsNumber n b c
+      → IsMark mark.CLOSE q c d → IsCount (Some n) a d
 
 -- member = name : kind [ ( number ) ] ;
 pub data IsMember : Member → Tokens → Tokens → Type 0 where
-  OneMember : {name : NameAt} {k : KindTree} {count : Option NumberAt} {p q : ℕ} {a b c d e f : Tokens} → IsName name a b → IsMark mark.COLON p b c → IsKind k c d → IsCount count d e → IsMark mark.SEMICOLON q e f → IsMember (record { name = name; kind = k; count = count }) a f
+  OneMember : {name : NameAt} {k : KindTree} {count : Option NumberAt} {p q : ℕ} {a b c d e f : Tokens}
+      → IsName name a b → IsMark mark.COLON p b c → IsKind k c d → IsCount count d e → IsMark mark.SEMICOLON q e f
+      → IsMember (record { name = name; kind = k; count = count }) a f
 
 -- member*
 pub data AreMembers : List Member → Tokens → Tokens → Type 0 where
   NoMember : {a : Tokens} → AreMembers [] a a
-  MoreMembers : {xs : List Member} {x : Member} {a b c : Tokens} → AreMembers xs a b → IsMember x b c → AreMembers (xs ++ x ∷ []) a c
+  MoreMembers : {xs : List Member} {x : Member} {a b c : Tokens} → AreMembers xs a b → IsMember x b c
+      → AreMembers (xs ++ x ∷ []) a c
 
 -- STRUCTURE name member* END name
 pub data IsStructure : StructDef → Tokens → Tokens → Type 0 where
-  OneStructure : {name end : NameAt} {members : List Member} {p : ℕ} {a b c d e : Tokens} → IsWord word.STRUCTURE p a b → IsName name b c → AreMembers members c d → IsClosing end d e → IsStructure (record { name = name; members = members; end = end }) a e
+  OneStructure : {name end : NameAt} {members : List Member} {p : ℕ} {a b c d e : Tokens} → IsWord word.STRUCTURE p a b
+      → IsName name b c → AreMembers members c d → IsClosing end d e
+      → IsStructure (record { name = name; members = members; end = end }) a e
 
 -- ROLES name (, name)*
 pub data AreNamed : List NameAt → Tokens → Tokens → Type 0 where
   FirstRole : {n : NameAt} {p : ℕ} {a b c : Tokens} → IsWord word.ROLES p a b → IsName n b c → AreNamed (n ∷ []) a c
-  NextRole : {ns : List NameAt} {n : NameAt} {p : ℕ} {a b c d : Tokens} → AreNamed ns a b → IsMark mark.COMMA p b c → IsName n c d → AreNamed (ns ++ n ∷ []) a d
+  NextRole : {ns : List NameAt} {n : NameAt} {p : ℕ} {a b c d : Tokens} → AreNamed ns a b → IsMark mark.COMMA p b c
+      → IsName n c d → AreNamed (ns ++ n ∷ []) a d
 
 -- the roles of a person, if there are any
 pub data AreRoles : List NameAt → Tokens → Tokens → Type 0 where
@@ -57,11 +64,17 @@ pub data AreRoles : List NameAt → Tokens → Tokens → Type 0 where
 
 -- PERSON name [ROLES name (, name)*] END name
 pub data IsPerson : PersonTree → Tokens → Tokens → Type 0 where
-  OnePerson : {name end : NameAt} {roles : List NameAt} {p : ℕ} {a b c d e : Tokens} → IsWord word.PERSON p a b → IsName name b c → AreRoles roles c d → IsClosing end d e → IsPerson (record { name = name; roles = roles; end = end }) a e
+  OnePerson : {name end : NameAt} {roles : List NameAt} {p : ℕ} {a b c d e : Tokens} → IsWord word.PERSON p a b
+      → IsName name b c → AreRoles roles c d → IsClosing end d e
+      → IsPerson (record { name = name; roles = roles; end = end }) a e
 
 -- PROCESS name ( name , name ) element* END name
 pub data IsProcess : ProcessTree → Tokens → Tokens → Type 0 where
-  OneProcess : {name input output end : NameAt} {elements : List ElementTree} {p : ℕ} {a b c d e f : Tokens} → IsWord word.PROCESS p a b → IsName name b c → AreStructures input output c d → AreElements block_levels elements d e → IsClosing end e f → IsProcess (record { place = p; name = name; input = input; output = output; elements = elements; end = end }) a f
+  OneProcess : {name input output end : NameAt} {elements : List ElementTree} {p : ℕ} {a b c d e f : Tokens}
+      → IsWord word.PROCESS p a b → IsName name b c → AreStructures input output c d
+      → AreElements block_levels elements d e → IsClosing end e f
+      → IsProcess (record { place = p; name = name; input = input; output = output; elements = elements; end = end }) a
+      f
 
 -- item = structure | person | process
 pub data IsItem : ItemTree → Tokens → Tokens → Type 0 where
@@ -72,7 +85,8 @@ pub data IsItem : ItemTree → Tokens → Tokens → Type 0 where
 -- item*
 pub data AreItems : List ItemTree → Tokens → Tokens → Type 0 where
   NoItem : {a : Tokens} → AreItems [] a a
-  MoreItems : {xs : List ItemTree} {x : ItemTree} {a b c : Tokens} → AreItems xs a b → IsItem x b c → AreItems (xs ++ x ∷ []) a c
+  MoreItems : {xs : List ItemTree} {x : ItemTree} {a b c : Tokens} → AreItems xs a b → IsItem x b c
+      → AreItems (xs ++ x ∷ []) a c
 
 -- text = item*: this is the tree of these tokens
 abbrev pub IsTree : Tree → Tokens → Type 0

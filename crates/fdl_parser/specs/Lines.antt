@@ -21,11 +21,14 @@ use Rattle.fdl_parser.specs.Conditions.{IsCondition}
 pub data IsTransition : WhenTree → Tokens → Tokens → Type 0 where
   Unconditional : {a : Tokens} → IsTransition when.Always a a
   Otherwise : {p : ℕ} {a b : Tokens} → IsWord word.OTHERWISE p a b → IsTransition when.Otherwise a b
-  Conditional : {x : CondAt} {p : ℕ} {a b c : Tokens} → IsWord word.WHEN p a b → IsCondition x b c → IsTransition (when.Cond x) a c
+  Conditional : {x : CondAt} {p : ℕ} {a b c : Tokens} → IsWord word.WHEN p a b → IsCondition x b c
+      → IsTransition (when.Cond x) a c
 
 -- control = CONTROL FROM name TO name [WHEN ( cond ) | OTHERWISE]
 pub data IsControl : ControlTree → Tokens → Tokens → Type 0 where
-  ControlLine : {from to : NameAt} {when : WhenTree} {p q r : ℕ} {a b c d e f g : Tokens} → IsWord word.CONTROL p a b → IsWord word.FROM q b c → IsName from c d → IsWord word.TO r d e → IsName to e f → IsTransition when f g → IsControl (record { place = p; from = from; to = to; when = when }) a g
+  ControlLine : {from to : NameAt} {when : WhenTree} {p q r : ℕ} {a b c d e f g : Tokens} → IsWord word.CONTROL p a b
+      → IsWord word.FROM q b c → IsName from c d → IsWord word.TO r d e → IsName to e f → IsTransition when f g
+      → IsControl (record { place = p; from = from; to = to; when = when }) a g
 
 -- an end of a DATA line: the word of the border | name
 pub data IsEnd (border : ℕ) : EndTree → Tokens → Tokens → Type 0 where
@@ -34,18 +37,23 @@ pub data IsEnd (border : ℕ) : EndTree → Tokens → Tokens → Type 0 where
 
 -- FROM (SOURCE | name) TO (SINK | name) | LOOP name
 pub data AreEnds : EndsTree → Tokens → Tokens → Type 0 where
-  LoopEnds : {n : NameAt} {p : ℕ} {a b c : Tokens} → IsWord word.LOOP p a b → IsName n b c → AreEnds (ends_of.Loop n) a c
-  LineEnds : {from to : EndTree} {p q : ℕ} {a b c d e : Tokens} → IsWord word.FROM p a b → IsEnd word.SOURCE from b c → IsWord word.TO q c d → IsEnd word.SINK to d e → AreEnds (ends_of.Line from to) a e
+  LoopEnds : {n : NameAt} {p : ℕ} {a b c : Tokens} → IsWord word.LOOP p a b → IsName n b c
+      → AreEnds (ends_of.Loop n) a c
+  LineEnds : {from to : EndTree} {p q : ℕ} {a b c d e : Tokens} → IsWord word.FROM p a b → IsEnd word.SOURCE from b c
+      → IsWord word.TO q c d → IsEnd word.SINK to d e → AreEnds (ends_of.Line from to) a e
 
 -- leaf TO leaf
 pub data IsMap : MapTree → Tokens → Tokens → Type 0 where
-  LeafToLeaf : {from to : LeafAt} {p : ℕ} {a b c d : Tokens} → IsLeaf from a b → IsWord word.TO p b c → IsLeaf to c d → IsMap (record { from = from; to = to }) a d
+  LeafToLeaf : {from to : LeafAt} {p : ℕ} {a b c d : Tokens} → IsLeaf from a b → IsWord word.TO p b c → IsLeaf to c d
+      → IsMap (record { from = from; to = to }) a d
 
 -- maps = MAP leaf TO leaf (, leaf TO leaf)*
 pub data AreMaps : List MapTree → Tokens → Tokens → Type 0 where
   FirstMap : {m : MapTree} {p : ℕ} {a b c : Tokens} → IsWord word.MAP p a b → IsMap m b c → AreMaps (m ∷ []) a c
-  MoreMaps : {ms : List MapTree} {m : MapTree} {p : ℕ} {a b c d : Tokens} → AreMaps ms a b → IsMark mark.COMMA p b c → IsMap m c d → AreMaps (ms ++ m ∷ []) a d
+  MoreMaps : {ms : List MapTree} {m : MapTree} {p : ℕ} {a b c d : Tokens} → AreMaps ms a b → IsMark mark.COMMA p b c
+      → IsMap m c d → AreMaps (ms ++ m ∷ []) a d
 
 -- dataline = DATA ends maps
 pub data IsDataLine : DataTree → Tokens → Tokens → Type 0 where
-  DataLine : {ends : EndsTree} {maps : List MapTree} {p : ℕ} {a b c d : Tokens} → IsWord word.DATA p a b → AreEnds ends b c → AreMaps maps c d → IsDataLine (record { place = p; ends = ends; maps = maps }) a d
+  DataLine : {ends : EndsTree} {maps : List MapTree} {p : ℕ} {a b c d : Tokens} → IsWord word.DATA p a b
+      → AreEnds ends b c → AreMaps maps c d → IsDataLine (record { place = p; ends = ends; maps = maps }) a d

@@ -28,11 +28,14 @@ pub record Refuses (says : Tokens → Type 0) (all rest : Tokens) (e : SyntaxFau
 abbrev pub SomeTree : Tokens → Type 0
 SomeTree row = (tree : Tree) × IsTree tree row
 
--- the place that the fault names for tokens of the lexer is that of the first with which they begin no text, or the text's
+-- the place that the fault names for tokens of the lexer is that of the first with which they begin no text, or the
+-- text's
 -- end, where they begin one and have no tree
 abbrev pub RefusesFirst : List ℕ → List Token → SyntaxFault → Type 0
 RefusesFirst text tokens NoMemory = Unit {0}
-RefusesFirst text tokens (At place) = AreTokens text tokens → (rest : Tokens) × (end : ℕ) × IsRest (reading text tokens) rest end × (place ≡ place_in rest end) × IsFirstFault SomeTree (spell text tokens) rest
+RefusesFirst text tokens (At place) = AreTokens text tokens
+    → (rest : Tokens) × (end : ℕ) × IsRest (reading text tokens) rest end × (place ≡ place_in rest end)
+    × IsFirstFault SomeTree (spell text tokens) rest
 
 -- tokens of the lexer that are refused at a place have no tree
 abbrev pub HaveNoTree : List ℕ → List Token → SyntaxFault → Type 0

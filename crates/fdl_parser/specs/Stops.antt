@@ -34,11 +34,13 @@ common_kinds = what.Word word.WHEN ∷ what.Word word.EXIT ∷ []
 
 -- an attribute of a program activity
 abbrev pub attribute_kinds : List What
-attribute_kinds = what.Word word.WHEN ∷ what.Word word.EXIT ∷ what.Word word.START ∷ what.Word word.EXPIRES ∷ what.Word word.DONE_BY ∷ []
+attribute_kinds = what.Word word.WHEN ∷ what.Word word.EXIT ∷ what.Word word.START ∷ what.Word word.EXPIRES ∷ what.Word
+    word.DONE_BY ∷ []
 
 -- an element
 abbrev pub element_kinds : List What
-element_kinds = what.Word word.BLOCK ∷ what.Word word.CONTROL ∷ what.Word word.DATA ∷ what.Word word.PROCESS_ACTIVITY ∷ what.Word word.PROGRAM_ACTIVITY ∷ []
+element_kinds = what.Word word.BLOCK ∷ what.Word word.CONTROL ∷ what.Word word.DATA ∷ what.Word word.PROCESS_ACTIVITY ∷
+    what.Word word.PROGRAM_ACTIVITY ∷ []
 
 -- a token of one of these kinds comes next
 abbrev pub OneComes : List What → Tokens → Type 0
@@ -76,7 +78,8 @@ pub record IsTaken (behind : Tokens → Type 0) (form : Tokens → Tokens → Ty
   pub front : Tokens
   pub cut : before ≡ front ++ after
   pub reads : (rest : Tokens) → form (front ++ rest) rest
-  pub only : (rest other : Tokens) → first_kind rest ≡ first_kind after → behind other → form (front ++ rest) other → other ≡ rest
+  pub only : (rest other : Tokens) → first_kind rest ≡ first_kind after → behind other → form (front ++ rest) other
+      → other ≡ rest
 
 -- reading a form stops here: the tokens before this place begin the form, and with the token at this place
 -- they begin it no more; where none is left, they don't make it up
@@ -89,5 +92,6 @@ pub record IsStop (behind : Tokens → Type 0) (form : Tokens → Tokens → Typ
   pub blocked : (others rest : Tokens) → behind rest → form (front ++ first_and after others) rest → ⊥
 
 -- where the fault names a place, tokens of the lexer stop there
-pub record Stops (behind : Tokens → Type 0) (form : Tokens → Tokens → Type 0) (before after : Tokens) (e : SyntaxFault) : Type 0 where
+pub record Stops (behind : Tokens → Type 0) (form : Tokens → Tokens → Type 0) (before after : Tokens)
+    (e : SyntaxFault) : Type 0 where
   pub stop : (place : ℕ) → e ≡ At place → AreQuoted before → IsStop behind form before after

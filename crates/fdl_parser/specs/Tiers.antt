@@ -1,4 +1,5 @@
--- How tightly a token goes on with what stands before it: what may stand behind a form goes on less tightly than its parts.
+-- How tightly a token goes on with what stands before it: what may stand behind a form goes on less tightly than its
+-- parts.
 use Rattle.std.specs.Prelude.{ℕ, ◌<◌, ◌==◌, ◌||◌, [], ◌∷◌, if◌then◌else◌}
 use Rattle.flow_table.specs.declared.keyword.TheConstants as word
 use Rattle.fdl_lexer.specs.declared.kinds.What.{What}
@@ -11,8 +12,10 @@ abbrev pub word_tier : ℕ → ℕ
 word_tier w =
     if w == word.AND then 7
     else (if w == word.OR then 6
-    else (if w == word.WHEN || w == word.OTHERWISE || w == word.EXIT || w == word.START || w == word.EXPIRES || w == word.DONE_BY || w == word.ROLES then 4
-    else (if w == word.PROGRAM_ACTIVITY || w == word.PROCESS_ACTIVITY || w == word.BLOCK || w == word.CONTROL || w == word.DATA then 3
+    else (if w == word.WHEN || w == word.OTHERWISE || w == word.EXIT || w == word.START || w == word.EXPIRES || w ==
+    word.DONE_BY || w == word.ROLES then 4
+    else (if w == word.PROGRAM_ACTIVITY || w == word.PROCESS_ACTIVITY || w == word.BLOCK || w == word.CONTROL || w ==
+    word.DATA then 3
     else (if w == word.STRUCTURE || w == word.PERSON || w == word.PROCESS then 1
     else 0))))
 

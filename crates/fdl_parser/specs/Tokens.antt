@@ -100,7 +100,8 @@ pub record IsNumber (number : NumberAt) (before after : Tokens) : Type 0 where
 -- this number comes first, with a sign or without: [-] number
 pub data IsSigned : NumberAt → Tokens → Tokens → Type 0 where
   Unsigned : {n : NumberAt} {a b : Tokens} → IsNumber n a b → IsSigned n a b
-  Negative : {n : NumberAt} {p : ℕ} {a b c : Tokens} → IsMark mark.MINUS p a b → IsNumber n b c → IsSigned (record { minus = Some p; size = n.size; place = n.place }) a c
+  Negative : {n : NumberAt} {p : ℕ} {a b c : Tokens} → IsMark mark.MINUS p a b → IsNumber n b c
+      → IsSigned (record { minus = Some p; size = n.size; place = n.place }) a c
 
 -- a leaf's first step, at this place: name | '_RC'
 pub data IsFirstStep : StepTree → ℕ → Tokens → Tokens → Type 0 where
@@ -109,10 +110,15 @@ pub data IsFirstStep : StepTree → ℕ → Tokens → Tokens → Type 0 where
 
 -- a leaf's next step: . name | [ number ]
 pub data IsNextStep : StepTree → Tokens → Tokens → Type 0 where
-  MemberNext : {n : NameAt} {p : ℕ} {a b c : Tokens} → IsMark mark.DOT p a b → IsName n b c → IsNextStep (step.Member n.name) a c
-  PlaceNext : {n : NumberAt} {p q : ℕ} {a b c d : Tokens} → IsMark mark.OPEN_BRACKET p a b → IsNumber n b c → IsMark mark.CLOSE_BRACKET q c d → IsNextStep (step.Place n.size) a d
+  MemberNext : {n : NameAt} {p : ℕ} {a b c : Tokens} → IsMark mark.DOT p a b → IsName n b c
+      → IsNextStep (step.Member n.name) a c
+  PlaceNext : {n : NumberAt} {p q : ℕ} {a b c d : Tokens} → IsMark mark.OPEN_BRACKET p a b → IsNumber n b c
+      → IsMark mark.CLOSE_BRACKET q c d → IsNextStep (step.Place n.size) a d
 
 -- a leaf: first step (next step)*
 pub data IsLeaf : LeafAt → Tokens → Tokens → Type 0 where
-  FirstStep : {s : StepTree} {p : ℕ} {a b : Tokens} → IsFirstStep s p a b → IsLeaf (record { steps = s ∷ []; place = p }) a b
-  MoreSteps : {steps : List StepTree} {s : StepTree} {p : ℕ} {a b c : Tokens} → IsLeaf (record { steps = steps; place = p }) a b → IsNextStep s b c → IsLeaf (record { steps = steps ++ s ∷ []; place = p }) a c
+  FirstStep : {s : StepTree} {p : ℕ} {a b : Tokens} → IsFirstStep s p a b
+      → IsLeaf (record { steps = s ∷ []; place = p }) a b
+  MoreSteps : {steps : List StepTree} {s : StepTree} {p : ℕ} {a b c : Tokens}
+      → IsLeaf (record { steps = steps; place = p }) a b → IsNextStep s b c
+      → IsLeaf (record { steps = steps ++ s ∷ []; place = p }) a c

@@ -1,10 +1,13 @@
 //! Activities with their attributes, and the elements of a process or a block.
 ghost use Rattle.std.specs.Prelude.{◌≡◌, ◌<◌, ◌≤◌, length, IfOk, IfErr, true, false};
 ghost use Rattle.fdl_parser.specs.Faults.{Names};
-ghost use Rattle.fdl_parser.specs.Stops.{Reads, Structures, Anything, common_kinds, attribute_kinds, element_kinds, OneComes, NoneComes, IsTaken, Stops};
+ghost use Rattle.fdl_parser.specs.Stops.{Reads, Structures, Anything, common_kinds, attribute_kinds, element_kinds};
+ghost use Rattle.fdl_parser.specs.Stops.{OneComes, NoneComes, IsTaken, Stops};
 ghost use Rattle.fdl_parser.specs.Tiers.{Looser};
 ghost use Rattle.fdl_parser.specs.Tokens.{StaysWithin};
-ghost use Rattle.fdl_parser.specs.Activities.{AreStructures, IsClosing, IsJoin, ConnectorsTrue, IsCommonAttribute, AreCommonAttributes, IsDoneBy, IsStart, IsAttribute, AreAttributes, IsProgramActivity, IsProcessActivity, IsBlock, IsElement, AreElements};
+ghost use Rattle.fdl_parser.specs.Activities.{AreStructures, IsClosing, IsJoin, ConnectorsTrue, IsCommonAttribute};
+ghost use Rattle.fdl_parser.specs.Activities.{AreCommonAttributes, IsDoneBy, IsStart, IsAttribute, AreAttributes};
+ghost use Rattle.fdl_parser.specs.Activities.{IsProgramActivity, IsProcessActivity, IsBlock, IsElement, AreElements};
 
 use crate::cursor::{Cursor, SyntaxFault, mark};
 use flow_model::{ActivityTree, AttrAt, AttrTree, ElementTree, JoinTree, List, NameAt, WorkTree};
@@ -277,7 +280,8 @@ impl<'a> Cursor<'a> {
         ensures read { IfOk result (λ activity. IsBlock levels activity self.old.left self.new.left) }
         ensures names { IfErr result (Names self.new) }
         ensures level { levels ≡ 0 → self.new ≡ self.old }
-        ensures stops { 0 < levels → IfErr result (Stops Anything (Reads (IsBlock levels)) self.old.left self.new.left) }
+        ensures stops { 0 < levels → IfErr result (Stops Anything
+            (Reads (IsBlock levels)) self.old.left self.new.left) }
     {
         if levels == 0 {
             return Err(self.fault());

@@ -5,7 +5,8 @@ ghost use Rattle.fdl_parser.specs.Faults.{Names};
 ghost use Rattle.fdl_parser.specs.Stops.{Reads, Anything, OneComes, NoneComes, IsTaken, Stops};
 ghost use Rattle.fdl_parser.specs.Tiers.{Looser};
 ghost use Rattle.fdl_parser.specs.Tokens.{StaysWithin};
-ghost use Rattle.fdl_parser.specs.Conditions.{mark_of, Denies, IsOperand, IsNextTerm, IsSide, IsComparison, IsNegation, IsConjunction, IsDisjunction, IsCondition};
+ghost use Rattle.fdl_parser.specs.Conditions.{mark_of, Denies, IsOperand, IsNextTerm, IsSide, IsComparison, IsNegation};
+ghost use Rattle.fdl_parser.specs.Conditions.{IsConjunction, IsDisjunction, IsCondition};
 
 use crate::cursor::{Cursor, SyntaxFault, mark};
 use fdl_lexer::What;
@@ -181,7 +182,8 @@ impl<'a> Cursor<'a> {
         ensures within { StaysWithin self.old self.new }
         ensures read { IfOk result (λ cond. IsConjunction levels cond self.old.left self.new.left) }
         ensures names { IfErr result (Names self.new) }
-        ensures taken { IfOk result (λ _. IsTaken (Looser 7) (Reads (IsConjunction levels)) self.old.left self.new.left) }
+        ensures taken { IfOk result (λ _. IsTaken (Looser 7)
+            (Reads (IsConjunction levels)) self.old.left self.new.left) }
         ensures stops { IfErr result (Stops (Looser 7) (Reads (IsConjunction levels)) self.old.left self.new.left) }
     {
         let first = self.negation(levels)?;
@@ -205,7 +207,8 @@ impl<'a> Cursor<'a> {
         ensures within { StaysWithin self.old self.new }
         ensures read { IfOk result (λ cond. IsDisjunction levels cond self.old.left self.new.left) }
         ensures names { IfErr result (Names self.new) }
-        ensures taken { IfOk result (λ _. IsTaken (Looser 6) (Reads (IsDisjunction levels)) self.old.left self.new.left) }
+        ensures taken { IfOk result (λ _. IsTaken (Looser 6)
+            (Reads (IsDisjunction levels)) self.old.left self.new.left) }
         ensures stops { IfErr result (Stops (Looser 6) (Reads (IsDisjunction levels)) self.old.left self.new.left) }
     {
         let first = self.conjunction(levels)?;

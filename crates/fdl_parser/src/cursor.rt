@@ -1,10 +1,12 @@
 //! The tokens that are left to read, and the parts that one or two of them make.
-ghost use Rattle.std.specs.Prelude.{◌≡◌, ◌≢◌, ◌<◌, ◌≤◌, ◌+◌, List as Seq, ℕ, length, slice_range, ◌∷◌, true, false, IfOk, IfErr, IfSome, ◌==◌};
+ghost use Rattle.std.specs.Prelude.{◌≡◌, ◌≢◌, ◌<◌, ◌≤◌, ◌+◌, List as Seq, ℕ, length, slice_range, ◌∷◌, true, false};
+ghost use Rattle.std.specs.Prelude.{IfOk, IfErr, IfSome, ◌==◌};
 ghost use Rattle.fdl_lexer.specs.Bytes.{single_quoted};
 ghost use Rattle.fdl_parser.specs.declared.cursor.SyntaxFault.TheVariants.{NoMemory};
 ghost use Rattle.fdl_parser.specs.Faults.{Names};
 ghost use Rattle.fdl_parser.specs.Stops.{Reads, Anything, Quotes, FirstSteps, StepComes, NoStep, IsTaken, Stops};
-ghost use Rattle.fdl_parser.specs.Tokens.{reading, StaysWithin, first_kind, HasBytes, IsToken, IsName, IsQuote, IsItemToken, IsNumber, IsSigned, IsFirstStep, IsNextStep, IsLeaf};
+ghost use Rattle.fdl_parser.specs.Tokens.{reading, StaysWithin, first_kind, HasBytes, IsToken, IsName, IsQuote};
+ghost use Rattle.fdl_parser.specs.Tokens.{IsItemToken, IsNumber, IsSigned, IsFirstStep, IsNextStep, IsLeaf};
 
 use fdl_lexer::{Token, What, text_value};
 use flow_model::{Bytes, LeafAt, List, Name, NameAt, NameFault, NumberAt, StepTree, Txt};
@@ -166,7 +168,8 @@ impl<'a> Cursor<'a> {
         ensures shorter { IfOk result (λ _. length self.new.left < length self.old.left) }
         ensures within { StaysWithin self.old self.new }
         ensures read { IfOk result (λ place. IsToken what place self.old.left self.new.left) }
-        ensures refused { IfErr result (λ e. Names self.old e × (self.new ≡ self.old) × (first_kind self.old.left ≢ Some what)) }
+        ensures refused { IfErr result (λ e. Names self.old e × (self.new ≡ self.old)
+            × (first_kind self.old.left ≢ Some what)) }
     {
         match self.left {
             [token, rest @ ..] if token.what == what => {
@@ -182,7 +185,8 @@ impl<'a> Cursor<'a> {
         ensures shorter { IfOk result (λ _. length self.new.left < length self.old.left) }
         ensures within { StaysWithin self.old self.new }
         ensures read { IfOk result (λ place. IsToken (What.Word word) place self.old.left self.new.left) }
-        ensures refused { IfErr result (λ e. Names self.old e × (self.new ≡ self.old) × (first_kind self.old.left ≢ Some (What.Word word))) }
+        ensures refused { IfErr result (λ e. Names self.old e × (self.new ≡ self.old)
+            × (first_kind self.old.left ≢ Some (What.Word word))) }
     {
         self.token(What::Word(word))
     }
@@ -192,7 +196,8 @@ impl<'a> Cursor<'a> {
         ensures shorter { IfOk result (λ _. length self.new.left < length self.old.left) }
         ensures within { StaysWithin self.old self.new }
         ensures read { IfOk result (λ place. IsToken (What.Mark mark) place self.old.left self.new.left) }
-        ensures refused { IfErr result (λ e. Names self.old e × (self.new ≡ self.old) × (first_kind self.old.left ≢ Some (What.Mark mark))) }
+        ensures refused { IfErr result (λ e. Names self.old e × (self.new ≡ self.old)
+            × (first_kind self.old.left ≢ Some (What.Mark mark))) }
     {
         self.token(What::Mark(mark))
     }

@@ -6,7 +6,8 @@ ghost use Rattle.fdl_parser.specs.Refusing.{RefusesFirst, HaveNoTree};
 ghost use Rattle.fdl_parser.specs.Stops.{Reads, Anything, IsTaken, Stops};
 ghost use Rattle.fdl_parser.specs.Tiers.{Looser};
 ghost use Rattle.fdl_parser.specs.Tokens.{spell, reading, StaysWithin};
-ghost use Rattle.fdl_parser.specs.Items.{IsKind, IsCount, IsMember, IsStructure, AreRoles, IsPerson, IsProcess, IsItem, IsTree};
+ghost use Rattle.fdl_parser.specs.Items.{IsKind, IsCount, IsMember, IsStructure, AreRoles, IsPerson, IsProcess, IsItem};
+ghost use Rattle.fdl_parser.specs.Items.{IsTree};
 ghost use Rattle.fdl_parser.specs.Alike.{AlikeTree};
 
 use crate::activities::LEVELS;
@@ -176,7 +177,8 @@ impl<'a> Cursor<'a> {
 /// the grammar, or else the text's length.
 pub fn parse(alloc: Global, text: &[u8], tokens: &Tokens) -> Result<Tree, SyntaxFault>
     ensures tree { IfOk result (λ tree. IsTree tree (spell text.now tokens.now.items)) }
-    ensures one { IfOk result (λ tree. AreTokens text.now tokens.now.items → (other : Tree) → IsTree other (spell text.now tokens.now.items) → AlikeTree tree other) }
+    ensures one { IfOk result (λ tree. AreTokens text.now tokens.now.items → (other : Tree)
+        → IsTree other (spell text.now tokens.now.items) → AlikeTree tree other) }
     ensures names { IfErr result (NamesOne (reading text.now tokens.now.items)) }
     ensures first { IfErr result (RefusesFirst text.now tokens.now.items) }
     ensures none { IfErr result (HaveNoTree text.now tokens.now.items) }

@@ -12,7 +12,8 @@ use Rattle.flow_model.specs.declared.trees.ItemTree.{ItemTree}
 use Rattle.flow_model.specs.declared.trees.ItemTree.TheVariants as item
 use Rattle.flow_model.specs.declared.trees.Tree.{Tree}
 use Rattle.fdl_print.specs.Pieces.{Piece, Stop, word, name, text}
-use Rattle.fdl_print.specs.Elements.{closing_pieces, heading_pieces, attr_line, control_pieces, data_pieces, structure_pieces, person_pieces}
+use Rattle.fdl_print.specs.Elements.{closing_pieces, heading_pieces, attr_line, control_pieces, data_pieces}
+use Rattle.fdl_print.specs.Elements.{structure_pieces, person_pieces}
 
 -- what an activity does: the code of its first word, the process that it calls, and the elements of its block
 pub record Worked : Type 0 where
@@ -23,13 +24,24 @@ pub record Worked : Type 0 where
 -- what an activity does, from the tokens of the elements inside
 abbrev pub worked_by : WorkTree-F (List Piece) Worked (List Piece) → Worked
 worked_by WorkTree-F.Program = record { opening = keyword.PROGRAM_ACTIVITY; called = []; inside = [] }
-worked_by (WorkTree-F.Process process) = record { opening = keyword.PROCESS_ACTIVITY; called = word keyword.PROCESS ∷ name process.name ∷ []; inside = [] }
-worked_by (WorkTree-F.Block elements) = record { opening = keyword.BLOCK; called = []; inside = flat_map (λ pieces. pieces) elements }
+worked_by (WorkTree-F.Process process) = record {
+  opening = keyword.PROCESS_ACTIVITY;
+  called =
+      word keyword.PROCESS ∷ name process.name ∷ [];
+  inside = [];
+}
+worked_by (WorkTree-F.Block elements) = record {
+  opening = keyword.BLOCK;
+  called = [];
+  inside = flat_map
+      (λ pieces. pieces) elements;
+}
 
 -- the first line, a line for each attribute, the elements inside, and the line of END
 abbrev pub activity_by : ActivityTree-F (List Piece) Worked (List Piece) → List Piece
 activity_by a =
-    word a.work.opening ∷ heading_pieces a.name a.input a.output ++ a.work.called ++ Stop ∷ flat_map attr_line a.attrs ++ a.work.inside ++ closing_pieces a.end
+    word a.work.opening ∷ heading_pieces a.name a.input a.output ++ a.work.called ++ Stop ∷ flat_map attr_line a.attrs
+    ++ a.work.inside ++ closing_pieces a.end
 
 -- an element, from the tokens of an activity
 abbrev pub element_by : ElementTree-F (List Piece) Worked (List Piece) → List Piece
@@ -47,16 +59,19 @@ worked = fold-WorkTree (List Piece) Worked (List Piece) element_by worked_by act
 
 -- the first line of an activity
 abbrev pub opening_pieces : ActivityTree → List Piece
-opening_pieces a = word (worked a.work).opening ∷ heading_pieces a.name a.input a.output ++ (worked a.work).called ++ Stop ∷ []
+opening_pieces a = word (worked a.work).opening ∷ heading_pieces a.name a.input a.output ++ (worked a.work).called
+    ++ Stop ∷ []
 
 -- the lines of an activity
 abbrev pub activity_pieces : ActivityTree → List Piece
 activity_pieces a =
-    word (worked a.work).opening ∷ heading_pieces a.name a.input a.output ++ (worked a.work).called ++ Stop ∷ flat_map attr_line a.attrs ++ (worked a.work).inside ++ closing_pieces a.end
+    word (worked a.work).opening ∷ heading_pieces a.name a.input a.output ++ (worked a.work).called
+    ++ Stop ∷ flat_map attr_line a.attrs ++ (worked a.work).inside ++ closing_pieces a.end
 
 -- the lines of a process
 abbrev pub process_pieces : ProcessTree → List Piece
-process_pieces p = word keyword.PROCESS ∷ heading_pieces p.name p.input p.output ++ Stop ∷ flat_map element_pieces p.elements ++ closing_pieces p.end
+process_pieces p = word keyword.PROCESS ∷ heading_pieces p.name p.input p.output
+    ++ Stop ∷ flat_map element_pieces p.elements ++ closing_pieces p.end
 
 -- the lines of an item
 unfoldable pub item_pieces : ItemTree → List Piece

@@ -42,8 +42,10 @@ heading_pieces title input output =
 -- a start condition, behind WHEN
 abbrev pub join_pieces : JoinTree → List Piece
 join_pieces join.All = word keyword.WHEN ∷ word keyword.ALL ∷ word keyword.CONNECTORS ∷ word keyword.TRUE ∷ []
-join_pieces join.AtLeastOne = word keyword.WHEN ∷ word keyword.AT_LEAST_ONE ∷ word keyword.CONNECTOR ∷ word keyword.TRUE ∷ []
-join_pieces (join.AtLeast number) = word keyword.WHEN ∷ word keyword.AT_LEAST ∷ number_pieces number ++ word keyword.CONNECTORS ∷ word keyword.TRUE ∷ []
+join_pieces join.AtLeastOne = word keyword.WHEN ∷ word keyword.AT_LEAST_ONE ∷ word keyword.CONNECTOR ∷ word keyword.TRUE
+    ∷ []
+join_pieces (join.AtLeast number) = word keyword.WHEN ∷ word keyword.AT_LEAST ∷ number_pieces number
+    ++ word keyword.CONNECTORS ∷ word keyword.TRUE ∷ []
 
 -- the tokens of an attribute
 abbrev pub attr_pieces : AttrTree → List Piece
@@ -54,7 +56,8 @@ attr_pieces (attr.Expires minutes) = word keyword.EXPIRES ∷ number_pieces minu
 attr_pieces (attr.Role role) = word keyword.DONE_BY ∷ word keyword.ROLE ∷ name role.name ∷ []
 attr_pieces (attr.Person person) = word keyword.DONE_BY ∷ word keyword.PERSON ∷ name person.name ∷ []
 attr_pieces attr.Starter = word keyword.DONE_BY ∷ word keyword.STARTER ∷ []
-attr_pieces (attr.Performer activity) = word keyword.DONE_BY ∷ word keyword.PERFORMER ∷ word keyword.OF ∷ name activity.name ∷ []
+attr_pieces (attr.Performer activity) = word keyword.DONE_BY ∷ word keyword.PERFORMER ∷ word keyword.OF ∷ name
+    activity.name ∷ []
 
 -- an attribute as a line
 unfoldable pub attr_line : AttrAt → List Piece
@@ -71,7 +74,8 @@ when_pieces (transition.Cond cond) = word keyword.WHEN ∷ condition_pieces cond
 -- a connector as a line
 abbrev pub control_pieces : ControlTree → List Piece
 control_pieces control =
-    word keyword.CONTROL ∷ word keyword.FROM ∷ name control.from.name ∷ word keyword.TO ∷ name control.to.name ∷ when_pieces control.when ++ Stop ∷ []
+    word keyword.CONTROL ∷ word keyword.FROM ∷ name control.from.name ∷ word keyword.TO ∷ name control.to.name ∷
+    when_pieces control.when ++ Stop ∷ []
 
 -- an activity's name, or the word of the border
 abbrev pub end_piece : EndTree → ℕ → Piece
@@ -80,7 +84,8 @@ end_piece (end.Activity activity) border = name activity.name
 
 -- the two ends of a data line, or the activity of a LOOP
 abbrev pub ends_pieces : EndsTree → List Piece
-ends_pieces (ends.Line from to) = word keyword.FROM ∷ end_piece from keyword.SOURCE ∷ word keyword.TO ∷ end_piece to keyword.SINK ∷ []
+ends_pieces (ends.Line from to) = word keyword.FROM ∷ end_piece from keyword.SOURCE ∷ word keyword.TO ∷ end_piece to
+    keyword.SINK ∷ []
 ends_pieces (ends.Loop activity) = word keyword.LOOP ∷ name activity.name ∷ []
 
 -- one leaf TO another
@@ -115,12 +120,14 @@ count_pieces (Some number) = sign mark.OPEN ∷ number_pieces number ++ sign mar
 
 -- a member as a line
 unfoldable pub member_line : Member → List Piece
-member_line member = name member.name.name ∷ sign mark.COLON ∷ kind_piece member.kind ∷ count_pieces member.count ++ sign mark.SEMICOLON ∷ Stop ∷ []
+member_line member = name member.name.name ∷ sign mark.COLON ∷ kind_piece member.kind ∷ count_pieces member.count
+    ++ sign mark.SEMICOLON ∷ Stop ∷ []
 
 -- the lines of a structure
 abbrev pub structure_pieces : StructDef → List Piece
 structure_pieces structure =
-    word keyword.STRUCTURE ∷ name structure.name.name ∷ Stop ∷ flat_map member_line structure.members ++ closing_pieces structure.end
+    word keyword.STRUCTURE ∷ name structure.name.name ∷ Stop ∷ flat_map member_line structure.members
+    ++ closing_pieces structure.end
 
 -- a later role of a person
 unfoldable pub later_role : NameAt → List Piece
@@ -137,4 +144,5 @@ roles_pieces (first ∷ later) = first_role first ++ flat_map later_role later
 
 -- the lines of a person
 abbrev pub person_pieces : PersonTree → List Piece
-person_pieces person = word keyword.PERSON ∷ name person.name.name ∷ roles_pieces person.roles ++ Stop ∷ closing_pieces person.end
+person_pieces person = word keyword.PERSON ∷ name person.name.name ∷ roles_pieces person.roles
+    ++ Stop ∷ closing_pieces person.end

@@ -18,12 +18,15 @@ pub record ReadsAs (tree : Tree) (text : List ℕ) : Type 0 where
 
 -- the canonical text of a tree that some text has reads as that tree
 abbrev pub ReadsBack : Type 0
-ReadsBack = (source : List ℕ) (tokens : List Token) (tree : Tree) → AreTokens source tokens → IsTree tree (spell source tokens) → ReadsAs tree (canonical_text tree)
+ReadsBack = (source : List ℕ) (tokens : List Token) (tree : Tree) → AreTokens source tokens
+    → IsTree tree (spell source tokens) → ReadsAs tree (canonical_text tree)
 
 -- each reading of it is that tree
 abbrev pub ReadsOnlyBack : Type 0
-ReadsOnlyBack = (source : List ℕ) (tokens : List Token) (tree : Tree) → AreTokens source tokens → IsTree tree (spell source tokens)
-    → (others : List Token) (again : Tree) → AreTokens (canonical_text tree) others → IsTree again (spell (canonical_text tree) others) → SameButPlaces tree again
+ReadsOnlyBack = (source : List ℕ) (tokens : List Token) (tree : Tree) → AreTokens source tokens
+    → IsTree tree (spell source tokens)
+    → (others : List Token) (again : Tree) → AreTokens (canonical_text tree) others
+    → IsTree again (spell (canonical_text tree) others) → SameButPlaces tree again
 
 -- trees that are the same but for places have one canonical text
 abbrev pub OneText : Type 0

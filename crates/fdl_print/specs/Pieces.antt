@@ -23,7 +23,11 @@ pub record Page : Type 0 where
 
 -- a page with one more piece
 abbrev pub with_piece : Piece → Page → Page
-with_piece (Token bytes) page = record { written = page.written ++ (if page.begun then 32 ∷ bytes else bytes); begun = true }
+with_piece (Token bytes) page = record {
+  written = page.written
+      ++ (if page.begun then 32 ∷ bytes else bytes);
+  begun = true;
+}
 with_piece Stop page = record { written = page.written ++ 10 ∷ []; begun = false }
 
 -- a page with more pieces, in order

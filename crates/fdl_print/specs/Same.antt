@@ -83,7 +83,8 @@ pub data SameSide : Side → Side → Type 0 where
 mutual
   -- two conditions
   pub data SameCond : Cond → Cond → Type 0 where
-    TwoComparisons : {l r k s : Side} {o : Operator} → SameSide l k → SameSide r s → SameCond (cond.Compare l o r) (cond.Compare k o s)
+    TwoComparisons : {l r k s : Side} {o : Operator} → SameSide l k → SameSide r s
+        → SameCond (cond.Compare l o r) (cond.Compare k o s)
     TwoDenials : {x y d e : Cond} → Denies x d → Denies y e → SameCond d e → SameCond x y
     TwoAnds : {xs ys : List Cond} → SameConds xs ys → SameCond (cond.And xs) (cond.And ys)
     TwoOrs : {xs ys : List Cond} → SameConds xs ys → SameCond (cond.Or xs) (cond.Or ys)
@@ -118,7 +119,8 @@ pub data SameEnd : EndTree → EndTree → Type 0 where
 
 -- both ends of two DATA lines
 pub data SameEnds : EndsTree → EndsTree → Type 0 where
-  TwoLines : {from to out into : EndTree} → SameEnd from out → SameEnd to into → SameEnds (ends.Line from to) (ends.Line out into)
+  TwoLines : {from to out into : EndTree} → SameEnd from out → SameEnd to into
+      → SameEnds (ends.Line from to) (ends.Line out into)
   TwoLoops : {x y : NameAt} → SameName x y → SameEnds (ends.Loop x) (ends.Loop y)
 
 -- two DATA lines
@@ -158,7 +160,8 @@ mutual
 
   -- two activities
   pub data SameActivity : ActivityTree → ActivityTree → Type 0 where
-    TwoActivityTrees : {x y : ActivityTree} → SameWork x.work y.work → SameName x.name y.name → SameName x.input y.input → SameName x.output y.output → Each AttrAt SameAttr x.attrs y.attrs → SameName x.end y.end → SameActivity x y
+    TwoActivityTrees : {x y : ActivityTree} → SameWork x.work y.work → SameName x.name y.name → SameName x.input y.input
+        → SameName x.output y.output → Each AttrAt SameAttr x.attrs y.attrs → SameName x.end y.end → SameActivity x y
 
   -- two elements
   pub data SameElement : ElementTree → ElementTree → Type 0 where
@@ -169,7 +172,8 @@ mutual
   -- the elements of two processes or blocks
   pub data SameElements : List ElementTree → List ElementTree → Type 0 where
     NoElements : SameElements [] []
-    MoreElements : {x y : ElementTree} {xs ys : List ElementTree} → SameElement x y → SameElements xs ys → SameElements (x ∷ xs) (y ∷ ys)
+    MoreElements : {x y : ElementTree} {xs ys : List ElementTree} → SameElement x y → SameElements xs ys
+        → SameElements (x ∷ xs) (y ∷ ys)
 
 -- ---- items
 

@@ -2,8 +2,10 @@
 ghost use Rattle.std.specs.Prelude.{◌≡◌, ◌∷◌, ◌++◌, map, OnOk};
 ghost use Rattle.std.specs.List.{flat_map};
 ghost use Rattle.fdl_print.specs.Pieces.{with_pieces, word as word_piece, sign as sign_piece};
-ghost use Rattle.fdl_print.specs.Parts.{operator_mark as mark_of, operand_pieces, later_term as later_term_pieces, side_pieces, sum_pieces};
-ghost use Rattle.fdl_print.specs.Conditions.{shown, in_or, in_and, in_parentheses, or_pieces, and_pieces, later_or, later_and, condition_pieces};
+ghost use Rattle.fdl_print.specs.Parts.{operator_mark as mark_of, operand_pieces, later_term as later_term_pieces};
+ghost use Rattle.fdl_print.specs.Parts.{side_pieces, sum_pieces};
+ghost use Rattle.fdl_print.specs.Conditions.{shown, in_or, in_and, in_parentheses, or_pieces, and_pieces, later_or};
+ghost use Rattle.fdl_print.specs.Conditions.{later_and, condition_pieces};
 
 use crate::printer::Printer;
 use fdl_parser::mark;
@@ -150,7 +152,8 @@ impl Printer {
 
     #[tactic(auto, using(crate::proofs::Laying::append_rule))]
     fn compare(&mut self, left: &Side, operator: Operator, right: &Side) -> Result<(), AllocError>
-        ensures { OnOk result (self.new ≡ with_pieces (side_pieces left.now ++ sign_piece (mark_of operator) ∷ side_pieces right.now) self.old) }
+        ensures { OnOk result (self.new ≡ with_pieces (side_pieces left.now
+            ++ sign_piece (mark_of operator) ∷ side_pieces right.now) self.old) }
     {
         self.side(left)?;
         self.mark(operator_mark(operator))?;

@@ -2,7 +2,9 @@
 ghost use Rattle.std.specs.Prelude.{◌≡◌, ◌∷◌, ◌++◌, [], OnOk};
 ghost use Rattle.std.specs.List.{flat_map};
 ghost use Rattle.fdl_print.specs.Pieces.{Stop, with_piece, with_pieces, word as word_piece, name as name_piece};
-ghost use Rattle.fdl_print.specs.Elements.{closing_pieces, heading_pieces, join_pieces, attr_pieces, attr_line, when_pieces, control_pieces, end_piece, ends_pieces, map_pieces, later_map as later_map_pieces, maps_pieces, data_pieces};
+ghost use Rattle.fdl_print.specs.Elements.{closing_pieces, heading_pieces, join_pieces, attr_pieces, attr_line};
+ghost use Rattle.fdl_print.specs.Elements.{when_pieces, control_pieces, end_piece, ends_pieces, map_pieces};
+ghost use Rattle.fdl_print.specs.Elements.{later_map as later_map_pieces, maps_pieces, data_pieces};
 ghost use Rattle.fdl_print.specs.Canonical.{worked, opening_pieces, activity_pieces, element_pieces};
 
 use crate::printer::Printer;
@@ -85,7 +87,8 @@ impl Printer {
 
     /// DONE_BY, a word, and a name behind it.
     fn done_by(&mut self, word: u8, name: &NameAt) -> Result<(), AllocError>
-        ensures { OnOk result (self.new ≡ with_pieces (word_piece 21 ∷ word_piece word ∷ name_piece name.now.name ∷ []) self.old) }
+        ensures { OnOk result (self.new ≡ with_pieces (word_piece 21 ∷ word_piece word ∷ name_piece name.now.name ∷ [])
+            self.old) }
     {
         self.word(keyword::DONE_BY)?;
         self.word(word)?;
@@ -93,7 +96,8 @@ impl Printer {
     }
 
     fn performer(&mut self, name: &NameAt) -> Result<(), AllocError>
-        ensures { OnOk result (self.new ≡ with_pieces (word_piece 21 ∷ word_piece 24 ∷ word_piece 25 ∷ name_piece name.now.name ∷ []) self.old) }
+        ensures { OnOk result (self.new ≡ with_pieces (word_piece 21 ∷ word_piece 24 ∷ word_piece 25 ∷ name_piece
+            name.now.name ∷ []) self.old) }
     {
         self.word(keyword::DONE_BY)?;
         self.word(keyword::PERFORMER)?;

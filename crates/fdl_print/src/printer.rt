@@ -1,7 +1,10 @@
 //! Tokens with one space between them, in lines.
 ghost use Rattle.std.specs.Prelude.{◌≡◌, ◌∷◌, ◌++◌, [], false, codes, OnOk};
-ghost use Rattle.fdl_print.specs.Pieces.{Token, Stop, with_piece, with_pieces, sign_text, word as word_piece, sign as sign_piece, name as name_piece, quoted as text_piece, digits as size_piece};
-ghost use Rattle.fdl_print.specs.Parts.{number_pieces, first_step as first_step_pieces, later_step as later_step_pieces, leaf_pieces};
+ghost use Rattle.fdl_print.specs.Pieces.{Token, Stop, with_piece, with_pieces, sign_text, word as word_piece};
+ghost use Rattle.fdl_print.specs.Pieces.{sign as sign_piece, name as name_piece, quoted as text_piece};
+ghost use Rattle.fdl_print.specs.Pieces.{digits as size_piece};
+ghost use Rattle.fdl_print.specs.Parts.{number_pieces, first_step as first_step_pieces};
+ghost use Rattle.fdl_print.specs.Parts.{later_step as later_step_pieces, leaf_pieces};
 
 use fdl_parser::mark;
 use flow_model::{LeafAt, Name, NumberAt, StepTree, Txt};

@@ -2,7 +2,8 @@
 use Rattle.std.specs.Prelude.{◌≡◌, ℕ, ◌≤◌, ◌⊎◌, List, Contains, Option, Some, None, Result, Ok, Err}
 use Rattle.flow_disk.specs.Causes.{one_more}
 
--- the numbers of the calls that fail, the number from which on all do, how many calls were made, how many failed, and how many of these found no memory
+-- the numbers of the calls that fail, the number from which on all do, how many calls were made, how many failed, and
+-- how many of these found no memory
 pub record Tally : Type 0 where
   pub failing : List ℕ
   pub stop : Option ℕ
@@ -42,4 +43,5 @@ Serves old new (Err failed) = IsNextToFail old × (new ≡ one_failed old)
 -- a call that keeps something fails where it is to fail, and where it finds no memory, which it tells
 abbrev pub ServesOrStarves : {T E : Type 0} → Tally → Tally → Result T E → Type 0
 ServesOrStarves old new (Ok value) = ¬ IsNextToFail old × (new ≡ one_served old)
-ServesOrStarves old new (Err failed) = IsNextToFail old × (new ≡ one_failed old) ⊎ ¬ IsNextToFail old × (new ≡ one_starved (one_served old))
+ServesOrStarves old new (Err failed) = IsNextToFail old × (new ≡ one_failed old) ⊎ ¬ IsNextToFail old
+    × (new ≡ one_starved (one_served old))

@@ -31,7 +31,8 @@ spliced old at bytes = take at old ++ bytes ++ drop (at + length bytes) old
 abbrev pub with_written : Image → Slot → ℕ → List ℕ → Image
 with_written image slot at bytes = put_in image slot (spliced (bytes_in image slot) at bytes)
 
--- after a write of n bytes that a crash cuts short: any bytes in the range and behind the old end, an end between, the same elsewhere
+-- after a write of n bytes that a crash cuts short: any bytes in the range and behind the old end, an end between, the
+-- same elsewhere
 pub record Torn (at n : ℕ) (old new : List ℕ) : Type 0 where
   pub before : take (min at (length old)) new ≡ take (min at (length old)) old
   pub after : drop (at + n) new ≡ drop (at + n) old

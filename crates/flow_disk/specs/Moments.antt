@@ -22,10 +22,12 @@ pub record Elapses (before now : ℕ) (past since : ℕ → Image → Type 0) (i
 
 -- a call makes time pass
 abbrev pub Passes : {D : Type 0} → (D → ℕ) → (D → ℕ → Image → Type 0) → (D → Image → Type 0) → D → D → Type 0
-Passes moment left_since images old new = Elapses (moment old) (moment new) (left_since old) (left_since new) (images new)
+Passes moment left_since images old new = Elapses (moment old) (moment new) (left_since old) (left_since new)
+    (images new)
 
 -- A crash at any moment since old leaves an image that has P.
-pub record LeavesOnly {D : Type 0} (moment : D → ℕ) (left_since : D → ℕ → Image → Type 0) (old new : D) (P : Image → Type 0) : Type 0 where
+pub record LeavesOnly {D : Type 0} (moment : D → ℕ) (left_since : D → ℕ → Image → Type 0) (old new : D)
+    (P : Image → Type 0) : Type 0 where
   pub later : moment old ≤ moment new
   pub each : (c : Image) → left_since new (moment old) c → P c
   -- for a run that began earlier

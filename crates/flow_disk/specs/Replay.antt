@@ -14,7 +14,8 @@ read_after seen (Synced ∷ changes) = read_after seen changes
 abbrev pub LeftAfter : Image → (Image → Type 0) → List Change → Image → Type 0
 LeftAfter seen images [] c = images c
 LeftAfter seen images (Wrote slot at bytes ∷ changes) c =
-    LeftAfter (with_written seen slot at bytes.items) (λ e. (d : Image) × images d × TornIn slot at (length bytes.items) d e) changes c
+    LeftAfter (with_written seen slot at bytes.items)
+    (λ e. (d : Image) × images d × TornIn slot at (length bytes.items) d e) changes c
 LeftAfter seen images (Synced ∷ changes) c = LeftAfter seen (λ e. e ≡ seen) changes c
 
 -- of a disk that begins with an image on it
@@ -28,5 +29,6 @@ LeftSince first changes t c = (k : ℕ) × (t ≤ k) × (k ≤ length changes) �
 -- what the slots held at the last sync, or at first
 abbrev pub last_synced : Image → Image → List Change → Image
 last_synced seen synced [] = synced
-last_synced seen synced (Wrote slot at bytes ∷ changes) = last_synced (with_written seen slot at bytes.items) synced changes
+last_synced seen synced (Wrote slot at bytes ∷ changes) = last_synced
+    (with_written seen slot at bytes.items) synced changes
 last_synced seen synced (Synced ∷ changes) = last_synced seen seen changes

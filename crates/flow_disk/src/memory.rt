@@ -5,7 +5,8 @@ ghost use Rattle.flow_disk.specs.Causes.{HasCause};
 ghost use Rattle.flow_disk.specs.Contents.{image_of};
 ghost use Rattle.flow_disk.specs.Images.{bytes_in, with_written, TornIn, Reads};
 ghost use Rattle.flow_disk.specs.Moments.{Follows, Only, Passes, Within};
-ghost use Rattle.flow_disk.specs.InMemory.{IsFresh, Keeps, LeftBy, LeftSinceBy, calls_of, crashed_by, moment_of, seen_by, synced_by};
+ghost use Rattle.flow_disk.specs.InMemory.{IsFresh, Keeps, LeftBy, LeftSinceBy, calls_of, crashed_by, moment_of};
+ghost use Rattle.flow_disk.specs.InMemory.{seen_by, synced_by};
 ghost use Rattle.flow_disk.specs.Laws.{honest_now, now_counts, now_only};
 
 use crate::counts::Counts;
@@ -149,7 +150,8 @@ impl Disk for MemDisk {
     fn write_at(&mut self, slot: Slot, at: u64, bytes: &[u8]) -> Result<(), Failed>
         requires some { 0 < length bytes.now }
         requires no_gap { Unit {0} → at ≤ length (bytes_in (seen_by self.old) slot) }
-        ensures written { OnOk result (Unit {0} → seen_by self.new ≡ with_written (seen_by self.old) slot at bytes.now) }
+        ensures written { OnOk result (Unit {0} → seen_by self.new
+            ≡ with_written (seen_by self.old) slot at bytes.now) }
         ensures torn { Unit {0} → TornIn slot at (length bytes.now) (seen_by self.old) (seen_by self.new) }
         ensures crash { Follows (TornIn slot at (length bytes.now)) (LeftBy self.old) (LeftBy self.new) }
         ensures time { Passes moment_of LeftSinceBy LeftBy self.old self.new }

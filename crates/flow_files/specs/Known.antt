@@ -5,7 +5,8 @@ use Rattle.flow_disk.specs.declared.disk.Slot.{Slot}
 use Rattle.flow_disk.specs.declared.disk.Slot.TheVariants.{A, B}
 use Rattle.flow_files.specs.declared.access.Access.{Access}
 
--- how often it has failed and whether it has, what it may do, and whether nothing was written to each file since its last successful sync
+-- how often it has failed and whether it has, what it may do, and whether nothing was written to each file since its
+-- last successful sync
 pub record Known : Type 0 where
   pub faults : ℕ
   pub failed : Bool

@@ -145,7 +145,8 @@ impl<'a, R: Files<File = File> + AllocGlobal> FileDisk<'a, R> {
 
     fn try_sync(&mut self) -> io::Result<()>
         ensures both { OnOk result ((slot : SlotOf) → is_synced self.new slot ≡ true) }
-        ensures rises { OnErr result ((slot : SlotOf) → is_synced self.old slot ≡ true → is_synced self.new slot ≡ true) }
+        ensures rises { OnErr result ((slot : SlotOf) → is_synced self.old slot ≡ true
+            → is_synced self.new slot ≡ true) }
         ensures same { self.new ≡ record self.old { a_synced = self.new.a_synced; b_synced = self.new.b_synced } }
         ensures alive { OnOk result (self.old.failed ≡ false) }
     {
@@ -186,7 +187,8 @@ impl<'a, R: Files<File = File> + AllocGlobal> FileDisk<'a, R> {
     fn sync_now(&mut self) -> Result<(), Failed>
         ensures goes { Goes self.old self.new result }
         ensures both { OnOk result ((slot : SlotOf) → is_synced self.new slot ≡ true) }
-        ensures rises { OnErr result ((slot : SlotOf) → is_synced self.old slot ≡ true → is_synced self.new slot ≡ true) }
+        ensures rises { OnErr result ((slot : SlotOf) → is_synced self.old slot ≡ true
+            → is_synced self.new slot ≡ true) }
     {
         let outcome = self.try_sync();
         self.counted(outcome)

@@ -44,13 +44,15 @@ pub record GivesFront (old new : Supply) (buf : List ℕ) (count : ℕ) : Type 0
 -- a call of the source: it gives bytes where it isn't listed, else it fails and gives none
 abbrev pub Supplies : {E : Type 0} → Supply → Supply → ℕ → Result ℕ E → Type 0
 Supplies old new room (Ok count) =
-    ¬ IsNextListed old.calls × (count ≡ min room (length old.left)) × (new ≡ record { left = drop count old.left; calls = one_served old.calls })
+    ¬ IsNextListed old.calls × (count ≡ min room (length old.left))
+    × (new ≡ record { left = drop count old.left; calls = one_served old.calls })
 Supplies old new room (Err failed) = IsNextListed old.calls × (new ≡ record old { calls = one_failed old.calls })
 
 -- a call of the sink: it keeps the whole piece, or it fails because it is listed or because no memory was found
 abbrev pub Collects : {E : Type 0} → Collection → Collection → List ℕ → Result ℕ E → Type 0
 Collects old new piece (Ok count) =
-    ¬ IsNextListed old.calls × (count ≡ length piece) × (new ≡ record old { held = old.held ++ piece; calls = one_served old.calls })
+    ¬ IsNextListed old.calls × (count ≡ length piece)
+    × (new ≡ record old { held = old.held ++ piece; calls = one_served old.calls })
 Collects old new piece (Err failed) =
     IsNextListed old.calls × (new ≡ record old { calls = one_failed old.calls })
     ⊎ ¬ IsNextListed old.calls × (new ≡ record old { calls = one_failed old.calls; starved = one_more old.starved })

@@ -1,4 +1,5 @@
--- What a caller of `next` builds on: the inputs that were served, then those still unserved, are the inputs of all the bytes.
+-- What a caller of `next` builds on: the inputs that were served, then those still unserved, are the inputs of all the
+-- bytes.
 use Rattle.std.specs.Prelude.{◌≡◌, ℕ, List, [], ◌∷◌, ◌++◌, Result, Ok, Err, Option, Some, None}
 use Rattle.flow_io.specs.Inputs.{Input, Served, PassedOver, AtEnd, inputs}
 use Rattle.flow_io.specs.Reading.{Reading}

@@ -1,5 +1,6 @@
 -- What one call of `next` tells of the bytes that stand before it.
-use Rattle.std.specs.Prelude.{◌≡◌, ℕ, ◌+◌, ◌-◌, ◌<◌, ◌≤◌, ◌⊎◌, List, [], ◌∷◌, ◌++◌, length, min, Bool, true, ◌||◌, ◌&&◌, not, nat_lt, ◌==◌, if◌then◌else◌, Result, Ok, Err, Option}
+use Rattle.std.specs.Prelude.{◌≡◌, ℕ, ◌+◌, ◌-◌, ◌<◌, ◌≤◌, ◌⊎◌, List, [], ◌∷◌, ◌++◌, length, min, Bool, true, ◌||◌, ◌&&◌}
+use Rattle.std.specs.Prelude.{not, nat_lt, ◌==◌, if◌then◌else◌, Result, Ok, Err, Option}
 use Rattle.std.specs.Io.KnownBytes.{IsAtEnd}
 use Rattle.flow_io.specs.Causes.{Rose}
 use Rattle.flow_io.specs.Inputs.{NoFeedBelow}
@@ -18,7 +19,8 @@ pub record Hands (bytes : List ℕ) (room : ℕ) (left : Option (List ℕ)) (lin
 -- what is longer than a line was passed over, and nothing else
 abbrev pub SetsAside : Bool → Reading → Reading → Bool → Type 0
 SetsAside passed old new passed' =
-    (65536 < length old.held) × (new ≡ record { held = []; room = old.room - length old.held; text = old.held }) × (passed' ≡ true)
+    (65536 < length old.held) × (new ≡ record { held = []; room = old.room - length old.held; text = old.held })
+    × (passed' ≡ true)
     ⊎ (length old.held ≤ 65536) × (new ≡ old) × (passed' ≡ passed)
 
 -- a line of this length, behind a part that was passed over

@@ -1,5 +1,6 @@
 //! The lines of a source, read in blocks.
-ghost use Rattle.std.specs.Prelude.{◌≡◌, ◌≢◌, ℕ, ◌+◌, ◌-◌, ◌<◌, ◌≤◌, List, [], ◌∷◌, ◌++◌, length, drop, take, min, slice_index, slice_range, IfOk, MatchOption, MatchResult, vec_len};
+ghost use Rattle.std.specs.Prelude.{◌≡◌, ◌≢◌, ℕ, ◌+◌, ◌-◌, ◌<◌, ◌≤◌, List, [], ◌∷◌, ◌++◌, length, drop, take, min};
+ghost use Rattle.std.specs.Prelude.{slice_index, slice_range, IfOk, MatchOption, MatchResult, vec_len};
 ghost use Rattle.std.specs.Io.KnownBytes.{Consumes, IsAtEnd};
 ghost use Rattle.flow_io.specs.Inputs.{NoFeedBelow};
 ghost use Rattle.flow_io.specs.Found.{IsFirstFeed, IsReach, Takes};
@@ -93,10 +94,12 @@ fn find_end(held: &[u8], scanned: usize, room: u64) -> Reach
 /// Takes the next block, and answers whether there was one.
 fn take_more<S: Source>(src: &mut S, block: &mut [u8], bytes: &mut Vec<u8>) -> Result<bool, IoStop>
     requires { 0 < length block.old }
-    ensures taken { (given : List ℕ) × Takes (S.left src.old) (S.left src.new) bytes.old.items given bytes.new.items result }
+    ensures taken { (given : List ℕ) × Takes (S.left src.old)
+        (S.left src.new) bytes.old.items given bytes.new.items result }
     ensures size { length block.new ≡ length block.old }
     ensures later { S.faults src.old ≤ S.faults src.new }
-    ensures cause { MatchResult result (λ _. S.faults src.new ≡ S.faults src.old) (StopCause (S.faults src.old) (S.faults src.new)) }
+    ensures cause { MatchResult result (λ _. S.faults src.new ≡ S.faults src.old)
+        (StopCause (S.faults src.old) (S.faults src.new)) }
 {
     match src.take(block) {
         Ok(0) => Ok(false),
@@ -197,7 +200,12 @@ impl Lines {
         requires held { len < length self.old.held }
         requires room { len < self.old.room }
         ensures kind { result ≡ kind_of passed len }
-        ensures after { self.new ≡ record { held = drop (len + 1) self.old.held; room = self.old.room - (len + 1); text = take len self.old.held } }
+        ensures after { self.new ≡ record {
+          held = drop (len + 1) self.old.held;
+          room = self.old.room -
+              (len + 1);
+          text = take len self.old.held;
+        } }
     {
         self.from = self.start;
         self.to = self.start + len;
@@ -221,7 +229,12 @@ impl Lines {
     fn hand_last(&mut self, passed: bool) -> Line
         requires { length self.old.held ≤ self.old.room }
         ensures kind { result ≡ last_kind passed (length self.old.held) }
-        ensures after { self.new ≡ record { held = []; room = self.old.room - length self.old.held; text = self.old.held } }
+        ensures after { self.new ≡ record {
+          held = [];
+          room = self.old.room - length self.old.held;
+          text =
+              self.old.held;
+        } }
     {
         let len = self.held_len();
         self.hand_all();
@@ -247,10 +260,12 @@ impl Lines {
 
     /// Takes the next block, and answers whether there was one.
     fn take_block<S: Source>(&mut self, src: &mut S) -> Result<bool, IoStop>
-        ensures taken { (given : List ℕ) × Takes (S.left src.old) (S.left src.new) self.old.held given self.new.held result }
+        ensures taken { (given : List ℕ) × Takes (S.left src.old)
+            (S.left src.new) self.old.held given self.new.held result }
         ensures room { self.new.room ≡ self.old.room }
         ensures later { S.faults src.old ≤ S.faults src.new }
-        ensures cause { MatchResult result (λ _. S.faults src.new ≡ S.faults src.old) (StopCause (S.faults src.old) (S.faults src.new)) }
+        ensures cause { MatchResult result (λ _. S.faults src.new ≡ S.faults src.old)
+            (StopCause (S.faults src.old) (S.faults src.new)) }
     {
         forget_front(&mut self.bytes, self.start);
         self.start = 0;
@@ -272,7 +287,8 @@ impl Lines {
         ensures serves { ServesInputs self.old (S.left src.old) self.new (S.left src.new) result }
         ensures shrinks { Shrinks self.old.room self.new.room result }
         ensures later { S.faults src.old ≤ S.faults src.new }
-        ensures cause { MatchResult result (λ _. S.faults src.new ≡ S.faults src.old) (StopCause (S.faults src.old) (S.faults src.new)) }
+        ensures cause { MatchResult result (λ _. S.faults src.new ≡ S.faults src.old)
+            (StopCause (S.faults src.old) (S.faults src.new)) }
     {
         self.find_next(src)
     }
@@ -282,7 +298,8 @@ impl Lines {
         ensures told { (given : List ℕ) × Consumes (S.left src.old) (S.left src.new) given
             × Tells (self.old.held ++ given) self.old.room (S.left src.new) result self.new }
         ensures later { S.faults src.old ≤ S.faults src.new }
-        ensures cause { MatchResult result (λ _. S.faults src.new ≡ S.faults src.old) (StopCause (S.faults src.old) (S.faults src.new)) }
+        ensures cause { MatchResult result (λ _. S.faults src.new ≡ S.faults src.old)
+            (StopCause (S.faults src.old) (S.faults src.new)) }
     {
         let mut passed = false;
         let mut scanned = 0;

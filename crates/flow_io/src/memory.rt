@@ -1,5 +1,6 @@
 //! A source and a sink in memory, which tell everything and fail at the calls that are listed.
-ghost use Rattle.std.specs.Prelude.{◌≡◌, ℕ, ◌<◌, ◌≤◌, ◌-◌, [], ◌++◌, ◌↔◌, length, take, drop, min, IfOk, OnOk, OnErr, IsTrue, Some};
+ghost use Rattle.std.specs.Prelude.{◌≡◌, ℕ, ◌<◌, ◌≤◌, ◌-◌, [], ◌++◌, ◌↔◌, length, take, drop, min, IfOk, OnOk, OnErr};
+ghost use Rattle.std.specs.Prelude.{IsTrue, Some};
 ghost use Rattle.std.specs.Io.KnownBytes.{ReadConsumes, WriteAppends};
 ghost use Rattle.flow_io.specs.Causes.{HasCause, one_more};
 ghost use Rattle.flow_io.specs.Memory.{fresh, IsNextListed, one_served, one_failed, GivesFront, Supplies, Collects};
@@ -95,7 +96,10 @@ impl MemSource {
 
     /// Counts the call as failed.
     fn fail(&mut self) -> Failed
-        ensures counted { self.new ≡ record self.old { calls = record self.old.calls { failed = one_more self.old.calls.failed } } }
+        ensures counted { self.new ≡ record self.old {
+          calls =
+              record self.old.calls { failed = one_more self.old.calls.failed };
+        } }
         ensures later { self.old.calls.failed ≤ self.new.calls.failed }
     {
         self.calls.fail()
@@ -185,7 +189,10 @@ impl MemSink {
 
     /// Counts the call as failed.
     fn fail(&mut self) -> Failed
-        ensures counted { self.new ≡ record self.old { calls = record self.old.calls { failed = one_more self.old.calls.failed } } }
+        ensures counted { self.new ≡ record self.old {
+          calls =
+              record self.old.calls { failed = one_more self.old.calls.failed };
+        } }
         ensures later { self.old.calls.failed ≤ self.new.calls.failed }
     {
         self.calls.fail()
@@ -193,7 +200,11 @@ impl MemSink {
 
     /// Counts the call as failed for want of memory.
     fn starve(&mut self) -> Failed
-        ensures counted { self.new ≡ record self.old { calls = record self.old.calls { failed = one_more self.old.calls.failed }; starved = one_more self.old.starved } }
+        ensures counted { self.new ≡ record self.old {
+          calls =
+              record self.old.calls { failed = one_more self.old.calls.failed };
+          starved = one_more self.old.starved;
+        } }
         ensures later { self.old.calls.failed ≤ self.new.calls.failed }
     {
         self.starved = self.starved.saturating_add(1);

@@ -48,7 +48,8 @@ pub trait Sink {
 /// Appends the whole piece, or a front part of it where the sink fails.
 pub fn put_all<K: Sink>(out: &mut K, piece: &[u8]) -> Result<(), Failed>
     ensures whole { OnOk result (Appends (K.held out.old) (K.held out.new) piece.now) }
-    ensures part { OnErr result ((n : ℕ) × (n ≤ length piece.now) × Appends (K.held out.old) (K.held out.new) (take n piece.now)) }
+    ensures part { OnErr result ((n : ℕ) × (n ≤ length piece.now)
+        × Appends (K.held out.old) (K.held out.new) (take n piece.now)) }
     ensures cause { HasCause (K.faults out.old) (K.faults out.new) result }
 {
     let mut done = 0;

@@ -1,5 +1,6 @@
 -- The value of a condition on a container: sums are exact whole numbers, texts are ordered by bytes.
-use Rattle.std.specs.Prelude.{ℕ, ℤ, pos, ◌+ℤ◌, ◌-ℤ◌, Bool, true, false, not, ◌||◌, ◌&&◌, if◌then◌else◌, Option, Some, None, List, [], ◌∷◌, slice_get}
+use Rattle.std.specs.Prelude.{ℕ, ℤ, pos, ◌+ℤ◌, ◌-ℤ◌, Bool, true, false, not, ◌||◌, ◌&&◌, if◌then◌else◌, Option, Some}
+use Rattle.std.specs.Prelude.{None, List, [], ◌∷◌, slice_get}
 use Rattle.std.specs.Ordering.{is_eq, is_ne, is_lt, is_le, is_gt, is_ge, int_cmp, nat_cmp}
 use Rattle.std.specs.Cmp.Lexicographic.{slice_cmp}
 use Rattle.std.specs.declared.cmp.Ordering.{Ordering}
@@ -13,7 +14,8 @@ use Rattle.flow_model.specs.declared.graphs.Operand.TheVariants.{Number, Leaf as
 use Rattle.flow_model.specs.declared.graphs.Term.{Term}
 use Rattle.flow_model.specs.declared.graphs.TextSide.{TextSide}
 use Rattle.flow_model.specs.declared.graphs.TextSide.TheVariants.{Leaf as LeafSide, Text as TextSide'}
-use Rattle.flow_model.specs.declared.graphs.Expr.{Expr, Or', And', Not', Whole, Texts, Row_of-Expr, end_of-Expr, more_of-Expr}
+use Rattle.flow_model.specs.declared.graphs.Expr.{Expr, Or', And', Not', Whole, Texts, Row_of-Expr, end_of-Expr}
+use Rattle.flow_model.specs.declared.graphs.Expr.{more_of-Expr}
 
 -- what a comparison asks of the order of its sides
 abbrev pub satisfies : Operator → Ordering → Bool

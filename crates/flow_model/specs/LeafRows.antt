@@ -22,7 +22,13 @@ linked_steps leaves (suc place) = steps_said (slice_get leaves place)
 
 -- the leaf of a row
 abbrev pub leaf_of : List Leaf → LeafRow → Leaf
-leaf_of before row = record { name = record { steps = row.head.value ∷ (place_steps row.place ++ linked_steps before row.rest) }; kind = row.kind }
+leaf_of before row = record {
+  name = record {
+    steps = row.head.value ∷
+        (place_steps row.place ++ linked_steps before row.rest);
+  };
+  kind = row.kind;
+}
 
 -- those of some rows, behind leaves that are there
 abbrev pub leaves_behind : List Leaf → List LeafRow → List Leaf

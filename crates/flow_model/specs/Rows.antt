@@ -1,5 +1,6 @@
 -- The rows of all reached scopes in show order, and from them what the completions of a root come to.
-use Rattle.std.specs.Prelude.{◌≡◌, ℕ, zero, suc, ◌+◌, ◌<◌, ◌==◌, Bool, true, false, ◌&&◌, if◌then◌else◌, Option, Some, None, List, [], ◌∷◌, ◌++◌, take, length, slice_get, bytes_eq}
+use Rattle.std.specs.Prelude.{◌≡◌, ℕ, zero, suc, ◌+◌, ◌<◌, ◌==◌, Bool, true, false, ◌&&◌, if◌then◌else◌, Option, Some}
+use Rattle.std.specs.Prelude.{None, List, [], ◌∷◌, ◌++◌, take, length, slice_get, bytes_eq}
 use Rattle.std.specs.List.{flat_map, Contains}
 use Rattle.flow_model.specs.declared.graphs.Activity.{Activity}
 use Rattle.flow_model.specs.declared.graphs.Container.{Container}
@@ -45,24 +46,30 @@ abbrev pub below : Path → Part → Path
 below s q = record { root = s.root; parts = s.parts ++ q ∷ [] }
 
 -- the rows of each attempt that starts, if the activity is a block or a process activity
-abbrev pub rows_below : (Known → Graph → Container → Path → List FateRow) → Known → Activity → Option Graph → List Start → Path → List FateRow
+abbrev pub rows_below : (Known → Graph → Container → Path → List FateRow) → Known → Activity → Option Graph → List Start
+    → Path → List FateRow
 rows_below rows k activity None starts s = []
 rows_below rows k activity (Some h) starts s =
-    flat_map (λ start. rows (at (part activity.name start.attempt) k) h start.input (below s (part activity.name start.attempt))) starts
+    flat_map (λ start. rows (at (part activity.name start.attempt) k) h start.input
+    (below s (part activity.name start.attempt))) starts
 
 -- the row of the activity at a place, and then those below it
-abbrev pub rows_of : List Template → ℕ → (Known → Graph → Container → Path → List FateRow) → Known → Graph → Container → Path → ℕ → Option Activity → List FateRow
+abbrev pub rows_of : List Template → ℕ → (Known → Graph → Container → Path → List FateRow) → Known → Graph → Container
+    → Path → ℕ → Option Activity → List FateRow
 rows_of ts depth rows k g input s a None = []
 rows_of ts depth rows k g input s a (Some activity) =
     record { scope = s; name = activity.name; fate = tree_fate ts depth k g input a }
-    ∷ rows_below rows k activity (graph_in ts activity.work) (started_at ts k (output ts depth) g input (tree_ends ts depth k g input) a activity) s
+    ∷ rows_below rows k activity (graph_in ts activity.work)
+    (started_at ts k (output ts depth) g input (tree_ends ts depth k g input) a activity) s
 
 -- the rows of a scope and of those below it, at most this deep
 abbrev pub rows : List Template → ℕ → Known → Graph → Container → Path → List FateRow
 rows ts zero k g input s =
-    flat_map (λ a. rows_of ts zero (λ k' h i p. []) k g input s a (slice_get (out-Graph g).activities a)) (up_to (length (out-Graph g).activities) 0)
+    flat_map (λ a. rows_of ts zero (λ k' h i p. []) k g input s a (slice_get (out-Graph g).activities a))
+    (up_to (length (out-Graph g).activities) 0)
 rows ts (suc depth) k g input s =
-    flat_map (λ a. rows_of ts (suc depth) (rows ts depth) k g input s a (slice_get (out-Graph g).activities a)) (up_to (length (out-Graph g).activities) 0)
+    flat_map (λ a. rows_of ts (suc depth) (rows ts depth) k g input s a (slice_get (out-Graph g).activities a))
+    (up_to (length (out-Graph g).activities) 0)
 
 -- ---- one root
 
@@ -80,7 +87,8 @@ fate_output ts g input most fs = output ts (deepest + 1) (by_facts most fs) g in
 
 -- a completion is ready where the rows by the completions before it show its activity ready at its attempt
 abbrev pub IsReady : List FateRow → Path → Type 0
-IsReady shown item = (s : Path) × (q : Part) × (item ≡ below s q) × Contains shown (record { scope = s; name = q.name; fate = Ready q.attempt })
+IsReady shown item = (s : Path) × (q : Part) × (item ≡ below s q)
+    × Contains shown (record { scope = s; name = q.name; fate = Ready q.attempt })
 
 abbrev pub IsReadyBy : List Template → Graph → ℕ → Container → List Fact → ℕ → Fact → Type 0
 IsReadyBy ts g root input fs n f = IsReady (fate_rows ts g root input (length fs) (take n fs)) f.item

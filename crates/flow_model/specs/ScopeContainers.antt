@@ -1,5 +1,6 @@
 -- Data lines, and from them the inputs and the output of a scope.
-use Rattle.std.specs.Prelude.{ℕ, zero, suc, ◌+◌, ◌==◌, Bool, true, false, if◌then◌else◌, Option, Some, None, List, [], ◌∷◌, length}
+use Rattle.std.specs.Prelude.{ℕ, zero, suc, ◌+◌, ◌==◌, Bool, true, false, if◌then◌else◌, Option, Some, None, List, []}
+use Rattle.std.specs.Prelude.{◌∷◌, length}
 use Rattle.std.specs.List.{list_all}
 use Rattle.flow_model.specs.declared.graphs.Activity.{Activity}
 use Rattle.flow_model.specs.declared.graphs.Container.{Container}
@@ -63,7 +64,8 @@ is_complete g e = list_all (λ a. is_settled (e a)) (up_to (length (out-Graph g)
 
 -- the output of a scope, once it is complete
 abbrev pub output_by : Graph → Container → Ends → Option Container
-output_by g input e = if is_complete g e then Some (fed (out-Graph g).lines Border input e (fresh (out-Graph g).output)) else None
+output_by g input e = if is_complete g e then Some
+    (fed (out-Graph g).lines Border input e (fresh (out-Graph g).output)) else None
 
 -- ---- the graphs inside
 

@@ -1,6 +1,7 @@
 -- The scopes of a root, with blocks and subprocesses. One recursion serves the fates and the view:
 -- it asks a record what counts of messages and completions. Paths are relative to the scope at hand.
-use Rattle.std.specs.Prelude.{ℕ, zero, suc, ◌+◌, ◌==◌, Bool, true, ◌&&◌, if◌then◌else◌, Option, Some, None, List, [], ◌∷◌, map, length, slice_get}
+use Rattle.std.specs.Prelude.{ℕ, zero, suc, ◌+◌, ◌==◌, Bool, true, ◌&&◌, if◌then◌else◌, Option, Some, None, List, []}
+use Rattle.std.specs.Prelude.{◌∷◌, map, length, slice_get}
 use Rattle.std.specs.List.{filter}
 use Rattle.std.specs.Option.{option_map}
 use Rattle.flow_model.specs.declared.graphs.Activity.{Activity}
@@ -91,7 +92,8 @@ then_start t (Some out) next = if holds t.exit out then [] else next out
 -- the attempts that start, from attempt j on, at most n
 abbrev pub starts : ℕ → Gives → Trial → ℕ → Container → List Start
 starts zero gives t j input = []
-starts (suc n) gives t j input = record { attempt = j; input = input } ∷ then_start t (gives j input) (λ out. starts n gives t (j + 1) (t.loops out))
+starts (suc n) gives t j input = record { attempt = j; input = input } ∷ then_start t (gives j input)
+    (λ out. starts n gives t (j + 1) (t.loops out))
 
 -- ---- one scope, where what the scopes below it give is known
 
@@ -104,7 +106,8 @@ part a j = record { name = a; attempt = j }
 
 abbrev pub scope_gives : Known → Runs → Option Graph → Part → Container → Option Container
 scope_gives k runs None q input = None
-scope_gives k runs (Some g) q input = if k.closed (q ∷ []) then option_map with_return_code (runs (at q k) g input) else None
+scope_gives k runs (Some g) q input = if k.closed (q ∷ []) then option_map with_return_code
+    (runs (at q k) g input) else None
 
 -- what attempt j of an activity gives: the accepted output of its item, or the output of its scope
 abbrev pub gives : List Template → Known → Runs → Name → Work → Gives
@@ -126,7 +129,8 @@ abbrev pub trial : Graph → ℕ → Activity → Container → Trial
 trial g a activity base = record { exit = activity.exit; loops = λ out. looped (out-Graph g).loops a out base }
 
 abbrev pub tries_on : List Template → Known → Runs → Graph → ℕ → Activity → Container → List Container
-tries_on ts k runs g a activity base = tries k.most (gives ts k runs activity.name activity.work) (trial g a activity base) 1 base
+tries_on ts k runs g a activity base = tries k.most (gives ts k runs activity.name activity.work)
+    (trial g a activity base) 1 base
 
 abbrev pub attempts_at : List Template → Known → Runs → Graph → Container → Ends → ℕ → Option Activity → List Container
 attempts_at ts k runs g input e a None = []
@@ -138,7 +142,8 @@ attempts ts k runs g input e a = attempts_at ts k runs g input e a (slice_get (o
 
 -- the values of the connectors that lead to an activity
 abbrev pub values_at : Known → List Control → Ends → ℕ → List (Option Bool)
-values_at k controls e a = map (λ c. k.sent [] c.from c.to (connector_value controls c (e c.from))) (filter (λ c. c.to == a) controls)
+values_at k controls e a = map (λ c. k.sent [] c.from c.to (connector_value controls c (e c.from)))
+    (filter (λ c. c.to == a) controls)
 
 abbrev pub fate_at : Known → List Control → Ends → ℕ → Option Activity → List Container → Fate
 fate_at k controls e a None outs = Waiting
@@ -181,5 +186,6 @@ tree_fate ts depth k g input a = fate_given ts k (output ts depth) g input (tree
 abbrev pub started_at : List Template → Known → Runs → Graph → Container → Ends → ℕ → Activity → List Start
 started_at ts k runs g input e a activity =
     if is_open (fate_given ts k runs g input e a) && is_fed (out-Graph g).lines a e
-    then starts (suc k.most) (gives ts k runs activity.name activity.work) (trial g a activity (base_of g activity a input e)) 1 (base_of g activity a input e)
+    then starts (suc k.most) (gives ts k runs activity.name activity.work)
+    (trial g a activity (base_of g activity a input e)) 1 (base_of g activity a input e)
     else []

@@ -1,4 +1,5 @@
--- What the rows of a graph's wiring say: which connectors leave each activity and lead to it, which data lines feed each activity and the
+-- What the rows of a graph's wiring say: which connectors leave each activity and lead to it, which data lines feed
+-- each activity and the
 -- scope's output, and which LOOP lines each activity has.
 use Rattle.std.specs.Prelude.{◌≡◌, ℕ, ◌+◌, ◌==◌, Bool, if◌then◌else◌, unwrap_or, List, [], ◌∷◌, slice_get}
 use Rattle.std.specs.List.{filter_map}
@@ -29,7 +30,8 @@ IsIncoming g = (a : ℕ) → row_at (out-Graph g).wiring.incoming a ≡ places (
 
 -- the rows name the lines that lead to each activity, in text order
 abbrev pub IsFeeding : Graph → Type 0
-IsFeeding g = (a : ℕ) → row_at (out-Graph g).wiring.feeding a ≡ places (λ line. same_end line.to (At a)) 0 (out-Graph g).lines
+IsFeeding g = (a : ℕ) → row_at (out-Graph g).wiring.feeding a
+    ≡ places (λ line. same_end line.to (At a)) 0 (out-Graph g).lines
 
 -- the row names the lines that lead to the scope's output, in text order
 abbrev pub IsSinking : Graph → Type 0
@@ -37,4 +39,5 @@ IsSinking g = (out-Graph g).wiring.sinking ≡ places (λ line. same_end line.to
 
 -- the rows name the LOOP lines of each activity, in text order
 abbrev pub IsLooping : Graph → Type 0
-IsLooping g = (a : ℕ) → row_at (out-Graph g).wiring.looping a ≡ places (λ line. line.activity == a) 0 (out-Graph g).loops
+IsLooping g = (a : ℕ) → row_at (out-Graph g).wiring.looping a
+    ≡ places (λ line. line.activity == a) 0 (out-Graph g).loops

@@ -1,5 +1,6 @@
 //! The leaves of all structures of a text, in one table in which leaves share the ends of their names.
-ghost use Rattle.std.specs.Prelude.{◌≡◌, ◌++◌, ◌∷◌, [], length, slice_get, IfOk, MatchOption, OnOk, option_copied, option_map, take, ◌-◌};
+ghost use Rattle.std.specs.Prelude.{◌≡◌, ◌++◌, ◌∷◌, [], length, slice_get, IfOk, MatchOption, OnOk, option_copied};
+ghost use Rattle.std.specs.Prelude.{option_map, take, ◌-◌};
 ghost use Rattle.flow_model.specs.LeafRows.{place_steps, linked_steps, leaf_of};
 
 use crate::graphs::{Kind, Step};
@@ -70,7 +71,9 @@ impl LeafRows {
 
     /// The row that a link leads to: one more than its place, or 0.
     pub(crate) fn linked(&self, link: usize) -> Option<&LeafRow>
-        ensures { MatchOption result (linked_steps self.now link ≡ []) (λ row. linked_steps self.now link ≡ row.now.head.value ∷ (place_steps row.now.place ++ linked_steps (take (link - 1) self.now) row.now.rest)) }
+        ensures { MatchOption result (linked_steps self.now link ≡ [])
+            (λ row. linked_steps self.now link ≡ row.now.head.value ∷
+            (place_steps row.now.place ++ linked_steps (take (link - 1) self.now) row.now.rest)) }
     {
         if link == 0 {
             return None;

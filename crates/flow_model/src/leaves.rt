@@ -1,5 +1,6 @@
 //! The leaves of a structure, and the steps of one of them.
-ghost use Rattle.std.specs.Prelude.{◌≡◌, ◌∷◌, [], length, slice_get, IfOk, MatchOption, option_map, take, ◌-◌, ◌<◌, ◌^◌, List as Seq};
+ghost use Rattle.std.specs.Prelude.{◌≡◌, ◌∷◌, [], length, slice_get, IfOk, MatchOption, option_map, take, ◌-◌, ◌<◌};
+ghost use Rattle.std.specs.Prelude.{◌^◌, List as Seq};
 ghost use Rattle.flow_model.specs.LeafLists.{run_of};
 ghost use Rattle.flow_model.specs.declared.graphs.Leaf.{Leaf};
 ghost use Rattle.flow_model.specs.LeafRows.{place_steps, linked_steps, steps_said};

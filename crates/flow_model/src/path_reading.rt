@@ -1,8 +1,10 @@
 //! Which path a text spells: it is cut at its `/` and `#`, and what is found is written back and compared.
-ghost use Rattle.std.specs.Prelude.{◌≡◌, ◌≤◌, ◌<◌, ◌^◌, ◌==◌, ℕ, true, Some, List as ListOf, ◌∷◌, ◌++◌, length, decimal, IfOk, IfSome, IsErrOf};
+ghost use Rattle.std.specs.Prelude.{◌≡◌, ◌≤◌, ◌<◌, ◌^◌, ◌==◌, ℕ, true, Some, List as ListOf, ◌∷◌, ◌++◌, length};
+ghost use Rattle.std.specs.Prelude.{decimal, IfOk, IfSome, IsErrOf};
 ghost use Rattle.std.specs.List.{All, position, position_or_len};
 ghost use Rattle.std.specs.Option.{option_copied};
-ghost use Rattle.flow_model.specs.Paths.{spelling, part_spelling, parts_spelling, IsStep, IsPath, Spells, SpellsNoOther, SpellsNoPath};
+ghost use Rattle.flow_model.specs.Paths.{spelling, part_spelling, parts_spelling, IsStep, IsPath, Spells};
+ghost use Rattle.flow_model.specs.Paths.{SpellsNoOther, SpellsNoPath};
 ghost use Rattle.flow_model.specs.declared.instances.Part.{Part as Down};
 ghost use Rattle.flow_model.specs.declared.instances.Path.{Path as Way};
 
@@ -66,7 +68,8 @@ fn count_of(digits: &[u8]) -> Option<u64>
 /// The step of this name and attempt.
 fn step_of(alloc: Global, name: &[u8], attempt: &[u8]) -> Result<Option<Part>, AllocError>
     ensures is { IfOk result (λ step. IfSome step IsStep) }
-    ensures found { IfOk result (λ step. (q : Down) → IsStep q → name.now ≡ q.name → attempt.now ≡ decimal q.attempt → step ≡ Some q) }
+    ensures found { IfOk result (λ step. (q : Down) → IsStep q → name.now ≡ q.name → attempt.now ≡ decimal q.attempt
+        → step ≡ Some q) }
 {
     let Some(attempt) = count_of(attempt) else {
         return Ok(None);
@@ -97,7 +100,8 @@ fn step_in(alloc: Global, bytes: &[u8]) -> Result<Option<Part>, AllocError>
 fn step_len(bytes: &[u8]) -> usize
     ensures within { result ≤ length bytes.now }
     ensures some { 0 < length bytes.now → 0 < result }
-    ensures found { (q : Down) (more : ListOf Down) → IsStep q → bytes.now ≡ part_spelling q ++ parts_spelling more → result ≡ length (part_spelling q) }
+    ensures found { (q : Down) (more : ListOf Down) → IsStep q → bytes.now ≡ part_spelling q ++ parts_spelling more
+        → result ≡ length (part_spelling q) }
 {
     match bytes.split_first() {
         Some((_, written)) => 1 + front_len(written, b'/'),
@@ -108,7 +112,8 @@ fn step_len(bytes: &[u8]) -> usize
 /// The steps that these bytes write one behind the other.
 fn steps_in(alloc: Global, bytes: &[u8]) -> Result<Option<List<Part>>, AllocError>
     ensures are { IfOk result (λ steps. IfSome steps (All IsStep)) }
-    ensures found { IfOk result (λ steps. (qs : ListOf Down) → All IsStep qs → bytes.now ≡ parts_spelling qs → steps ≡ Some qs) }
+    ensures found { IfOk result (λ steps. (qs : ListOf Down) → All IsStep qs → bytes.now ≡ parts_spelling qs
+        → steps ≡ Some qs) }
 {
     let mut steps = List::new(alloc);
     let mut rest = bytes;

@@ -13,7 +13,9 @@ use Rattle.flow_model.specs.declared.instances.Who.{Who}
 use Rattle.flow_model.specs.declared.instances.Who.TheVariants.{Person, Agent}
 use Rattle.flow_model.specs.declared.transactions.Setting.{Setting}
 use Rattle.flow_model.specs.declared.transactions.Transaction.{Transaction}
-use Rattle.flow_model.specs.declared.transactions.Transaction.TheVariants.{Import, Start, Turn, Claim, Release, Transfer, Take, Done, Force, Restart, Suspend, Resume, Terminate, Delete, Clock}
+use Rattle.flow_model.specs.declared.transactions.Transaction.TheVariants.{Import, Start, Turn, Claim, Release}
+use Rattle.flow_model.specs.declared.transactions.Transaction.TheVariants.{Transfer, Take, Done, Force, Restart}
+use Rattle.flow_model.specs.declared.transactions.Transaction.TheVariants.{Suspend, Resume, Terminate, Delete, Clock}
 
 -- a number of 64 bits that is counted from 1
 abbrev pub IsCounted : ℕ → Type 0
@@ -59,7 +61,8 @@ WhoFits (Agent take) = take < 2 ^ 64
 -- the parts of a transaction are in range
 abbrev pub TransactionFits : Transaction → Type 0
 TransactionFits (Import text) = length text ≤ 1048576
-TransactionFits (Start root process version starter key settings) = IsCounted root × IsName process × (version < 2 ^ 32) × IsName starter × KeyFits key × SettingsFit settings
+TransactionFits (Start root process version starter key settings) = IsCounted root × IsName process × (version < 2 ^ 32)
+    × IsName starter × KeyFits key × SettingsFit settings
 TransactionFits (Turn queue message) = (queue < 2 ^ 8) × MessageFits message
 TransactionFits (Claim item who) = ItemFits item × IsName who
 TransactionFits (Release item who) = ItemFits item × IsName who

@@ -1,5 +1,6 @@
 -- Reading from left to right: a reader gives a value and the bytes after it, or nothing.
-use Rattle.std.specs.Prelude.{◌≡◌, ℕ, zero, suc, nat_lt, Bool, true, false, not, ◌==◌, if◌then◌else◌, Option, Some, None, Result, Ok, Err, List, [], ◌∷◌, length, take, drop}
+use Rattle.std.specs.Prelude.{◌≡◌, ℕ, zero, suc, nat_lt, Bool, true, false, not, ◌==◌, if◌then◌else◌, Option, Some}
+use Rattle.std.specs.Prelude.{None, Result, Ok, Err, List, [], ◌∷◌, length, take, drop}
 use Rattle.std.specs.Int.{Width, w16, w32, w64, byte_len, from_be_bytes, cast_signed}
 use Rattle.flow_model.specs.Words.{is_name, is_text}
 use Rattle.flow_model.specs.declared.graphs.Value.{Value}
@@ -14,7 +15,9 @@ use Rattle.flow_model.specs.declared.names.NameFault.{NameFault}
 use Rattle.flow_model.specs.declared.names.NameFault.TheVariants as name_faults
 use Rattle.flow_model.specs.declared.transactions.Setting.{Setting}
 use Rattle.flow_model.specs.declared.transactions.Transaction.{Transaction}
-use Rattle.flow_model.specs.declared.transactions.Transaction.TheVariants.{Import, Start, Turn, Claim, Release, Transfer, Take, Done, Force, Restart, Suspend, Resume, Terminate, Delete, Clock}
+use Rattle.flow_model.specs.declared.transactions.Transaction.TheVariants.{Import, Start, Turn, Claim, Release}
+use Rattle.flow_model.specs.declared.transactions.Transaction.TheVariants.{Transfer, Take, Done, Force, Restart}
+use Rattle.flow_model.specs.declared.transactions.Transaction.TheVariants.{Suspend, Resume, Terminate, Delete, Clock}
 use Rattle.flow_txn.specs.declared.faults.RecordFault.{RecordFault}
 use Rattle.flow_txn.specs.declared.faults.RecordFault.TheVariants.{BadRecord, NoMemory}
 use Rattle.flow_txn.specs.Records.{is_small}
@@ -37,14 +40,17 @@ front n bytes = if nat_lt (length bytes) n then None else Some (take n bytes, dr
 
 -- a number of this width
 abbrev pub number : Width → List ℕ → Option (ℕ × List ℕ)
-number w bytes = if nat_lt (length bytes) (byte_len w) then None else Some (from_be_bytes w (take (byte_len w) bytes), drop (byte_len w) bytes)
+number w bytes = if nat_lt (length bytes) (byte_len w) then None else Some
+    (from_be_bytes w (take (byte_len w) bytes), drop (byte_len w) bytes)
 
 -- one after the other
-abbrev pub both : {A B : Type 0} → (List ℕ → Option (A × List ℕ)) → (List ℕ → Option (B × List ℕ)) → List ℕ → Option ((A × B) × List ℕ)
+abbrev pub both : {A B : Type 0} → (List ℕ → Option (A × List ℕ)) → (List ℕ → Option (B × List ℕ)) → List ℕ
+    → Option ((A × B) × List ℕ)
 both ra rb bytes = ra bytes >>= λ a. rb a.1 >>= λ b. Some ((a.0, b.0), b.1)
 
 -- one, and another that depends on it
-abbrev pub by : {A B : Type 0} → (List ℕ → Option (A × List ℕ)) → (A → List ℕ → Option (B × List ℕ)) → List ℕ → Option (B × List ℕ)
+abbrev pub by : {A B : Type 0} → (List ℕ → Option (A × List ℕ)) → (A → List ℕ → Option (B × List ℕ)) → List ℕ
+    → Option (B × List ℕ)
 by ra rb bytes = ra bytes >>= λ a. rb a.0 a.1
 
 -- what is read passes a test
@@ -133,7 +139,8 @@ unfoldable pub import_text : List ℕ → Option (List ℕ × List ℕ)
 import_text bytes = by (checked (λ n. nat_lt n 1048577) (number w32)) front bytes
 
 unfoldable pub start : List ℕ → Option (Transaction × List ℕ)
-start bytes = made (λ x. Start x.0.0.0.0.0 x.0.0.0.0.1 x.0.0.0.1 x.0.0.1 x.0.1 x.1) (both (both (both (both (both counted name) (number w32)) name) (by byte key_by)) settings) bytes
+start bytes = made (λ x. Start x.0.0.0.0.0 x.0.0.0.0.1 x.0.0.0.1 x.0.0.1 x.0.1 x.1)
+    (both (both (both (both (both counted name) (number w32)) name) (by byte key_by)) settings) bytes
 
 unfoldable pub turn : List ℕ → Option (Transaction × List ℕ)
 turn bytes = made (λ x. Turn x.0 x.1) (both byte (by byte message_by)) bytes
@@ -179,7 +186,8 @@ item_by kind bytes =
 
 -- kinds 4 to 10 are on items
 unfoldable pub body_by : ℕ → List ℕ → Option (Transaction × List ℕ)
-body_by kind bytes = if nat_lt 3 kind then (if nat_lt kind 11 then item_by kind bytes else plain_by kind bytes) else plain_by kind bytes
+body_by kind bytes = if nat_lt 3 kind then (if nat_lt kind 11 then item_by kind bytes else plain_by kind bytes) else
+    plain_by kind bytes
 
 unfoldable pub numbered : List ℕ → Option ((ℕ × Transaction) × List ℕ)
 numbered bytes = both counted (by byte body_by) bytes

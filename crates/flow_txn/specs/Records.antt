@@ -1,6 +1,7 @@
 -- The bytes of a transaction, kind by kind. Numbers are big-endian. A count that is too great for its bytes is
 -- written as the greatest one, which no part in range needs.
-use Rattle.std.specs.Prelude.{ℕ, ◌-◌, ◌^◌, min, ℤ, pos, negsuc, nat_lt, Bool, true, false, if◌then◌else◌, Option, Some, None, List, [], ◌∷◌, ◌++◌, length, ◌+◌, sum_by}
+use Rattle.std.specs.Prelude.{ℕ, ◌-◌, ◌^◌, min, ℤ, pos, negsuc, nat_lt, Bool, true, false, if◌then◌else◌, Option, Some}
+use Rattle.std.specs.Prelude.{None, List, [], ◌∷◌, ◌++◌, length, ◌+◌, sum_by}
 use Rattle.std.specs.List.{flat_map}
 use Rattle.std.specs.Int.{w16, w32, w64, to_be_bytes, cast_unsigned}
 use Rattle.flow_model.specs.declared.graphs.Value.{Value}
@@ -13,7 +14,9 @@ use Rattle.flow_model.specs.declared.instances.Who.{Who}
 use Rattle.flow_model.specs.declared.instances.Who.TheVariants.{Person, Agent}
 use Rattle.flow_model.specs.declared.transactions.Setting.{Setting}
 use Rattle.flow_model.specs.declared.transactions.Transaction.{Transaction}
-use Rattle.flow_model.specs.declared.transactions.Transaction.TheVariants.{Import, Start, Turn, Claim, Release, Transfer, Take, Done, Force, Restart, Suspend, Resume, Terminate, Delete, Clock}
+use Rattle.flow_model.specs.declared.transactions.Transaction.TheVariants.{Import, Start, Turn, Claim, Release}
+use Rattle.flow_model.specs.declared.transactions.Transaction.TheVariants.{Transfer, Take, Done, Force, Restart}
+use Rattle.flow_model.specs.declared.transactions.Transaction.TheVariants.{Suspend, Resume, Terminate, Delete, Clock}
 
 -- a number in eight bytes
 abbrev pub u64_bytes : ℕ → List ℕ
@@ -42,7 +45,8 @@ is_small (negsuc n) = nat_lt n (2 ^ 31)
 
 -- 1 and a number of 32 bits, 3 and one of 64 that hasn't 32, or 2 and a text
 abbrev pub value_bytes : Value → List ℕ
-value_bytes (Whole n) = if is_small n then 1 ∷ to_be_bytes w32 (cast_unsigned w32 n) else (3 ∷ u64_bytes (cast_unsigned w64 n))
+value_bytes (Whole n) = if is_small n then 1 ∷ to_be_bytes w32 (cast_unsigned w32 n) else
+    (3 ∷ u64_bytes (cast_unsigned w64 n))
 value_bytes (Text text) = 2 ∷ short_bytes text
 
 -- the place of a leaf and its value
@@ -65,7 +69,8 @@ truth_byte true = 1
 -- 1 BEGIN, 2 SIGNAL, 3 END, each with its scope; a SIGNAL goes on with source, target and truth
 abbrev pub message_bytes : Message → List ℕ
 message_bytes (Begin scope) = 1 ∷ path_bytes scope
-message_bytes (Signal scope source target truth) = 2 ∷ path_bytes scope ++ short_bytes source ++ short_bytes target ++ truth_byte truth ∷ []
+message_bytes (Signal scope source target truth) = 2 ∷ path_bytes scope ++ short_bytes source ++ short_bytes target
+    ++ truth_byte truth ∷ []
 message_bytes (End scope) = 3 ∷ path_bytes scope
 
 -- 1 and a person, or 2 and the take number of an agent
@@ -92,7 +97,8 @@ kind (Clock minutes) = 15
 
 abbrev pub body : Transaction → List ℕ
 body (Import text) = import_bytes text
-body (Start root process version starter key settings) = u64_bytes root ++ short_bytes process ++ to_be_bytes w32 version ++ short_bytes starter ++ key_bytes key ++ settings_bytes settings
+body (Start root process version starter key settings) = u64_bytes root ++ short_bytes process
+    ++ to_be_bytes w32 version ++ short_bytes starter ++ key_bytes key ++ settings_bytes settings
 body (Turn queue message) = queue ∷ message_bytes message
 body (Claim item who) = path_bytes item ++ short_bytes who
 body (Release item who) = path_bytes item ++ short_bytes who

@@ -1,7 +1,8 @@
 //! The fields of a record, read from the front of its bytes: each function gives a value and the bytes after it.
 ghost use Rattle.std.specs.Prelude.{◌≡◌, length};
 ghost use Rattle.std.specs.Int.{w16, w32, w64};
-ghost use Rattle.flow_txn.specs.Reading.{Gives, byte, front, number, by, many, counted, short, name, text, part, parts, path, item, large, value_by, setting, settings, key_by, truth_by};
+ghost use Rattle.flow_txn.specs.Reading.{Gives, byte, front, number, by, many, counted, short, name, text, part, parts};
+ghost use Rattle.flow_txn.specs.Reading.{path, item, large, value_by, setting, settings, key_by, truth_by};
 
 use crate::faults::RecordFault;
 use crate::writing::is_small;
@@ -115,7 +116,7 @@ fn part_of(alloc: Global, bytes: &[u8]) -> Result<(Part, &[u8]), RecordFault>
 fn many_parts(alloc: Global, count: u8, bytes: &[u8]) -> Result<(List<Part>, &[u8]), RecordFault>
     ensures { Gives (λ x. (x.0, x.1.now)) result (many part count bytes.now) }
 {
-    let mut parts = List::with_capacity(alloc, usize::from(count))?;
+    let mut parts = List::new(alloc);
     let mut rest = bytes;
     for _ in 0..count {
         let (part, after) = part_of(alloc, rest)?;
@@ -203,7 +204,7 @@ fn many_settings(
 ) -> Result<(List<Setting>, &[u8]), RecordFault>
     ensures { Gives (λ x. (x.0, x.1.now)) result (many setting count bytes.now) }
 {
-    let mut settings = List::with_capacity(alloc, bytes.len().min(usize::from(count)))?;
+    let mut settings = List::new(alloc);
     let mut rest = bytes;
     for _ in 0..count {
         let (setting, after) = setting_of(alloc, rest)?;

@@ -3,7 +3,8 @@ ghost use Rattle.std.specs.Prelude.{◌≡◌, ◌≢◌, ℕ, IfOk, IsErrOf};
 ghost use Rattle.flow_model.specs.declared.transactions.Transaction.{Transaction as Record};
 ghost use Rattle.flow_txn.specs.Records.{record_bytes};
 ghost use Rattle.flow_txn.specs.Ranges.{IsInRange};
-ghost use Rattle.flow_txn.specs.Reading.{Gives, signal, message_by, who_by, import_text, start, turn, item_name, transfer, taking, done, force, plain_by, item_by, body_by, numbered, whole};
+ghost use Rattle.flow_txn.specs.Reading.{Gives, signal, message_by, who_by, import_text, start, turn, item_name};
+ghost use Rattle.flow_txn.specs.Reading.{transfer, taking, done, force, plain_by, item_by, body_by, numbered, whole};
 
 use crate::faults::RecordFault;
 use crate::fields::{
@@ -251,10 +252,13 @@ fn whole_of(alloc: Global, payload: &[u8]) -> Result<Numbered, RecordFault>
 /// `BadRecord` comes exactly where no transaction in range has these bytes; without memory it may be `NoMemory`.
 pub fn decode(alloc: Global, payload: &[u8]) -> Result<Numbered, RecordFault>
     // What is read is in range, and its record is the payload.
-    ensures read { IfOk result (λ n. (record_bytes n.number n.transaction ≡ payload.now) × IsInRange n.number n.transaction) }
+    ensures read { IfOk result (λ n. (record_bytes n.number n.transaction ≡ payload.now)
+        × IsInRange n.number n.transaction) }
     // No other transaction in range has this record.
-    ensures same { (number : ℕ) (t : Record) → IsInRange number t → record_bytes number t ≡ payload.now → IfOk result (λ n. (n.number ≡ number) × (n.transaction ≡ t)) }
-    ensures bad { IsErrOf result RecordFault.BadRecord → (number : ℕ) (t : Record) → IsInRange number t → record_bytes number t ≢ payload.now }
+    ensures same { (number : ℕ) (t : Record) → IsInRange number t → record_bytes number t ≡ payload.now
+        → IfOk result (λ n. (n.number ≡ number) × (n.transaction ≡ t)) }
+    ensures bad { IsErrOf result RecordFault.BadRecord → (number : ℕ) (t : Record) → IsInRange number t
+        → record_bytes number t ≢ payload.now }
 {
     whole_of(alloc, payload)
 }

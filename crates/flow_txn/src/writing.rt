@@ -1,7 +1,9 @@
 //! The record of a transaction.
 ghost use Rattle.std.specs.Prelude.{◌≡◌, ◌+◌, ◌-◌, ◌^◌, ◌≤◌, ◌∷◌, ◌++◌, length, min, OnOk, IfOk};
 ghost use Rattle.std.specs.Int.{w16, w32, to_be_bytes};
-ghost use Rattle.flow_txn.specs.Records.{u64_bytes, short_bytes, import_bytes, part_bytes, path_bytes, is_small as small_test, value_bytes, setting_bytes, settings_bytes, key_bytes, truth_byte, message_bytes, who_bytes, kind, body, record_bytes, room};
+ghost use Rattle.flow_txn.specs.Records.{u64_bytes, short_bytes, import_bytes, part_bytes, path_bytes};
+ghost use Rattle.flow_txn.specs.Records.{is_small as small_test, value_bytes, setting_bytes, settings_bytes, key_bytes};
+ghost use Rattle.flow_txn.specs.Records.{truth_byte, message_bytes, who_bytes, kind, body, record_bytes, room};
 ghost use Rattle.flow_txn.specs.Ranges.{IsInRange};
 
 use flow_model::{Message, Name, Part, Path, Setting, Transaction, Value, Who};

@@ -22,8 +22,10 @@ EndsDone (Err status) = status ≡ Done
 abbrev pub empty_history : ℕ → ℕ → Summary
 empty_history queues limit = record { queues = queues; limit = limit; transactions = 0; roots = 0; live = [] }
 
--- A store is made: a crash at any moment leaves what was there, or where no store was there none or the new one; where the run is done, every image stands for the empty history.
-pub record MakesStore {D : Type 0} (moment : D → ℕ) (left_since : D → ℕ → Image → Type 0) (seen : D → Image) (images : D → Image → Type 0) (old new : D) (IsDone : Type 0) : Type 0 where
+-- A store is made: a crash at any moment leaves what was there, or where no store was there none or the new one; where
+-- the run is done, every image stands for the empty history.
+pub record MakesStore {D : Type 0} (moment : D → ℕ) (left_since : D → ℕ → Image → Type 0) (seen : D → Image)
+    (images : D → Image → Type 0) (old new : D) (IsDone : Type 0) : Type 0 where
   pub queues : ℕ
   pub limit : ℕ
   pub any_moment : LeavesOnly moment left_since old new (MayBeMade queues limit (seen old))

@@ -6,7 +6,8 @@ use Rattle.flow_io.specs.declared.lines.IoStop.TheVariants as stop
 use Rattle.flow_session.specs.declared.serving.Stop.{Stop}
 use Rattle.flow_session.specs.declared.serving.Stop.TheVariants as session
 use Rattle.flow_words.specs.declared.status.Status.{Status}
-use Rattle.flow_words.specs.declared.status.Status.TheVariants.{Done, Usage, Store, StoreFault, ReadFault, WriteFault, NoMemory, ScriptTooLong, Refused}
+use Rattle.flow_words.specs.declared.status.Status.TheVariants.{Done, Usage, Store, StoreFault, ReadFault, WriteFault}
+use Rattle.flow_words.specs.declared.status.Status.TheVariants.{NoMemory, ScriptTooLong, Refused}
 use Rattle.flow_words.specs.declared.stored.Look.{Look}
 use Rattle.flow_words.specs.declared.stored.Look.TheVariants.{Explain, Verify, Overdue, Ship}
 use Rattle.flow_words.specs.declared.stored.Word.{Word}
@@ -59,7 +60,8 @@ ServeCause put put' store store' NoMemory = Unit {0}
 ServeCause put put' store store' ScriptTooLong = ⊥
 ServeCause put put' store store' Refused = Unit {0}
 
--- how a script ends before its end: by a fault of the source, the sink or the store, without memory, or because it is too long
+-- how a script ends before its end: by a fault of the source, the sink or the store, without memory, or because it is
+-- too long
 abbrev pub StopsScript : Status → Type 0
 StopsScript Done = ⊥
 StopsScript Usage = ⊥

@@ -21,7 +21,8 @@ EndsSilent status held held' ended = (ended ≡ status) × Keeps held held'
 abbrev pub PrintsLine : List ℕ → Status → Option (List ℕ) → Option (List ℕ) → Status → Type 0
 PrintsLine line status held held' ended = EndsSilent NoMemory held held' ended ⊎ Prints line status held held' ended
 
--- What is printed of a result of following: how far the store is now; or why it wasn't opened or the stream not followed; nothing where the source failed or is too long, or where there was no memory.
+-- What is printed of a result of following: how far the store is now; or why it wasn't opened or the stream not
+-- followed; nothing where the source failed or is too long, or where there was no memory.
 abbrev pub PrintsResult : Result Followed FollowStop → Option (List ℕ) → Option (List ℕ) → Status → Type 0
 PrintsResult (Ok followed) held held' ended = PrintsLine (followed_line followed) Done held held' ended
 PrintsResult (Err (follow.Store stop)) held held' ended = RefusesStore stop held held' ended
@@ -31,12 +32,15 @@ PrintsResult (Err follow.NoMemory) held held' ended = EndsSilent NoMemory held h
 PrintsResult (Err stop) held held' ended = PrintsLine (follow_refusal_line stop) Refused held held' ended
 
 -- following comes to this: the store isn't opened and nothing is read, or it is and the source is followed
-abbrev pub ComesToResult : Type 0 → Image → (Image → Type 0) → Option (List ℕ) → Option (List ℕ) → Result Followed FollowStop → Type 0
+abbrev pub ComesToResult : Type 0 → Image → (Image → Type 0) → Option (List ℕ) → Option (List ℕ)
+    → Result Followed FollowStop → Type 0
 ComesToResult tells seen images left left' result =
-    (MatchResult result (λ _. ⊥) (IsNotOpened (λ stop. tells → IsUnopened seen stop)) × Keeps left left') ⊎ FollowsOpened tells seen images left left' result
+    (MatchResult result (λ _. ⊥) (IsNotOpened (λ stop. tells → IsUnopened seen stop)) × Keeps left left')
+    ⊎ FollowsOpened tells seen images left left' result
 
 -- `follow`: following comes to a result, and that is printed
-pub record PrintsFollowed {D : Type 0} (tells : Type 0) (seen : D → Image) (images : D → Image → Type 0) (left left' held held' : Option (List ℕ)) (disk disk' : D) (ended : Status) : Type 0 where
+pub record PrintsFollowed {D : Type 0} (tells : Type 0) (seen : D → Image) (images : D → Image → Type 0)
+    (left left' held held' : Option (List ℕ)) (disk disk' : D) (ended : Status) : Type 0 where
   pub result : Result Followed FollowStop
   pub comes_to : ComesToResult tells (seen disk) (images disk') left left' result
   pub printed : PrintsResult result held held' ended

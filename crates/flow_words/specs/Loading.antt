@@ -1,5 +1,7 @@
 -- What `load` serves and prints: a script that two numbers make, and the line that sums it up.
-use Rattle.std.specs.Prelude.{◌≡◌, ◌⊎◌, ℕ, zero, suc, ◌+◌, ◌*◌, ◌/◌, ◌%◌, ◌-◌, ◌^◌, min, nat_lt, Bool, true, false, if◌then◌else◌, count_by, Option, None, Some, List, [], ◌∷◌, ◌++◌, length, map, codes, decimal}
+use Rattle.std.specs.Prelude.{◌≡◌, ◌⊎◌, ℕ, zero, suc, ◌+◌, ◌*◌, ◌/◌, ◌%◌, ◌-◌, ◌^◌, min, nat_lt, Bool, true, false}
+use Rattle.std.specs.Prelude.{if◌then◌else◌, count_by, Option, None, Some, List, [], ◌∷◌, ◌++◌, length, map, codes}
+use Rattle.std.specs.Prelude.{decimal}
 use Rattle.std.specs.List.{flat_map}
 use Rattle.std.specs.Io.KnownBytes.{Keeps}
 use Rattle.flow_core.specs.Answers.{done_roots}
@@ -50,10 +52,14 @@ above seed (suc root) = above seed root + (if is_above (amount_by (number_of see
 -- the lines of the text that is imported
 unfoldable pub loan_text : List (List ℕ)
 loan_text =
-    codes "STRUCTURE 'Loan' 'Amount' : LONG ; 'Risk' : STRING ; END 'Loan'" ∷ codes "PERSON 'ann' ROLES 'clerk' END 'ann'" ∷ codes "PROCESS 'P' ('Loan','Loan')"
-    ∷ codes "PROGRAM_ACTIVITY 'A' ('Loan','Loan') END 'A'" ∷ codes "PROGRAM_ACTIVITY 'B' ('Loan','Loan') END 'B'" ∷ codes "PROGRAM_ACTIVITY 'C' ('Loan','Loan') END 'C'"
-    ∷ codes "PROGRAM_ACTIVITY 'D' ('Loan','Loan') WHEN AT_LEAST_ONE CONNECTOR TRUE END 'D'" ∷ codes "CONTROL FROM 'A' TO 'B' WHEN ('Amount' > 100)" ∷ codes "CONTROL FROM 'A' TO 'C' OTHERWISE"
-    ∷ codes "CONTROL FROM 'B' TO 'D'" ∷ codes "CONTROL FROM 'C' TO 'D'" ∷ codes "DATA FROM SOURCE TO 'A' MAP 'Amount' TO 'Amount'" ∷ codes "DATA FROM 'D' TO SINK MAP 'Amount' TO 'Amount'"
+    codes "STRUCTURE 'Loan' 'Amount' : LONG ; 'Risk' : STRING ; END 'Loan'" ∷ codes
+    "PERSON 'ann' ROLES 'clerk' END 'ann'" ∷ codes "PROCESS 'P' ('Loan','Loan')"
+    ∷ codes "PROGRAM_ACTIVITY 'A' ('Loan','Loan') END 'A'" ∷ codes "PROGRAM_ACTIVITY 'B' ('Loan','Loan') END 'B'" ∷
+    codes "PROGRAM_ACTIVITY 'C' ('Loan','Loan') END 'C'"
+    ∷ codes "PROGRAM_ACTIVITY 'D' ('Loan','Loan') WHEN AT_LEAST_ONE CONNECTOR TRUE END 'D'" ∷ codes
+    "CONTROL FROM 'A' TO 'B' WHEN ('Amount' > 100)" ∷ codes "CONTROL FROM 'A' TO 'C' OTHERWISE"
+    ∷ codes "CONTROL FROM 'B' TO 'D'" ∷ codes "CONTROL FROM 'C' TO 'D'" ∷ codes
+    "DATA FROM SOURCE TO 'A' MAP 'Amount' TO 'Amount'" ∷ codes "DATA FROM 'D' TO SINK MAP 'Amount' TO 'Amount'"
     ∷ codes "END 'P'" ∷ []
 
 -- these lines, one after the other
@@ -86,7 +92,8 @@ way amount = if is_above amount then 66 else 67
 
 -- the lines for a root: a START, and a FORCE of A, of B or C, and of D, with a DRAIN behind each
 unfoldable pub root_script : ℕ → ℕ → List Given
-root_script root amount = drained (start_line amount) ++ drained (force_with root 65 amount) ++ drained (force_line root (way amount)) ++ drained (force_line root 68)
+root_script root amount = drained (start_line amount) ++ drained (force_with root 65 amount)
+    ++ drained (force_line root (way amount)) ++ drained (force_line root 68)
 
 -- the lines for the first so many roots
 abbrev pub roots_script : ℕ → ℕ → List Given
@@ -101,7 +108,8 @@ load_script seed roots = import_script ++ roots_script seed roots
 
 -- inputs are served in memory, one after the other, with these replies
 abbrev pub ServesInMemory : Session → NoJournal → List Given → List (List ℕ) → Session → NoJournal → Type 0
-ServesInMemory s j inputs replies s' j' = ServesAll ⊥ (λ _ _. ⊥) (λ _. 0) (λ _ _ _. ⊥) (λ _. (A, 0)) (λ _ _ _. Unit {0}) s j inputs replies s' j'
+ServesInMemory s j inputs replies s' j' = ServesAll ⊥ (λ _ _. ⊥) (λ _. 0) (λ _ _ _. ⊥) (λ _. (A, 0))
+    (λ _ _ _. Unit {0}) s j inputs replies s' j'
 
 -- ---- the line
 
@@ -121,8 +129,10 @@ done_in c = min (done_roots c) (2 ^ 64 - 1)
 abbrev pub load_line : List ℕ → List ℕ
 load_line numbers = codes "ok LOAD" ++ flat_map (λ n. 32 ∷ decimal n) numbers ++ 10 ∷ []
 
--- The script of a load was served over the empty history of a store with 4 queues and a limit of 10,000,000, and the text sums it up:
--- the transactions, the turns, the roots that are done, the roots whose amount is above 100, and the bytes of all replies.
+-- The script of a load was served over the empty history of a store with 4 queues and a limit of 10,000,000, and the
+-- text sums it up:
+-- the transactions, the turns, the roots that are done, the roots whose amount is above 100, and the bytes of all
+-- replies.
 pub record IsLoaded (seed roots : ℕ) (text : List ℕ) : Type 0 where
   pub before : Session
   pub after : Session
@@ -131,7 +141,8 @@ pub record IsLoaded (seed roots : ℕ) (text : List ℕ) : Type 0 where
   pub replies : List (List ℕ)
   pub fresh : IsFresh 4 10000000 before
   pub served : ServesInMemory before journal (load_script seed roots) replies after journal'
-  pub told : text ≡ load_line (seed ∷ roots ∷ after.core.number ∷ turns_of after.core.live.items ∷ done_in after.core ∷ above seed roots ∷ length (all_replies replies) ∷ [])
+  pub told : text ≡ load_line (seed ∷ roots ∷ after.core.number ∷ turns_of after.core.live.items ∷ done_in after.core ∷
+      above seed roots ∷ length (all_replies replies) ∷ [])
 
 -- ---- the steps of a load
 
@@ -143,13 +154,16 @@ pub record Serves (inputs : List Given) (old new : Loading) : Type 0 where
 
 -- the line of a load that has come so far, where so many amounts are above 100
 abbrev pub IsSummary : ℕ → ℕ → ℕ → Loading → List ℕ → Type 0
-IsSummary seed roots over load text = text ≡ load_line (seed ∷ roots ∷ load.session.core.number ∷ turns_of load.session.core.live.items ∷ done_in load.session.core ∷ over ∷ load.bytes ∷ [])
+IsSummary seed roots over load text = text ≡ load_line
+    (seed ∷ roots ∷ load.session.core.number ∷ turns_of load.session.core.live.items ∷ done_in load.session.core ∷ over
+    ∷ load.bytes ∷ [])
 
 -- ---- what is printed
 
 -- the line of a load is printed; without memory nothing is
 abbrev pub PrintsLoaded : ℕ → ℕ → Option (List ℕ) → Option (List ℕ) → Status → Type 0
-PrintsLoaded seed roots held held' ended = ((ended ≡ NoMemory) × Keeps held held') ⊎ ((text : List ℕ) × IsLoaded seed roots text × Prints text Done held held' ended)
+PrintsLoaded seed roots held held' ended = ((ended ≡ NoMemory) × Keeps held held')
+    ⊎ ((text : List ℕ) × IsLoaded seed roots text × Prints text Done held held' ended)
 
 -- the word `load` with these words behind it, which name its numbers
 abbrev pub IsLoadWord : List (List ℕ) → Option Word → Type 0
@@ -159,7 +173,8 @@ IsLoadWord words (Some Fate) = ⊥
 IsLoadWord words (Some (Try settings)) = ⊥
 IsLoadWord words (Some (Load seed roots)) = NamesLoad words seed roots
 
--- `load` with these words behind it: they don't name its numbers, and that is printed; or they do, and the line of that load is printed
+-- `load` with these words behind it: they don't name its numbers, and that is printed; or they do, and the line of that
+-- load is printed
 abbrev pub PrintsLoad : List (List ℕ) → Option (List ℕ) → Option (List ℕ) → Status → Type 0
 PrintsLoad words held held' ended =
     (NamesNoLoad words × Prints (codes "no USAGE\n") Usage held held' ended)

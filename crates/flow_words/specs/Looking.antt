@@ -20,7 +20,8 @@ use Rattle.flow_words.specs.Printed.{Prints, IsUnanswered}
 use Rattle.flow_words.specs.declared.status.Status.{Status}
 use Rattle.flow_words.specs.declared.status.Status.TheVariants.{Done, Usage, Refused}
 
--- A store is opened, which leaves what was there, and this is printed of the state for which it stands: the one to which
+-- A store is opened, which leaves what was there, and this is printed of the state for which it stands: the one to
+-- which
 -- its records come by the steps of the machine.
 pub record LooksInto {D : Type 0} (tells : Type 0) (moment : D → ℕ) (left_since : D → ℕ → Image → Type 0)
     (seen : D → Image) (images : D → Image → Type 0) (disk disk' : D) (IsPrinted : Core → Type 0) : Type 0 where
@@ -36,28 +37,38 @@ abbrev pub PrintsLate : Option (List ℕ) → Option (List ℕ) → Status → C
 PrintsLate held held' ended core = (text : List ℕ) × IsOverdueText core text × Prints text Done held held' ended
 
 -- `overdue`: the store isn't opened or there is no memory; or it is, and what is late in its state is printed
-abbrev pub PrintsOverdue : {D : Type 0} → Type 0 → (D → ℕ) → (D → ℕ → Image → Type 0) → (D → Image) → (D → Image → Type 0) → Option (List ℕ) → Option (List ℕ) → D → D → Status → Type 0
+abbrev pub PrintsOverdue : {D : Type 0} → Type 0 → (D → ℕ) → (D → ℕ → Image → Type 0) → (D → Image)
+    → (D → Image → Type 0) → Option (List ℕ) → Option (List ℕ) → D → D → Status → Type 0
 PrintsOverdue tells moment left_since seen images held held' disk disk' ended =
-    IsUnserved tells seen disk held held' ended ⊎ LooksInto tells moment left_since seen images disk disk' (PrintsLate held held' ended)
+    IsUnserved tells seen disk held held' ended ⊎ LooksInto tells moment left_since seen images disk disk'
+    (PrintsLate held held' ended)
 
 -- the lines of the source are read to their end, and the verdict on them by a state is printed; or nothing is
 abbrev pub PrintsVerdict : Option (List ℕ) → Option (List ℕ) → Option (List ℕ) → Status → Core → Type 0
 PrintsVerdict left held held' ended core =
     IsUnanswered ended × Keeps held held'
-    ⊎ (lines : List (Vec ℕ × Bool)) × AreLines left lines × ((text : List ℕ) × (refused : Bool) × IsVerified core lines text refused × Prints text (if refused then Refused else Done) held held' ended)
+    ⊎ (lines : List (Vec ℕ × Bool)) × AreLines left lines
+    × ((text : List ℕ) × (refused : Bool) × IsVerified core lines text refused
+    × Prints text (if refused then Refused else Done) held held' ended)
 
 -- `verify`: the store isn't opened; or it is, and the verdict on the lines of the source is printed
-abbrev pub PrintsVerified : {D : Type 0} → Type 0 → (D → ℕ) → (D → ℕ → Image → Type 0) → (D → Image) → (D → Image → Type 0) → Option (List ℕ) → Option (List ℕ) → Option (List ℕ) → D → D → Status → Type 0
+abbrev pub PrintsVerified : {D : Type 0} → Type 0 → (D → ℕ) → (D → ℕ → Image → Type 0) → (D → Image)
+    → (D → Image → Type 0) → Option (List ℕ) → Option (List ℕ) → Option (List ℕ) → D → D → Status → Type 0
 PrintsVerified tells moment left_since seen images left held held' disk disk' ended =
-    IsUnserved tells seen disk held held' ended ⊎ LooksInto tells moment left_since seen images disk disk' (PrintsVerdict left held held' ended)
+    IsUnserved tells seen disk held held' ended ⊎ LooksInto tells moment left_since seen images disk disk'
+    (PrintsVerdict left held held' ended)
 
 -- why the activity that a word names is dead or finished by a state is printed, or that it has no certificate
 abbrev pub PrintsReason : List ℕ → Option (List ℕ) → Option (List ℕ) → Status → Core → Type 0
 PrintsReason word held held' ended core =
-    (text : List ℕ) × (refused : Bool) × ExplainsWord core word text refused × Prints text (if refused then Refused else Done) held held' ended
+    (text : List ℕ) × (refused : Bool) × ExplainsWord core word text refused
+    × Prints text (if refused then Refused else Done) held held' ended
 
--- `explain`: the word names no activity, and that is printed; the store isn't opened or there is no memory; or it is, and what its state says of the activity is printed
-abbrev pub PrintsExplained : {D : Type 0} → Type 0 → (D → ℕ) → (D → ℕ → Image → Type 0) → (D → Image) → (D → Image → Type 0) → List ℕ → Option (List ℕ) → Option (List ℕ) → D → D → Status → Type 0
+-- `explain`: the word names no activity, and that is printed; the store isn't opened or there is no memory; or it is,
+-- and what its state says of the activity is printed
+abbrev pub PrintsExplained : {D : Type 0} → Type 0 → (D → ℕ) → (D → ℕ → Image → Type 0) → (D → Image)
+    → (D → Image → Type 0) → List ℕ → Option (List ℕ) → Option (List ℕ) → D → D → Status → Type 0
 PrintsExplained tells moment left_since seen images word held held' disk disk' ended =
-    (NamesNoActivity word × Prints (codes "no USAGE\n") Usage held held' ended) ⊎ IsUnserved tells seen disk held held' ended
+    (NamesNoActivity word × Prints (codes "no USAGE\n") Usage held held' ended)
+    ⊎ IsUnserved tells seen disk held held' ended
     ⊎ LooksInto tells moment left_since seen images disk disk' (PrintsReason word held held' ended)

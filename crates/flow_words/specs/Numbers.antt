@@ -29,7 +29,8 @@ queue_words queues = codes "QUEUES" ∷ decimal queues ∷ []
 -- words name a limit and queues, the limit first; a limit that isn't named is 1,000,000, queues that aren't are 1
 abbrev pub AreNamed : List (List ℕ) → ℕ → ℕ → Type 0
 AreNamed words queues limit =
-    ((words ≡ []) × (queues ≡ 1) × (limit ≡ 1000000)) ⊎ ((words ≡ limit_words limit) × (queues ≡ 1)) ⊎ ((words ≡ queue_words queues) × (limit ≡ 1000000)) ⊎ (words ≡ limit_words limit ++ queue_words queues)
+    ((words ≡ []) × (queues ≡ 1) × (limit ≡ 1000000)) ⊎ ((words ≡ limit_words limit) × (queues ≡ 1))
+    ⊎ ((words ≡ queue_words queues) × (limit ≡ 1000000)) ⊎ (words ≡ limit_words limit ++ queue_words queues)
 
 -- the queues and the limit that words name
 pub record AreSettings (words : List (List ℕ)) (queues limit : ℕ) : Type 0 where

@@ -21,7 +21,8 @@ abbrev pub store_text : LogStop → Option (List ℕ)
 store_text stop.Unmade = Some (codes "no STORE UNMADE\n")
 store_text stop.Made = Some (codes "no STORE MADE\n")
 store_text (stop.Foreign slot) = Some (codes "no STORE FOREIGN " ++ slot_letter slot ++ 10 ∷ [])
-store_text (stop.Damaged slot place) = Some (codes "no STORE DAMAGED " ++ slot_letter slot ++ 32 ∷ [] ++ decimal place ++ 10 ∷ [])
+store_text (stop.Damaged slot place) = Some (codes "no STORE DAMAGED " ++ slot_letter slot ++ 32 ∷ [] ++ decimal place
+    ++ 10 ∷ [])
 store_text stop.StoreFault = None
 store_text stop.NoMemory = None
 
@@ -34,15 +35,19 @@ fault_of (stop.Damaged slot place) = NoMemory
 fault_of stop.StoreFault = StoreFault
 fault_of stop.NoMemory = NoMemory
 
--- the text of a refusal is printed, and the word ends as Store; where there is no text nothing is printed, and it ends by the fault
+-- the text of a refusal is printed, and the word ends as Store; where there is no text nothing is printed, and it ends
+-- by the fault
 abbrev pub PrintsRefusal : Option (List ℕ) → Status → Option (List ℕ) → Option (List ℕ) → Status → Type 0
 PrintsRefusal None fault held held' ended = (ended ≡ fault) × Keeps held held'
 PrintsRefusal (Some text) fault held held' ended = Prints text Store held held' ended
 
 -- a store that isn't opened or made for this cause is refused, or there is no memory for the text
 abbrev pub RefusesStore : LogStop → Option (List ℕ) → Option (List ℕ) → Status → Type 0
-RefusesStore stop held held' ended = ((ended ≡ NoMemory) × Keeps held held') ⊎ PrintsRefusal (store_text stop) (fault_of stop) held held' ended
+RefusesStore stop held held' ended = ((ended ≡ NoMemory) × Keeps held held')
+    ⊎ PrintsRefusal (store_text stop) (fault_of stop) held held' ended
 
--- A word over a store ends without having looked into it: the store is refused for a cause that the disk tells, or there is no memory.
+-- A word over a store ends without having looked into it: the store is refused for a cause that the disk tells, or
+-- there is no memory.
 abbrev pub IsUnserved : {D : Type 0} → Type 0 → (D → Image) → D → Option (List ℕ) → Option (List ℕ) → Status → Type 0
-IsUnserved tells seen disk held held' ended = (stop : LogStop) × (tells → IsUnopened (seen disk) stop) × RefusesStore stop held held' ended
+IsUnserved tells seen disk held held' ended = (stop : LogStop) × (tells → IsUnopened (seen disk) stop)
+    × RefusesStore stop held held' ended

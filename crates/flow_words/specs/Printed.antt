@@ -1,5 +1,6 @@
 -- What the words `check` and `fate` print.
-use Rattle.std.specs.Prelude.{◌≡◌, ◌≢◌, ℕ, ◌≤◌, ◌⊎◌, true, false, if◌then◌else◌, Option, Some, None, List, [], ◌∷◌, codes, length, take}
+use Rattle.std.specs.Prelude.{◌≡◌, ◌≢◌, ℕ, ◌≤◌, ◌⊎◌, true, false, if◌then◌else◌, Option, Some, None, List, [], ◌∷◌}
+use Rattle.std.specs.Prelude.{codes, length, take}
 use Rattle.std.specs.Io.KnownBytes.{Appends, Keeps}
 use Rattle.text_words.specs.Answers.{Refuses, AnswersTree}
 use Rattle.text_words.specs.FateAnswers.{AnswersText}
@@ -7,7 +8,8 @@ use Rattle.text_words.specs.Gathered.{IsGathered}
 use Rattle.text_words.specs.declared.check.Answer.{Answer}
 use Rattle.text_words.specs.declared.input.Input.{Input}
 use Rattle.flow_words.specs.declared.status.Status.{Status}
-use Rattle.flow_words.specs.declared.status.Status.TheVariants.{Done, Usage, Store, StoreFault, ReadFault, WriteFault, NoMemory, ScriptTooLong, Refused}
+use Rattle.flow_words.specs.declared.status.Status.TheVariants.{Done, Usage, Store, StoreFault, ReadFault, WriteFault}
+use Rattle.flow_words.specs.declared.status.Status.TheVariants.{NoMemory, ScriptTooLong, Refused}
 
 -- a front part of a text stands behind what the sink held
 abbrev pub PrintsPart : Option (List ℕ) → Option (List ℕ) → List ℕ → Type 0
@@ -15,7 +17,8 @@ PrintsPart old new text = (n : ℕ) × (n ≤ length text) × Appends old new (t
 
 -- a text is printed and the word ends so, or the sink fails behind a front part of it
 abbrev pub Prints : List ℕ → Status → Option (List ℕ) → Option (List ℕ) → Status → Type 0
-Prints text status old new ended = (ended ≡ status) × Appends old new text ⊎ (ended ≡ WriteFault) × PrintsPart old new text
+Prints text status old new ended = (ended ≡ status) × Appends old new text ⊎ (ended ≡ WriteFault)
+    × PrintsPart old new text
 
 -- a word ends before it has an answer
 abbrev pub IsUnanswered : Status → Type 0
@@ -36,15 +39,18 @@ answer_status answer = if answer.is_refused then Refused else Done
 -- the text of an answer to what was read is printed; nothing is where the word ends before it has one
 abbrev pub PrintsAnswer : (Input → Answer → Type 0) → Option (List ℕ) → Option (List ℕ) → Status → Type 0
 PrintsAnswer Answers old new ended =
-    IsUnanswered ended × Keeps old new ⊎ (input : Input) × (answer : Answer) × Answers input answer × Prints answer.text.items (answer_status answer) old new ended
+    IsUnanswered ended × Keeps old new ⊎ (input : Input) × (answer : Answer) × Answers input answer
+    × Prints answer.text.items (answer_status answer) old new ended
 
--- what `check` answers, where all that the source had left is its text: its first line that is too long, else the answer to its text
+-- what `check` answers, where all that the source had left is its text: its first line that is too long, else the
+-- answer to its text
 pub record IsCheckOf (left : Option (List ℕ)) (input : Input) (answer : Answer) : Type 0 where
   pub gathered : IsGathered false left input
   pub long : (line : ℕ) → input.too_long ≡ Some line → Refuses answer (codes "LINE") (line ∷ [])
   pub judged : input.too_long ≡ None → AnswersTree input.text.items answer
 
--- what `fate` answers, where a line of what the source had left ends its text: its first line that is too long, else that its text has no end, else the answer to its text
+-- what `fate` answers, where a line of what the source had left ends its text: its first line that is too long, else
+-- that its text has no end, else the answer to its text
 pub record IsFateOf (left : Option (List ℕ)) (input : Input) (answer : Answer) : Type 0 where
   pub gathered : IsGathered true left input
   pub long : (line : ℕ) → input.too_long ≡ Some line → Refuses answer (codes "LINE") (line ∷ [])
@@ -55,4 +61,5 @@ pub record IsFateOf (left : Option (List ℕ)) (input : Input) (answer : Answer)
 abbrev pub IsUnknown : List (List ℕ) → Type 0
 IsUnknown [] = Unit {0}
 IsUnknown (first ∷ rest) =
-    (first ≡ codes "check" → rest ≢ []) × (first ≡ codes "fate" → rest ≢ []) × (first ≢ codes "load") × (first ≢ codes "try")
+    (first ≡ codes "check" → rest ≢ []) × (first ≡ codes "fate" → rest ≢ []) × (first ≢ codes "load")
+    × (first ≢ codes "try")

@@ -1,5 +1,6 @@
 -- A script that is served: its inputs, and what is printed.
-use Rattle.std.specs.Prelude.{◌≡◌, ◌⊎◌, ℕ, ◌<◌, ◌≤◌, length, Option, None, Some, IfSome, List, [], ◌++◌, map, codes, Result, Ok, Err}
+use Rattle.std.specs.Prelude.{◌≡◌, ◌⊎◌, ℕ, ◌<◌, ◌≤◌, length, Option, None, Some, IfSome, List, [], ◌++◌, map, codes}
+use Rattle.std.specs.Prelude.{Result, Ok, Err}
 use Rattle.std.specs.List.{flat_map}
 use Rattle.std.specs.Io.KnownBytes.{Appends, Keeps}
 use Rattle.flow_disk.specs.Images.{Image}
@@ -74,7 +75,8 @@ ServesAndPrints tells holds moment left_since place moved held held' input s s' 
     × PrintsPart held held' reply)
 
 -- The first inputs of a script are served one after the other, each reply printed before the next input is read; then
--- the run ends, within the call under way where it fails. What the served inputs make is one list of transactions, which
+-- the run ends, within the call under way where it fails. What the served inputs make is one list of transactions,
+-- which
 -- leads from the first state to the last one. The run ends well only where the script isn't too long, and as too long
 -- only where it is, behind all inputs that count.
 pub record ServesScript {J : Type 0} (tells : Type 0) (holds : J → Summary → Type 0) (moment : J → ℕ)
@@ -149,10 +151,12 @@ status_of_word (Ok status) = status
 status_of_word (Err status) = status
 
 -- `run`: the store isn't opened, or it is, and serves the script
-abbrev pub RunsStore : {D : Type 0} → Type 0 → (D → ℕ) → (D → ℕ → Image → Type 0) → (D → Image) → (D → Image → Type 0) → Option (List ℕ) → Option (List ℕ) → Option (List ℕ) → D → D → Status → Type 0
+abbrev pub RunsStore : {D : Type 0} → Type 0 → (D → ℕ) → (D → ℕ → Image → Type 0) → (D → Image) → (D → Image → Type 0)
+    → Option (List ℕ) → Option (List ℕ) → Option (List ℕ) → D → D → Status → Type 0
 RunsStore tells moment left_since seen images left held held' disk disk' ended =
     IsUnserved tells seen disk held held' ended
-    ⊎ ((served : Result (Unit {0}) Status) × ServesStoreScript tells moment left_since seen images left held held' disk disk' served × EndsAs served ended)
+    ⊎ ((served : Result (Unit {0}) Status) × ServesStoreScript tells moment left_since seen images left held held' disk
+    disk' served × EndsAs served ended)
 
 -- `try`: a session over the empty history serves the script, and ends the program so
 abbrev pub TriesScript : ℕ → ℕ → Option (List ℕ) → Option (List ℕ) → Option (List ℕ) → Status → Type 0
@@ -167,7 +171,8 @@ IsTryWord words (Some Fate) = ⊥
 IsTryWord words (Some (Try settings)) = AreSettings words settings.queues settings.limit
 IsTryWord words (Some (Load seed roots)) = ⊥
 
--- `try` with these words behind it: they don't name settings, and that is printed; or a script is served over the empty history of such a store
+-- `try` with these words behind it: they don't name settings, and that is printed; or a script is served over the empty
+-- history of such a store
 abbrev pub PrintsTry : List (List ℕ) → Option (List ℕ) → Option (List ℕ) → Option (List ℕ) → Status → Type 0
 PrintsTry words left held held' ended =
     (NameNoSettings words × Prints (codes "no USAGE\n") Usage held held' ended)

@@ -21,18 +21,23 @@ use Rattle.flow_words.specs.declared.stored.Word.TheVariants.{Look}
 abbrev pub EndsShipping : Result ℕ ShipStop → Option (List ℕ) → Option (List ℕ) → Status → Type 0
 EndsShipping (Ok count) held held' ended = EndsSilent Done held held' ended
 EndsShipping (Err (ship.Store stop)) held held' ended = RefusesStore stop held held' ended
-EndsShipping (Err (ship.Gone kept)) held held' ended = PrintsLine (ship_refusal_line (ship.Gone kept)) Refused held held' ended
-EndsShipping (Err (ship.Ahead number)) held held' ended = PrintsLine (ship_refusal_line (ship.Ahead number)) Refused held held' ended
+EndsShipping (Err (ship.Gone kept)) held held' ended = PrintsLine
+    (ship_refusal_line (ship.Gone kept)) Refused held held' ended
+EndsShipping (Err (ship.Ahead number)) held held' ended = PrintsLine
+    (ship_refusal_line (ship.Ahead number)) Refused held held' ended
 EndsShipping (Err ship.WriteFault) held held' ended = EndsSilent WriteFault held held' ended
 EndsShipping (Err ship.NoMemory) held held' ended = EndsSilent NoMemory held held' ended
 
--- shipping from a number comes to this: the store isn't opened and nothing is put, or it is and its stream is put, as far as shipping comes
+-- shipping from a number comes to this: the store isn't opened and nothing is put, or it is and its stream is put, as
+-- far as shipping comes
 abbrev pub ShipsTo : Type 0 → Image → ℕ → Option (List ℕ) → Option (List ℕ) → Result ℕ ShipStop → Type 0
 ShipsTo tells seen from held held' result =
-    (MatchResult result (λ _. ⊥) (IsUnopened (λ stop. tells → IsRefusedStore seen stop)) × Keeps held held') ⊎ ShipsOpened tells seen from held held' result
+    (MatchResult result (λ _. ⊥) (IsUnopened (λ stop. tells → IsRefusedStore seen stop)) × Keeps held held')
+    ⊎ ShipsOpened tells seen from held held' result
 
 -- a store is shipped from a number, which comes to a result, and what that asks for is printed behind it
-pub record PrintsShipped {D : Type 0} (tells : Type 0) (seen : D → Image) (from : ℕ) (held held' : Option (List ℕ)) (disk : D) (ended : Status) : Type 0 where
+pub record PrintsShipped {D : Type 0} (tells : Type 0) (seen : D → Image) (from : ℕ) (held held' : Option (List ℕ))
+    (disk : D) (ended : Status) : Type 0 where
   pub shipped : Option (List ℕ)
   pub result : Result ℕ ShipStop
   pub comes_to : ShipsTo tells (seen disk) from held shipped result
@@ -45,10 +50,15 @@ IsShipWord word (Some (Look (Ship from))) = Names word 0 10000000 from
 IsShipWord word (Some other) = ⊥
 
 -- a store is shipped from the number that a word names
-abbrev pub ShipsNamed : {D : Type 0} → Type 0 → (D → Image) → List ℕ → Option (List ℕ) → Option (List ℕ) → D → Status → Type 0
-ShipsNamed tells seen word held held' disk ended = (from : ℕ) × Names word 0 10000000 from × PrintsShipped tells seen from held held' disk ended
+abbrev pub ShipsNamed : {D : Type 0} → Type 0 → (D → Image) → List ℕ → Option (List ℕ) → Option (List ℕ) → D → Status
+    → Type 0
+ShipsNamed tells seen word held held' disk ended = (from : ℕ) × Names word 0 10000000 from
+    × PrintsShipped tells seen from held held' disk ended
 
--- `ship` with this word behind its two files: it names no number, and that is printed; or the store is shipped from the one that it names
-abbrev pub PrintsShip : {D : Type 0} → Type 0 → (D → Image) → List ℕ → Option (List ℕ) → Option (List ℕ) → D → Status → Type 0
+-- `ship` with this word behind its two files: it names no number, and that is printed; or the store is shipped from the
+-- one that it names
+abbrev pub PrintsShip : {D : Type 0} → Type 0 → (D → Image) → List ℕ → Option (List ℕ) → Option (List ℕ) → D → Status
+    → Type 0
 PrintsShip tells seen word held held' disk ended =
-    (NamesNone word 0 10000000 × Prints (codes "no USAGE\n") Usage held held' ended) ⊎ ShipsNamed tells seen word held held' disk ended
+    (NamesNone word 0 10000000 × Prints (codes "no USAGE\n") Usage held held' ended)
+    ⊎ ShipsNamed tells seen word held held' disk ended

@@ -14,7 +14,8 @@ abbrev pub IsLookWord : List ℕ → List (List ℕ) → Look → Type 0
 IsLookWord first rest Explain = (first ≡ codes "explain") × ((activity : List ℕ) × (rest ≡ activity ∷ []))
 IsLookWord first rest Verify = (first ≡ codes "verify") × (rest ≡ [])
 IsLookWord first rest Overdue = (first ≡ codes "overdue") × (rest ≡ [])
-IsLookWord first rest (Ship from) = (first ≡ codes "ship") × ((number : List ℕ) × (rest ≡ number ∷ []) × Names number 0 10000000 from)
+IsLookWord first rest (Ship from) = (first ≡ codes "ship")
+    × ((number : List ℕ) × (rest ≡ number ∷ []) × Names number 0 10000000 from)
 
 -- the first word, with these words behind the two files, asks for this of a store
 abbrev pub IsRestWord : List ℕ → List (List ℕ) → Word → Type 0
@@ -38,14 +39,22 @@ AsksOfStore (first ∷ a ∷ b ∷ rest) word = (a ≢ b) × IsRestWord first re
 abbrev pub AsksNoStore : List (List ℕ) → Type 0
 AsksNoStore words = (word : Word) → AsksOfStore words word → ⊥
 
--- At every moment a crash leaves what the word allows: `new` makes the store or leaves what was there, `run` and `follow` serve it or leave it, the others leave it.
-abbrev pub LeavesBy : {D : Type 0} → Word → Type 0 → (D → ℕ) → (D → ℕ → Image → Type 0) → (D → Image) → (D → Image → Type 0) → D → D → Type 0 → Type 0
-LeavesBy (New settings) tells moment left_since seen images old new IsDone = MakesStore moment left_since seen images old new IsDone
-LeavesBy Run tells moment left_since seen images old new IsDone = KeepsOrServes tells moment left_since seen images old new IsDone
-LeavesBy Follow tells moment left_since seen images old new IsDone = KeepsOrServes tells moment left_since seen images old new IsDone
+-- At every moment a crash leaves what the word allows: `new` makes the store or leaves what was there, `run` and
+-- `follow` serve it or leave it, the others leave it.
+abbrev pub LeavesBy : {D : Type 0} → Word → Type 0 → (D → ℕ) → (D → ℕ → Image → Type 0) → (D → Image)
+    → (D → Image → Type 0) → D → D → Type 0 → Type 0
+LeavesBy (New settings) tells moment left_since seen images old new IsDone =
+    MakesStore moment left_since seen images old new IsDone
+LeavesBy Run tells moment left_since seen images old new IsDone =
+    KeepsOrServes tells moment left_since seen images old new IsDone
+LeavesBy Follow tells moment left_since seen images old new IsDone =
+    KeepsOrServes tells moment left_since seen images old new IsDone
 LeavesBy (LookInto look) tells moment left_since seen images old new IsDone = KeepsStore moment left_since seen old new
 
--- The words ask for something of a store, and a crash leaves what that allows; or they ask for nothing, and the disk is as it was.
-abbrev pub LeavesStore : {D : Type 0} → List (List ℕ) → Type 0 → (D → ℕ) → (D → ℕ → Image → Type 0) → (D → Image) → (D → Image → Type 0) → D → D → Type 0 → Type 0
+-- The words ask for something of a store, and a crash leaves what that allows; or they ask for nothing, and the disk is
+-- as it was.
+abbrev pub LeavesStore : {D : Type 0} → List (List ℕ) → Type 0 → (D → ℕ) → (D → ℕ → Image → Type 0) → (D → Image)
+    → (D → Image → Type 0) → D → D → Type 0 → Type 0
 LeavesStore words tells moment left_since seen images old new IsDone =
-    ((word : Word) × AsksOfStore words word × LeavesBy word tells moment left_since seen images old new IsDone) ⊎ (AsksNoStore words × (new ≡ old))
+    ((word : Word) × AsksOfStore words word × LeavesBy word tells moment left_since seen images old new IsDone)
+    ⊎ (AsksNoStore words × (new ≡ old))

@@ -26,8 +26,10 @@ pub fn ship_from<K: Sink, D: Disk>(
     out: &mut K,
     disk: &mut D,
 ) -> Result<Status, Status>
-    ensures keeps { D.tells → Only (D.seen disk.old) (D.images disk.old) → KeepsStore D.moment D.left_since D.seen disk.old disk.new }
-    ensures ships { PrintsShipped D.tells D.seen from (K.held out.old) (K.held out.new) disk.old (status_of_word result) }
+    ensures keeps { D.tells → Only (D.seen disk.old) (D.images disk.old)
+        → KeepsStore D.moment D.left_since D.seen disk.old disk.new }
+    ensures ships { PrintsShipped D.tells D.seen from (K.held out.old) (K.held out.new) disk.old
+        (status_of_word result) }
 {
     match ship(alloc, disk, from, out) {
         Ok(_count) => Ok(Status::Done),
@@ -42,7 +44,8 @@ pub fn ship_from<K: Sink, D: Disk>(
 fn print_unfollowed<K: Sink>(alloc: Global, stop: FollowStop, out: &mut K) -> Result<Status, Status>
     ensures fails { MatchResult result IsFailing IsFailing }
     ensures prints { PrintsResult (Err stop) (K.held out.old) (K.held out.new) (status_of_word result) }
-    ensures cause { (read read' store store' : ℕ) → FollowEnd read read' store store' stop → WordCause read read' (K.faults out.old) (K.faults out.new) store store' (status_of_word result) }
+    ensures cause { (read read' store store' : ℕ) → FollowEnd read read' store store' stop
+        → WordCause read read' (K.faults out.old) (K.faults out.new) store store' (status_of_word result) }
 {
     match stop {
         FollowStop::Store(stop) => refuse(alloc, out, &stop),
@@ -61,7 +64,8 @@ fn print_followed<K: Sink>(
 ) -> Result<Status, Status>
     ensures done { EndsDone result → IsOk followed }
     ensures prints { PrintsResult followed (K.held out.old) (K.held out.new) (status_of_word result) }
-    ensures cause { (read read' store store' : ℕ) → IfErr followed (FollowEnd read read' store store') → WordCause read read' (K.faults out.old) (K.faults out.new) store store' (status_of_word result) }
+    ensures cause { (read read' store store' : ℕ) → IfErr followed (FollowEnd read read' store store')
+        → WordCause read read' (K.faults out.old) (K.faults out.new) store store' (status_of_word result) }
 {
     match followed {
         Ok(followed) => print_answer(out, &followed_text(alloc, followed)?, false),
@@ -76,9 +80,12 @@ pub fn follow_into<S: Source, K: Sink, D: Disk + Drop>(
     out: &mut K,
     disk: D,
 ) -> (Result<Status, Status>, D)
-    ensures store { D.tells → Only (D.seen disk) (D.images disk) → KeepsOrServes D.tells D.moment D.left_since D.seen D.images disk result.1 (EndsDone result.0) }
-    ensures cause { WordCause (S.faults src.old) (S.faults src.new) (K.faults out.old) (K.faults out.new) (D.faults disk) (D.faults result.1) (status_of_word result.0) }
-    ensures follows { PrintsFollowed D.tells D.seen D.images (S.left src.old) (S.left src.new) (K.held out.old) (K.held out.new) disk result.1 (status_of_word result.0) }
+    ensures store { D.tells → Only (D.seen disk) (D.images disk)
+        → KeepsOrServes D.tells D.moment D.left_since D.seen D.images disk result.1 (EndsDone result.0) }
+    ensures cause { WordCause (S.faults src.old) (S.faults src.new) (K.faults out.old) (K.faults out.new)
+        (D.faults disk) (D.faults result.1) (status_of_word result.0) }
+    ensures follows { PrintsFollowed D.tells D.seen D.images (S.left src.old) (S.left src.new) (K.held out.old)
+        (K.held out.new) disk result.1 (status_of_word result.0) }
 {
     let (followed, disk) = follow(alloc, src, disk);
     (print_followed(alloc, followed, out), disk)

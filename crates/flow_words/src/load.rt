@@ -2,7 +2,11 @@
 ghost use Rattle.std.specs.Prelude.{◌≡◌, ◌+◌, ◌<◌, ◌^◌, ◌++◌, ◌∷◌, [], List, ℕ, map, OnOk, IfOk, if◌then◌else◌};
 ghost use Rattle.std.specs.List.{flat_map};
 ghost use Rattle.flow_session.specs.Inputs.{Line as LineOf};
-ghost use Rattle.flow_words.specs.Loading.{next_number as number_behind, amount_by, is_above as above_test, above as above_in, drained as drained_lines, force_line as force_of, force_with, start_line as start_of, root_script, roots_script, import_script, lines as lines_of, is_turn as turn_test, turns_of, load_line, Serves, IsSummary, IsLoaded};
+ghost use Rattle.flow_words.specs.Loading.{next_number as number_behind, amount_by, is_above as above_test};
+ghost use Rattle.flow_words.specs.Loading.{above as above_in, drained as drained_lines, force_line as force_of};
+ghost use Rattle.flow_words.specs.Loading.{force_with, start_line as start_of, root_script, roots_script};
+ghost use Rattle.flow_words.specs.Loading.{import_script, lines as lines_of, is_turn as turn_test, turns_of, load_line};
+ghost use Rattle.flow_words.specs.Loading.{Serves, IsSummary, IsLoaded};
 ghost use Rattle.flow_words.specs.Scripts.{IsFresh};
 ghost use Rattle.live_history.specs.Rows.{present};
 

@@ -7,7 +7,8 @@ ghost use Rattle.flow_words.specs.Endings.{WordCause};
 ghost use Rattle.flow_words.specs.Looking.{PrintsExplained, PrintsOverdue, PrintsVerdict, PrintsVerified};
 ghost use Rattle.flow_words.specs.Printed.{Prints};
 ghost use Rattle.flow_words.specs.Scripts.{status_of_word};
-ghost use Rattle.flow_words.specs.declared.status.Status.TheVariants.{Done as DoneStatus, Usage as UsageStatus, Refused as RefusedStatus};
+ghost use Rattle.flow_words.specs.declared.status.Status.TheVariants.{Done as DoneStatus, Usage as UsageStatus};
+ghost use Rattle.flow_words.specs.declared.status.Status.TheVariants.{Refused as RefusedStatus};
 
 use crate::refusing::refuse;
 use crate::script::{line_status, print};
@@ -24,9 +25,12 @@ use text_words::all_lines;
 /// Prints an answer, and says whether it is a refusal.
 #[tactic(auto, using(crate::proofs::EndingLemmas::word_prints))]
 pub fn print_answer<K: Sink>(out: &mut K, text: &[u8], is_refused: bool) -> Result<Status, Status>
-    ensures cause { (read read' store store' : ℕ) → WordCause read read' (K.faults out.old) (K.faults out.new) store store' (status_of_word result) }
-    ensures ended { MatchResult result (λ status. status ≡ (if is_refused then RefusedStatus else DoneStatus)) IsFailing }
-    ensures prints { Prints text.now (if is_refused then RefusedStatus else DoneStatus) (K.held out.old) (K.held out.new) (status_of_word result) }
+    ensures cause { (read read' store store' : ℕ) → WordCause read read' (K.faults out.old)
+        (K.faults out.new) store store' (status_of_word result) }
+    ensures ended { MatchResult result (λ status. status ≡ (if is_refused then RefusedStatus else DoneStatus))
+        IsFailing }
+    ensures prints { Prints text.now (if is_refused then RefusedStatus else DoneStatus) (K.held out.old)
+        (K.held out.new) (status_of_word result) }
 {
     print(out, text)?;
     Ok(if is_refused {
@@ -39,7 +43,8 @@ pub fn print_answer<K: Sink>(out: &mut K, text: &[u8], is_refused: bool) -> Resu
 /// Prints that the words are none that the program knows.
 #[tactic(auto, using(crate::proofs::EndingLemmas::word_prints))]
 fn print_usage<K: Sink>(out: &mut K) -> Result<Status, Status>
-    ensures cause { (read read' store store' : ℕ) → WordCause read read' (K.faults out.old) (K.faults out.new) store store' (status_of_word result) }
+    ensures cause { (read read' store store' : ℕ) → WordCause read read' (K.faults out.old)
+        (K.faults out.new) store store' (status_of_word result) }
     ensures prints { Prints (codes "no USAGE\n") UsageStatus (K.held out.old) (K.held out.new) (status_of_word result) }
 {
     print(out, b"no USAGE\n")?;
@@ -53,9 +58,12 @@ pub fn explain_in<K: Sink, D: Disk>(
     out: &mut K,
     disk: &mut D,
 ) -> Result<Status, Status>
-    ensures keeps { D.tells → Only (D.seen disk.old) (D.images disk.old) → KeepsStore D.moment D.left_since D.seen disk.old disk.new }
-    ensures cause { (read read' : ℕ) → WordCause read read' (K.faults out.old) (K.faults out.new) (D.faults disk.old) (D.faults disk.new) (status_of_word result) }
-    ensures prints { PrintsExplained D.tells D.moment D.left_since D.seen D.images activity.now (K.held out.old) (K.held out.new) disk.old disk.new (status_of_word result) }
+    ensures keeps { D.tells → Only (D.seen disk.old) (D.images disk.old)
+        → KeepsStore D.moment D.left_since D.seen disk.old disk.new }
+    ensures cause { (read read' : ℕ) → WordCause read read' (K.faults out.old) (K.faults out.new) (D.faults disk.old)
+        (D.faults disk.new) (status_of_word result) }
+    ensures prints { PrintsExplained D.tells D.moment D.left_since D.seen D.images activity.now (K.held out.old)
+        (K.held out.new) disk.old disk.new (status_of_word result) }
 {
     if named_activity(alloc, activity)?.is_none() {
         return print_usage(out);
@@ -77,7 +85,8 @@ fn verify_over<S: Source, K: Sink>(
     src: &mut S,
     out: &mut K,
 ) -> Result<Status, Status>
-    ensures cause { (store : ℕ) → WordCause (S.faults src.old) (S.faults src.new) (K.faults out.old) (K.faults out.new) store store (status_of_word result) }
+    ensures cause { (store : ℕ) → WordCause (S.faults src.old) (S.faults src.new) (K.faults out.old)
+        (K.faults out.new) store store (status_of_word result) }
     ensures prints { PrintsVerdict (S.left src.old) (K.held out.old) (K.held out.new) (status_of_word result) core.now }
 {
     match all_lines(alloc, src) {
@@ -96,9 +105,12 @@ pub fn verify_in<S: Source, K: Sink, D: Disk>(
     out: &mut K,
     disk: &mut D,
 ) -> Result<Status, Status>
-    ensures keeps { D.tells → Only (D.seen disk.old) (D.images disk.old) → KeepsStore D.moment D.left_since D.seen disk.old disk.new }
-    ensures cause { WordCause (S.faults src.old) (S.faults src.new) (K.faults out.old) (K.faults out.new) (D.faults disk.old) (D.faults disk.new) (status_of_word result) }
-    ensures prints { PrintsVerified D.tells D.moment D.left_since D.seen D.images (S.left src.old) (K.held out.old) (K.held out.new) disk.old disk.new (status_of_word result) }
+    ensures keeps { D.tells → Only (D.seen disk.old) (D.images disk.old)
+        → KeepsStore D.moment D.left_since D.seen disk.old disk.new }
+    ensures cause { WordCause (S.faults src.old) (S.faults src.new) (K.faults out.old) (K.faults out.new)
+        (D.faults disk.old) (D.faults disk.new) (status_of_word result) }
+    ensures prints { PrintsVerified D.tells D.moment D.left_since D.seen D.images (S.left src.old) (K.held out.old)
+        (K.held out.new) disk.old disk.new (status_of_word result) }
 {
     match reopen(alloc, disk) {
         Err(stop) => refuse(alloc, out, &stop),
@@ -112,9 +124,12 @@ pub fn overdue_in<K: Sink, D: Disk>(
     out: &mut K,
     disk: &mut D,
 ) -> Result<Status, Status>
-    ensures keeps { D.tells → Only (D.seen disk.old) (D.images disk.old) → KeepsStore D.moment D.left_since D.seen disk.old disk.new }
-    ensures cause { (read read' : ℕ) → WordCause read read' (K.faults out.old) (K.faults out.new) (D.faults disk.old) (D.faults disk.new) (status_of_word result) }
-    ensures prints { PrintsOverdue D.tells D.moment D.left_since D.seen D.images (K.held out.old) (K.held out.new) disk.old disk.new (status_of_word result) }
+    ensures keeps { D.tells → Only (D.seen disk.old) (D.images disk.old)
+        → KeepsStore D.moment D.left_since D.seen disk.old disk.new }
+    ensures cause { (read read' : ℕ) → WordCause read read' (K.faults out.old) (K.faults out.new) (D.faults disk.old)
+        (D.faults disk.new) (status_of_word result) }
+    ensures prints { PrintsOverdue D.tells D.moment D.left_since D.seen D.images (K.held out.old)
+        (K.held out.new) disk.old disk.new (status_of_word result) }
 {
     match reopen(alloc, disk) {
         Err(stop) => refuse(alloc, out, &stop),

@@ -6,7 +6,8 @@ ghost use Rattle.flow_words.specs.Loading.{IsLoadWord, PrintsLoaded, PrintsLoad}
 ghost use Rattle.flow_words.specs.Printed.{Prints, PrintsAnswer, IsUnknown, IsCheckOf, IsFateOf, answer_status};
 ghost use Rattle.flow_words.specs.Scripts.{IsTryWord, PrintsTry, TriesScript};
 ghost use Rattle.flow_words.specs.declared.numbers.Settings.{Settings as SettingsOf};
-ghost use Rattle.flow_words.specs.declared.pure.Word.TheVariants.{Check as CheckWord, Fate as FateWord, Try as TryWord, Load as LoadWord};
+ghost use Rattle.flow_words.specs.declared.pure.Word.TheVariants.{Check as CheckWord, Fate as FateWord, Try as TryWord};
+ghost use Rattle.flow_words.specs.declared.pure.Word.TheVariants.{Load as LoadWord};
 ghost use Rattle.flow_words.specs.declared.status.Status.TheVariants.{NoMemory as NoMemoryStatus, Usage as UsageStatus};
 
 use crate::load::load;
@@ -95,7 +96,8 @@ fn print_and_end<K: Sink>(out: &mut K, text: &[u8], status: Status) -> Status
 /// Prints an answer.
 fn end_with<K: Sink>(out: &mut K, answer: Result<Answer, AllocError>) -> Status
     ensures cause { PrintCause (K.faults out.old) (K.faults out.new) result }
-    ensures prints { MatchResult answer (λ answer. Prints answer.text.items (answer_status answer) (K.held out.old) (K.held out.new) result) (λ _. (result ≡ NoMemoryStatus) × Keeps (K.held out.old) (K.held out.new)) }
+    ensures prints { MatchResult answer (λ answer. Prints answer.text.items (answer_status answer) (K.held out.old)
+        (K.held out.new) result) (λ _. (result ≡ NoMemoryStatus) × Keeps (K.held out.old) (K.held out.new)) }
 {
     match answer {
         Err(_) => Status::NoMemory,
@@ -141,7 +143,8 @@ fn serve_script<S: Source, K: Sink>(
     out: &mut K,
 ) -> Status
     ensures cause { RunCause (S.faults src.old) (S.faults src.new) (K.faults out.old) (K.faults out.new) 0 0 result }
-    ensures tries { TriesScript settings.queues settings.limit (S.left src.old) (K.held out.old) (K.held out.new) result }
+    ensures tries { TriesScript settings.queues settings.limit (S.left src.old) (K.held out.old)
+        (K.held out.new) result }
 {
     match try_script(alloc, settings, src, out) {
         Ok(()) => Status::Done,
@@ -163,11 +166,13 @@ fn print_load<K: Sink>(alloc: Global, seed: u64, roots: u64, out: &mut K) -> Sta
 #[tactic(auto, using(crate::proofs::EndingLemmas::run_prints))]
 fn obey<S: Source, K: Sink>(alloc: Global, word: Word, src: &mut S, out: &mut K) -> Status
     ensures cause { RunCause (S.faults src.old) (S.faults src.new) (K.faults out.old) (K.faults out.new) 0 0 result }
-    ensures check { word ≡ CheckWord → PrintsAnswer (IsCheckOf (S.left src.old)) (K.held out.old) (K.held out.new) result }
+    ensures check { word ≡ CheckWord → PrintsAnswer (IsCheckOf (S.left src.old)) (K.held out.old)
+        (K.held out.new) result }
     ensures fate { word ≡ FateWord → PrintsAnswer (IsFateOf (S.left src.old)) (K.held out.old) (K.held out.new) result }
     ensures tries { (settings : SettingsOf) → word ≡ TryWord settings
         → TriesScript settings.queues settings.limit (S.left src.old) (K.held out.old) (K.held out.new) result }
-    ensures loads { (seed roots : ℕ) → word ≡ LoadWord seed roots → PrintsLoaded seed roots (K.held out.old) (K.held out.new) result }
+    ensures loads { (seed roots : ℕ) → word ≡ LoadWord seed roots
+        → PrintsLoaded seed roots (K.held out.old) (K.held out.new) result }
 {
     match word {
         Word::Check => answer_check(alloc, src, out),
@@ -195,11 +200,16 @@ pub fn run_pure<S: Source, K: Sink>(
     out: &mut K,
 ) -> Status
     ensures cause { EndCause (S.faults src.old) (S.faults src.new) (K.faults out.old) (K.faults out.new) result }
-    ensures check { map string_bytes words.now ≡ codes "check" ∷ [] → PrintsAnswer (IsCheckOf (S.left src.old)) (K.held out.old) (K.held out.new) result }
-    ensures fate { map string_bytes words.now ≡ codes "fate" ∷ [] → PrintsAnswer (IsFateOf (S.left src.old)) (K.held out.old) (K.held out.new) result }
-    ensures tries { (rest : List (List ℕ)) → map string_bytes words.now ≡ codes "try" ∷ rest → PrintsTry rest (S.left src.old) (K.held out.old) (K.held out.new) result }
-    ensures loads { (rest : List (List ℕ)) → map string_bytes words.now ≡ codes "load" ∷ rest → PrintsLoad rest (K.held out.old) (K.held out.new) result }
-    ensures unknown { IsUnknown (map string_bytes words.now) → Prints (codes "no USAGE\n") UsageStatus (K.held out.old) (K.held out.new) result }
+    ensures check { map string_bytes words.now ≡ codes "check" ∷ []
+        → PrintsAnswer (IsCheckOf (S.left src.old)) (K.held out.old) (K.held out.new) result }
+    ensures fate { map string_bytes words.now ≡ codes "fate" ∷ []
+        → PrintsAnswer (IsFateOf (S.left src.old)) (K.held out.old) (K.held out.new) result }
+    ensures tries { (rest : List (List ℕ)) → map string_bytes words.now ≡ codes "try" ∷ rest
+        → PrintsTry rest (S.left src.old) (K.held out.old) (K.held out.new) result }
+    ensures loads { (rest : List (List ℕ)) → map string_bytes words.now ≡ codes "load" ∷ rest
+        → PrintsLoad rest (K.held out.old) (K.held out.new) result }
+    ensures unknown { IsUnknown (map string_bytes words.now)
+        → Prints (codes "no USAGE\n") UsageStatus (K.held out.old) (K.held out.new) result }
     ensures usage { result ≡ UsageStatus → Appends (K.held out.old) (K.held out.new) (codes "no USAGE\n") }
 {
     match word_of(words) {

@@ -37,7 +37,8 @@ fn foreign_text(alloc: Global, slot: Slot) -> Result<Vec<u8>, AllocError>
 
 /// The refusal of a slot that can't be read from a place on.
 fn damaged_text(alloc: Global, slot: Slot, place: u64) -> Result<Vec<u8>, AllocError>
-    ensures { IfOk result (λ text. text.items ≡ codes "no STORE DAMAGED " ++ slot_letter slot ++ 32 ∷ [] ++ digits_of place ++ 10 ∷ []) }
+    ensures { IfOk result (λ text. text.items ≡ codes "no STORE DAMAGED " ++ slot_letter slot ++ 32 ∷ []
+        ++ digits_of place ++ 10 ∷ []) }
 {
     let mut text = Vec::from_slice(alloc, b"no STORE DAMAGED ")?;
     text.extend_from_slice(slot_name(slot))?;
@@ -64,7 +65,8 @@ fn stop_text(alloc: Global, stop: &LogStop) -> Result<Option<Vec<u8>>, AllocErro
 /// How a word ends where nothing is printed.
 fn fault_status(stop: &LogStop) -> Status
     ensures fault { result ≡ fault_of stop.now }
-    ensures cause { (read read' put put' store store' : ℕ) → IsOpenCause store store' stop.now → WordCause read read' put put' store store' result }
+    ensures cause { (read read' put put' store store' : ℕ) → IsOpenCause store store' stop.now
+        → WordCause read read' put put' store store' result }
     ensures fails { IsFailing result }
 {
     match stop {
@@ -76,7 +78,8 @@ fn fault_status(stop: &LogStop) -> Status
 /// Prints the text of a refusal by the store itself.
 #[tactic(auto, using(crate::proofs::EndingLemmas::word_prints))]
 fn print_refusal<K: Sink>(out: &mut K, text: &[u8]) -> Result<Status, Status>
-    ensures cause { (read read' store store' : ℕ) → WordCause read read' (K.faults out.old) (K.faults out.new) store store' (status_of_word result) }
+    ensures cause { (read read' store store' : ℕ) → WordCause read read' (K.faults out.old)
+        (K.faults out.new) store store' (status_of_word result) }
     ensures fails { MatchResult result IsFailing IsFailing }
     ensures prints { Prints text.now StoreStatus (K.held out.old) (K.held out.new) (status_of_word result) }
 {
@@ -87,7 +90,8 @@ fn print_refusal<K: Sink>(out: &mut K, text: &[u8]) -> Result<Status, Status>
 /// Prints why a store isn't opened or made.
 pub fn refuse<K: Sink>(alloc: Global, out: &mut K, stop: &LogStop) -> Result<Status, Status>
     ensures fails { MatchResult result IsFailing IsFailing }
-    ensures cause { (read read' store store' : ℕ) → IsOpenCause store store' stop.now → WordCause read read' (K.faults out.old) (K.faults out.new) store store' (status_of_word result) }
+    ensures cause { (read read' store store' : ℕ) → IsOpenCause store store' stop.now
+        → WordCause read read' (K.faults out.old) (K.faults out.new) store store' (status_of_word result) }
     ensures refused { RefusesStore stop.now (K.held out.old) (K.held out.new) (status_of_word result) }
 {
     match stop_text(alloc, stop)? {

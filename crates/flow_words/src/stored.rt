@@ -1,5 +1,6 @@
 //! The words over a store in two files, and the two that make and serve one: `new` and `run`.
-ghost use Rattle.std.specs.Prelude.{◌≡◌, ◌≢◌, ℕ, Some, None, List, [], ◌∷◌, ◌++◌, codes, map, string_bytes, IfErr, IfSome, IsOk};
+ghost use Rattle.std.specs.Prelude.{◌≡◌, ◌≢◌, ℕ, Some, None, List, [], ◌∷◌, ◌++◌, codes, map, string_bytes, IfErr};
+ghost use Rattle.std.specs.Prelude.{IfSome, IsOk};
 ghost use Rattle.flow_disk.specs.Images.{Image};
 ghost use Rattle.flow_disk.specs.Moments.{Only};
 ghost use Rattle.flow_core.specs.Summaries.{summary};
@@ -19,8 +20,10 @@ ghost use Rattle.flow_words.specs.Scripts.{status_of_word, ServesOver, RunsStore
 ghost use Rattle.flow_words.specs.Shipping.{PrintsShipped, IsShipWord, ShipsNamed, PrintsShip};
 ghost use Rattle.flow_words.specs.Words.{AsksOfStore, IsShortWord, IsRestWord, LeavesBy, LeavesStore, AsksNoStore};
 ghost use Rattle.flow_words.specs.declared.status.Status.TheVariants.{Done as DoneStatus, Usage as UsageStatus};
-ghost use Rattle.flow_words.specs.declared.stored.Look.TheVariants.{Explain as ExplainLook, Overdue as OverdueLook, Verify as VerifyLook, Ship as ShipLook};
-ghost use Rattle.flow_words.specs.declared.stored.Word.TheVariants.{Run as RunWord, Follow as FollowWord, Look as LookWord};
+ghost use Rattle.flow_words.specs.declared.stored.Look.TheVariants.{Explain as ExplainLook, Overdue as OverdueLook};
+ghost use Rattle.flow_words.specs.declared.stored.Look.TheVariants.{Verify as VerifyLook, Ship as ShipLook};
+ghost use Rattle.flow_words.specs.declared.stored.Word.TheVariants.{Run as RunWord, Follow as FollowWord};
+ghost use Rattle.flow_words.specs.declared.stored.Word.TheVariants.{Look as LookWord};
 
 use crate::following::{follow_into, ship_from};
 use crate::looking::{explain_in, overdue_in, print_answer, verify_in};
@@ -90,13 +93,15 @@ fn new_word(rest: &[String]) -> Option<Word>
 fn store_word(word: &str, rest: &[String]) -> Option<Word>
     ensures run { word.now ≡ codes "run" → rest.now ≡ [] → result ≡ Some RunWord }
     ensures overdue { word.now ≡ codes "overdue" → rest.now ≡ [] → result ≡ Some (LookWord OverdueLook) }
-    ensures explain { (activity : List ℕ) → word.now ≡ codes "explain" → map string_bytes rest.now ≡ activity ∷ [] → result ≡ Some (LookWord ExplainLook) }
+    ensures explain { (activity : List ℕ) → word.now ≡ codes "explain" → map string_bytes rest.now ≡ activity ∷ []
+        → result ≡ Some (LookWord ExplainLook) }
     ensures verify { word.now ≡ codes "verify" → rest.now ≡ [] → result ≡ Some (LookWord VerifyLook) }
     ensures tries { word.now ≡ codes "try" → result ≡ None }
     ensures loads { word.now ≡ codes "load" → result ≡ None }
     ensures news { word.now ≡ codes "new" → IsNewWord (map string_bytes rest.now) result }
     ensures follows { word.now ≡ codes "follow" → rest.now ≡ [] → result ≡ Some FollowWord }
-    ensures ships { (number : List ℕ) → word.now ≡ codes "ship" → map string_bytes rest.now ≡ number ∷ [] → IsShipWord number result }
+    ensures ships { (number : List ℕ) → word.now ≡ codes "ship" → map string_bytes rest.now ≡ number ∷ []
+        → IsShipWord number result }
     ensures streams { word.now ≢ codes "ship" → IfSome result SendsNoStream }
     ensures named { IfSome result (IsRestWord word.now (map string_bytes rest.now)) }
 {
@@ -119,13 +124,20 @@ fn word_of(words: &[String]) -> Option<Word>
     ensures one { (word : List ℕ) → map string_bytes words.now ≡ word ∷ [] → result ≡ None }
     ensures tries { (rest : List (List ℕ)) → map string_bytes words.now ≡ codes "try" ∷ rest → result ≡ None }
     ensures loads { (rest : List (List ℕ)) → map string_bytes words.now ≡ codes "load" ∷ rest → result ≡ None }
-    ensures run { (a b : List ℕ) → map string_bytes words.now ≡ codes "run" ∷ a ∷ b ∷ [] → a ≢ b → result ≡ Some RunWord }
-    ensures overdue { (a b : List ℕ) → map string_bytes words.now ≡ codes "overdue" ∷ a ∷ b ∷ [] → a ≢ b → result ≡ Some (LookWord OverdueLook) }
-    ensures explain { (a b activity : List ℕ) → map string_bytes words.now ≡ codes "explain" ∷ a ∷ b ∷ activity ∷ [] → a ≢ b → result ≡ Some (LookWord ExplainLook) }
-    ensures verify { (a b : List ℕ) → map string_bytes words.now ≡ codes "verify" ∷ a ∷ b ∷ [] → a ≢ b → result ≡ Some (LookWord VerifyLook) }
-    ensures news { (a b : List ℕ) (rest : List (List ℕ)) → map string_bytes words.now ≡ codes "new" ∷ a ∷ b ∷ rest → a ≢ b → IsNewWord rest result }
-    ensures follows { (a b : List ℕ) → map string_bytes words.now ≡ codes "follow" ∷ a ∷ b ∷ [] → a ≢ b → result ≡ Some FollowWord }
-    ensures ships { (a b number : List ℕ) → map string_bytes words.now ≡ codes "ship" ∷ a ∷ b ∷ number ∷ [] → a ≢ b → IsShipWord number result }
+    ensures run { (a b : List ℕ) → map string_bytes words.now ≡ codes "run" ∷ a ∷ b ∷ [] → a ≢ b
+        → result ≡ Some RunWord }
+    ensures overdue { (a b : List ℕ) → map string_bytes words.now ≡ codes "overdue" ∷ a ∷ b ∷ [] → a ≢ b
+        → result ≡ Some (LookWord OverdueLook) }
+    ensures explain { (a b activity : List ℕ) → map string_bytes words.now ≡ codes "explain" ∷ a ∷ b ∷ activity ∷ []
+        → a ≢ b → result ≡ Some (LookWord ExplainLook) }
+    ensures verify { (a b : List ℕ) → map string_bytes words.now ≡ codes "verify" ∷ a ∷ b ∷ [] → a ≢ b
+        → result ≡ Some (LookWord VerifyLook) }
+    ensures news { (a b : List ℕ) (rest : List (List ℕ)) → map string_bytes words.now ≡ codes "new" ∷ a ∷ b ∷ rest
+        → a ≢ b → IsNewWord rest result }
+    ensures follows { (a b : List ℕ) → map string_bytes words.now ≡ codes "follow" ∷ a ∷ b ∷ [] → a ≢ b
+        → result ≡ Some FollowWord }
+    ensures ships { (a b number : List ℕ) → map string_bytes words.now ≡ codes "ship" ∷ a ∷ b ∷ number ∷ [] → a ≢ b
+        → IsShipWord number result }
     ensures streams { SendNoStream (map string_bytes words.now) → IfSome result SendsNoStream }
     ensures named { IfSome result (AsksOfStore (map string_bytes words.now)) }
 {
@@ -137,7 +149,8 @@ fn word_of(words: &[String]) -> Option<Word>
 
 /// The bytes of the last word, where there is one.
 fn last_word(words: &[String]) -> &[u8]
-    ensures { (front : List (List ℕ)) (last : List ℕ) → map string_bytes words.now ≡ front ++ last ∷ [] → result.now ≡ last }
+    ensures { (front : List (List ℕ)) (last : List ℕ) → map string_bytes words.now ≡ front ++ last ∷ []
+        → result.now ≡ last }
 {
     match words.last() {
         Some(word) => word.as_bytes(),
@@ -152,10 +165,13 @@ fn make<K: Sink, D: Disk>(
     out: &mut K,
     disk: &mut D,
 ) -> Result<Status, Status>
-    ensures store { D.tells → Only (D.seen disk.old) (D.images disk.old) → MakesStore D.moment D.left_since D.seen D.images disk.old disk.new (EndsDone result) }
-    ensures cause { (read read' : ℕ) → WordCause read read' (K.faults out.old) (K.faults out.new) (D.faults disk.old) (D.faults disk.new) (status_of_word result) }
+    ensures store { D.tells → Only (D.seen disk.old) (D.images disk.old)
+        → MakesStore D.moment D.left_since D.seen D.images disk.old disk.new (EndsDone result) }
+    ensures cause { (read read' : ℕ) → WordCause read read' (K.faults out.old) (K.faults out.new) (D.faults disk.old)
+        (D.faults disk.new) (status_of_word result) }
     ensures prints { AreQueues settings.queues → IsLimit settings.limit
-        → PrintsMade D.tells D.seen D.images settings.queues settings.limit (K.held out.old) (K.held out.new) disk.old disk.new (status_of_word result) }
+        → PrintsMade D.tells D.seen D.images settings.queues settings.limit (K.held out.old)
+        (K.held out.new) disk.old disk.new (status_of_word result) }
 {
     let (queues, limit) = (settings.queues, settings.limit);
     if queues < 1 || queues > 16 || limit < 1 || limit > 10_000_000 {
@@ -181,8 +197,10 @@ fn serve_store<S: Source, K: Sink, D: Disk + Drop>(
         → D.tells → (c : Image) → D.images result.1 c → StandsFor (after (summary session.core) ts) c) }
     ensures fails { IfErr result.0 IsFailing }
     ensures stops { IfErr result.0 StopsScript }
-    ensures cause { IfErr result.0 (RunCause (S.faults src.old) (S.faults src.new) (K.faults out.old) (K.faults out.new) (D.faults disk) (D.faults result.1)) }
-    ensures serves { ServesOver D.tells D.moment D.left_since D.seen D.images (S.left src.old) (K.held out.old) (K.held out.new) session log disk result.1 result.0 }
+    ensures cause { IfErr result.0 (RunCause (S.faults src.old) (S.faults src.new) (K.faults out.old) (K.faults out.new)
+        (D.faults disk) (D.faults result.1)) }
+    ensures serves { ServesOver D.tells D.moment D.left_since D.seen D.images (S.left src.old) (K.held out.old)
+        (K.held out.new) session log disk result.1 result.0 }
 {
     let mut session = session;
     let mut journal = Stored::new(alloc, log, disk);
@@ -197,9 +215,12 @@ fn run_script<S: Source, K: Sink, D: Disk + Drop>(
     out: &mut K,
     disk: D,
 ) -> (Result<Status, Status>, D)
-    ensures store { D.tells → Only (D.seen disk) (D.images disk) → KeepsOrServes D.tells D.moment D.left_since D.seen D.images disk result.1 (EndsDone result.0) }
-    ensures cause { WordCause (S.faults src.old) (S.faults src.new) (K.faults out.old) (K.faults out.new) (D.faults disk) (D.faults result.1) (status_of_word result.0) }
-    ensures runs { RunsStore D.tells D.moment D.left_since D.seen D.images (S.left src.old) (K.held out.old) (K.held out.new) disk result.1 (status_of_word result.0) }
+    ensures store { D.tells → Only (D.seen disk) (D.images disk)
+        → KeepsOrServes D.tells D.moment D.left_since D.seen D.images disk result.1 (EndsDone result.0) }
+    ensures cause { WordCause (S.faults src.old) (S.faults src.new) (K.faults out.old) (K.faults out.new)
+        (D.faults disk) (D.faults result.1) (status_of_word result.0) }
+    ensures runs { RunsStore D.tells D.moment D.left_since D.seen D.images (S.left src.old) (K.held out.old)
+        (K.held out.new) disk result.1 (status_of_word result.0) }
 {
     let mut disk = disk;
     match reopen(alloc, &mut disk) {
@@ -220,13 +241,20 @@ fn look_into<S: Source, K: Sink, D: Disk>(
     out: &mut K,
     disk: &mut D,
 ) -> Result<Status, Status>
-    ensures keeps { D.tells → Only (D.seen disk.old) (D.images disk.old) → KeepsStore D.moment D.left_since D.seen disk.old disk.new }
-    ensures cause { OnlyLooks look → WordCause (S.faults src.old) (S.faults src.new) (K.faults out.old) (K.faults out.new) (D.faults disk.old) (D.faults disk.new) (status_of_word result) }
-    ensures overdue { look ≡ OverdueLook → PrintsOverdue D.tells D.moment D.left_since D.seen D.images (K.held out.old) (K.held out.new) disk.old disk.new (status_of_word result) }
-    ensures explain { (front : List (List ℕ)) (activity : List ℕ) → look ≡ ExplainLook → map string_bytes words.now ≡ front ++ activity ∷ []
-        → PrintsExplained D.tells D.moment D.left_since D.seen D.images activity (K.held out.old) (K.held out.new) disk.old disk.new (status_of_word result) }
-    ensures verify { look ≡ VerifyLook → PrintsVerified D.tells D.moment D.left_since D.seen D.images (S.left src.old) (K.held out.old) (K.held out.new) disk.old disk.new (status_of_word result) }
-    ensures ships { (from : ℕ) → look ≡ ShipLook from → PrintsShipped D.tells D.seen from (K.held out.old) (K.held out.new) disk.old (status_of_word result) }
+    ensures keeps { D.tells → Only (D.seen disk.old) (D.images disk.old)
+        → KeepsStore D.moment D.left_since D.seen disk.old disk.new }
+    ensures cause { OnlyLooks look → WordCause (S.faults src.old) (S.faults src.new) (K.faults out.old)
+        (K.faults out.new) (D.faults disk.old) (D.faults disk.new) (status_of_word result) }
+    ensures overdue { look ≡ OverdueLook → PrintsOverdue D.tells D.moment D.left_since D.seen D.images (K.held out.old)
+        (K.held out.new) disk.old disk.new (status_of_word result) }
+    ensures explain { (front : List (List ℕ)) (activity : List ℕ) → look ≡ ExplainLook
+        → map string_bytes words.now ≡ front ++ activity ∷ []
+        → PrintsExplained D.tells D.moment D.left_since D.seen D.images activity (K.held out.old)
+        (K.held out.new) disk.old disk.new (status_of_word result) }
+    ensures verify { look ≡ VerifyLook → PrintsVerified D.tells D.moment D.left_since D.seen D.images (S.left src.old)
+        (K.held out.old) (K.held out.new) disk.old disk.new (status_of_word result) }
+    ensures ships { (from : ℕ) → look ≡ ShipLook from
+        → PrintsShipped D.tells D.seen from (K.held out.old) (K.held out.new) disk.old (status_of_word result) }
 {
     match look {
         Look::Explain => explain_in(alloc, last_word(words), out, disk),
@@ -247,15 +275,25 @@ fn obey<S: Source, K: Sink, D: Disk + Drop>(
 ) -> (Result<Status, Status>, D)
     ensures store { D.tells → Only (D.seen disk) (D.images disk)
         → LeavesBy word D.tells D.moment D.left_since D.seen D.images disk result.1 (EndsDone result.0) }
-    ensures cause { SendsNoStream word → WordCause (S.faults src.old) (S.faults src.new) (K.faults out.old) (K.faults out.new) (D.faults disk) (D.faults result.1) (status_of_word result.0) }
-    ensures runs { word ≡ RunWord → RunsStore D.tells D.moment D.left_since D.seen D.images (S.left src.old) (K.held out.old) (K.held out.new) disk result.1 (status_of_word result.0) }
-    ensures overdue { word ≡ LookWord OverdueLook → PrintsOverdue D.tells D.moment D.left_since D.seen D.images (K.held out.old) (K.held out.new) disk result.1 (status_of_word result.0) }
-    ensures explain { (front : List (List ℕ)) (activity : List ℕ) → word ≡ LookWord ExplainLook → map string_bytes words.now ≡ front ++ activity ∷ []
-        → PrintsExplained D.tells D.moment D.left_since D.seen D.images activity (K.held out.old) (K.held out.new) disk result.1 (status_of_word result.0) }
-    ensures verify { word ≡ LookWord VerifyLook → PrintsVerified D.tells D.moment D.left_since D.seen D.images (S.left src.old) (K.held out.old) (K.held out.new) disk result.1 (status_of_word result.0) }
-    ensures news { (rest : List (List ℕ)) → IsNewWord rest (Some word) → MakesNamed D.tells D.seen D.images rest (K.held out.old) (K.held out.new) disk result.1 (status_of_word result.0) }
-    ensures follows { word ≡ FollowWord → PrintsFollowed D.tells D.seen D.images (S.left src.old) (S.left src.new) (K.held out.old) (K.held out.new) disk result.1 (status_of_word result.0) }
-    ensures ships { (number : List ℕ) → IsShipWord number (Some word) → ShipsNamed D.tells D.seen number (K.held out.old) (K.held out.new) disk (status_of_word result.0) }
+    ensures cause { SendsNoStream word → WordCause (S.faults src.old) (S.faults src.new) (K.faults out.old)
+        (K.faults out.new) (D.faults disk) (D.faults result.1) (status_of_word result.0) }
+    ensures runs { word ≡ RunWord → RunsStore D.tells D.moment D.left_since D.seen D.images (S.left src.old)
+        (K.held out.old) (K.held out.new) disk result.1 (status_of_word result.0) }
+    ensures overdue { word ≡ LookWord OverdueLook → PrintsOverdue D.tells D.moment D.left_since D.seen D.images
+        (K.held out.old) (K.held out.new) disk result.1 (status_of_word result.0) }
+    ensures explain { (front : List (List ℕ)) (activity : List ℕ) → word ≡ LookWord ExplainLook
+        → map string_bytes words.now ≡ front ++ activity ∷ []
+        → PrintsExplained D.tells D.moment D.left_since D.seen D.images activity (K.held out.old)
+        (K.held out.new) disk result.1 (status_of_word result.0) }
+    ensures verify { word ≡ LookWord VerifyLook → PrintsVerified D.tells D.moment D.left_since D.seen D.images
+        (S.left src.old) (K.held out.old) (K.held out.new) disk result.1 (status_of_word result.0) }
+    ensures news { (rest : List (List ℕ)) → IsNewWord rest (Some word)
+        → MakesNamed D.tells D.seen D.images rest (K.held out.old) (K.held out.new) disk result.1
+        (status_of_word result.0) }
+    ensures follows { word ≡ FollowWord → PrintsFollowed D.tells D.seen D.images (S.left src.old) (S.left src.new)
+        (K.held out.old) (K.held out.new) disk result.1 (status_of_word result.0) }
+    ensures ships { (number : List ℕ) → IsShipWord number (Some word)
+        → ShipsNamed D.tells D.seen number (K.held out.old) (K.held out.new) disk (status_of_word result.0) }
 {
     let mut disk = disk;
     match word {
@@ -301,27 +339,41 @@ pub fn run<S: Source, K: Sink, D: Disk + Drop>(
     disk: D,
 ) -> (Status, D)
     ensures store { D.tells → Only (D.seen disk) (D.images disk)
-        → LeavesStore (map string_bytes words.now) D.tells D.moment D.left_since D.seen D.images disk result.1 (result.0 ≡ DoneStatus) }
+        → LeavesStore (map string_bytes words.now) D.tells D.moment D.left_since D.seen D.images disk result.1
+        (result.0 ≡ DoneStatus) }
     ensures untouched { AsksNoStore (map string_bytes words.now) → result.1 ≡ disk }
     ensures unknown { AsksNoStore (map string_bytes words.now) → IsUnknown (map string_bytes words.now)
         → Prints (codes "no USAGE\n") UsageStatus (K.held out.old) (K.held out.new) result.0 }
-    ensures cause { SendNoStream (map string_bytes words.now) → WordCause (S.faults src.old) (S.faults src.new) (K.faults out.old) (K.faults out.new) (D.faults disk) (D.faults result.1) result.0 }
-    ensures check { map string_bytes words.now ≡ codes "check" ∷ [] → PrintsAnswer (IsCheckOf (S.left src.old)) (K.held out.old) (K.held out.new) result.0 }
-    ensures fate { map string_bytes words.now ≡ codes "fate" ∷ [] → PrintsAnswer (IsFateOf (S.left src.old)) (K.held out.old) (K.held out.new) result.0 }
-    ensures tries { (rest : List (List ℕ)) → map string_bytes words.now ≡ codes "try" ∷ rest → PrintsTry rest (S.left src.old) (K.held out.old) (K.held out.new) result.0 }
-    ensures loads { (rest : List (List ℕ)) → map string_bytes words.now ≡ codes "load" ∷ rest → PrintsLoad rest (K.held out.old) (K.held out.new) result.0 }
+    ensures cause { SendNoStream (map string_bytes words.now)
+        → WordCause (S.faults src.old) (S.faults src.new) (K.faults out.old) (K.faults out.new) (D.faults disk)
+        (D.faults result.1) result.0 }
+    ensures check { map string_bytes words.now ≡ codes "check" ∷ []
+        → PrintsAnswer (IsCheckOf (S.left src.old)) (K.held out.old) (K.held out.new) result.0 }
+    ensures fate { map string_bytes words.now ≡ codes "fate" ∷ []
+        → PrintsAnswer (IsFateOf (S.left src.old)) (K.held out.old) (K.held out.new) result.0 }
+    ensures tries { (rest : List (List ℕ)) → map string_bytes words.now ≡ codes "try" ∷ rest
+        → PrintsTry rest (S.left src.old) (K.held out.old) (K.held out.new) result.0 }
+    ensures loads { (rest : List (List ℕ)) → map string_bytes words.now ≡ codes "load" ∷ rest
+        → PrintsLoad rest (K.held out.old) (K.held out.new) result.0 }
     ensures serves { (a b : List ℕ) → map string_bytes words.now ≡ codes "run" ∷ a ∷ b ∷ [] → a ≢ b
-        → RunsStore D.tells D.moment D.left_since D.seen D.images (S.left src.old) (K.held out.old) (K.held out.new) disk result.1 result.0 }
+        → RunsStore D.tells D.moment D.left_since D.seen D.images (S.left src.old) (K.held out.old)
+        (K.held out.new) disk result.1 result.0 }
     ensures overdue { (a b : List ℕ) → map string_bytes words.now ≡ codes "overdue" ∷ a ∷ b ∷ [] → a ≢ b
-        → PrintsOverdue D.tells D.moment D.left_since D.seen D.images (K.held out.old) (K.held out.new) disk result.1 result.0 }
-    ensures explain { (a b activity : List ℕ) → map string_bytes words.now ≡ codes "explain" ∷ a ∷ b ∷ activity ∷ [] → a ≢ b
-        → PrintsExplained D.tells D.moment D.left_since D.seen D.images activity (K.held out.old) (K.held out.new) disk result.1 result.0 }
+        → PrintsOverdue D.tells D.moment D.left_since D.seen D.images (K.held out.old)
+        (K.held out.new) disk result.1 result.0 }
+    ensures explain { (a b activity : List ℕ) → map string_bytes words.now ≡ codes "explain" ∷ a ∷ b ∷ activity ∷ []
+        → a ≢ b
+        → PrintsExplained D.tells D.moment D.left_since D.seen D.images activity (K.held out.old)
+        (K.held out.new) disk result.1 result.0 }
     ensures verify { (a b : List ℕ) → map string_bytes words.now ≡ codes "verify" ∷ a ∷ b ∷ [] → a ≢ b
-        → PrintsVerified D.tells D.moment D.left_since D.seen D.images (S.left src.old) (K.held out.old) (K.held out.new) disk result.1 result.0 }
-    ensures news { (a b : List ℕ) (rest : List (List ℕ)) → map string_bytes words.now ≡ codes "new" ∷ a ∷ b ∷ rest → a ≢ b
+        → PrintsVerified D.tells D.moment D.left_since D.seen D.images (S.left src.old) (K.held out.old)
+        (K.held out.new) disk result.1 result.0 }
+    ensures news { (a b : List ℕ) (rest : List (List ℕ)) → map string_bytes words.now ≡ codes "new" ∷ a ∷ b ∷ rest
+        → a ≢ b
         → PrintsNew D.tells D.seen D.images rest (K.held out.old) (K.held out.new) disk result.1 result.0 }
     ensures follows { (a b : List ℕ) → map string_bytes words.now ≡ codes "follow" ∷ a ∷ b ∷ [] → a ≢ b
-        → PrintsFollowed D.tells D.seen D.images (S.left src.old) (S.left src.new) (K.held out.old) (K.held out.new) disk result.1 result.0 }
+        → PrintsFollowed D.tells D.seen D.images (S.left src.old) (S.left src.new) (K.held out.old)
+        (K.held out.new) disk result.1 result.0 }
     ensures ships { (a b number : List ℕ) → map string_bytes words.now ≡ codes "ship" ∷ a ∷ b ∷ number ∷ [] → a ≢ b
         → PrintsShip D.tells D.seen number (K.held out.old) (K.held out.new) disk result.0 }
 {

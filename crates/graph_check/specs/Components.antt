@@ -1,5 +1,6 @@
 -- Strong components: two nodes are in one exactly where each reaches the other.
-use Rattle.std.specs.Prelude.{◌≡◌, ◌==◌, ℕ, ◌<◌, ◌≤◌, ◌↔◌, Bool, false, List, ◌⊎◌, IsTrue, Some, length, slice_get, slice_index, slice_index_or}
+use Rattle.std.specs.Prelude.{◌≡◌, ◌==◌, ℕ, ◌<◌, ◌≤◌, ◌↔◌, Bool, false, List, ◌⊎◌, IsTrue, Some, length, slice_get}
+use Rattle.std.specs.Prelude.{slice_index, slice_index_or}
 use Rattle.graph_check.specs.Walks.{HasEdge, Reaches}
 
 -- a walk, of no edge or more, leads from a to b
@@ -10,7 +11,8 @@ Leads edges a b = (a ≡ b) ⊎ Reaches edges a b
 pub record AreComponents (nodes : ℕ) (edges : List (ℕ × ℕ)) (numbers : List ℕ) : Type 0 where
   pub long : length numbers ≡ nodes
   pub together : (a b : ℕ) → a < nodes → b < nodes → slice_index numbers a ≡ slice_index numbers b → Leads edges a b
-  pub apart : (a b : ℕ) → a < nodes → b < nodes → Reaches edges a b → Reaches edges b a → slice_index numbers a ≡ slice_index numbers b
+  pub apart : (a b : ℕ) → a < nodes → b < nodes → Reaches edges a b → Reaches edges b a
+      → slice_index numbers a ≡ slice_index numbers b
   pub forward : (a b : ℕ) → HasEdge edges a b → slice_index numbers a ≤ slice_index numbers b
 
 -- for each edge, whether it lies on a closed walk: whether its end reaches its start

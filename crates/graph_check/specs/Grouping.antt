@@ -1,5 +1,7 @@
--- What the search for strong components knows: the open nodes lie in a row of groups, each of which is strong so far, and each later one leads to the earlier ones.
-use Rattle.std.specs.Prelude.{Bool, true, false, Some, ◌≡◌, ℕ, ◌+◌, ◌*◌, ◌<◌, ◌≤◌, List, [], ◌∷◌, ◌⊎◌, ◌≢◌, length, slice_index_or, slice_set, nat_le, if◌then◌else◌}
+-- What the search for strong components knows: the open nodes lie in a row of groups, each of which is strong so far,
+-- and each later one leads to the earlier ones.
+use Rattle.std.specs.Prelude.{Bool, true, false, Some, ◌≡◌, ℕ, ◌+◌, ◌*◌, ◌<◌, ◌≤◌, List, [], ◌∷◌, ◌⊎◌, ◌≢◌, length}
+use Rattle.std.specs.Prelude.{slice_index_or, slice_set, nat_le, if◌then◌else◌}
 use Rattle.std.specs.List.{sum_by}
 use Rattle.graph_check.specs.Walks.{HasEdge}
 use Rattle.graph_check.specs.Among.{Among, first_of, rest_of}
@@ -7,7 +9,8 @@ use Rattle.graph_check.specs.Components.{Leads}
 use Rattle.graph_check.specs.declared.strong.Standing.{Standing}
 use Rattle.graph_check.specs.declared.strong.Standing.TheVariants.{New, Held, Settled}
 
--- the last one stands first in each list but the marks; the path and the roots are places of held nodes, counted from the node held first
+-- the last one stands first in each list but the marks; the path and the roots are places of held nodes, counted from
+-- the node held first
 pub record State : Type 0 where
   pub sources : List (List ℕ)
   pub marks : List Standing
@@ -47,7 +50,13 @@ all_settled n marks (h ∷ rest) = all_settled n (slice_set marks h (Settled n))
 
 -- the steps of the search
 abbrev pub entered : State → ℕ → State
-entered s a = record s { marks = slice_set s.marks a (Held (length s.held)); path = length s.held ∷ s.path; roots = length s.held ∷ s.roots; held = a ∷ s.held }
+entered s a = record s {
+  marks = slice_set s.marks a (Held (length s.held));
+  path = length s.held ∷ s.path;
+  roots =
+      length s.held ∷ s.roots;
+  held = a ∷ s.held;
+}
 
 abbrev pub skipped : State → ℕ → List ℕ → State
 skipped s b rest = record s { sources = slice_set s.sources b rest }
@@ -62,7 +71,14 @@ abbrev pub released : State → ℕ → State
 released s p = record s { marks = all_settled s.count s.marks (above p s.held); held = below p s.held }
 
 abbrev pub settled : State → ℕ → State
-settled s p = record s { marks = all_settled s.count s.marks (above p s.held); path = rest_of s.path; roots = rest_of s.roots; held = below p s.held; count = s.count + 1 }
+settled s p = record s {
+  marks = all_settled s.count s.marks (above p s.held);
+  path = rest_of s.path;
+  roots =
+      rest_of s.roots;
+  held = below p s.held;
+  count = s.count + 1;
+}
 
 -- numbers below n, each less than the one before
 abbrev pub Falls : ℕ → List ℕ → Type 0
@@ -73,7 +89,8 @@ Falls n (p ∷ rest) = (p < n) × Falls p rest
 abbrev pub IsLinked : List (ℕ × ℕ) → List ℕ → List ℕ → Type 0
 IsLinked edges roots [] = Unit {0}
 IsLinked edges roots (a ∷ []) = Among 0 roots
-IsLinked edges roots (a ∷ b ∷ rest) = Leads edges a b × (Among (length (b ∷ rest)) roots ⊎ Leads edges b a) × IsLinked edges roots (b ∷ rest)
+IsLinked edges roots (a ∷ b ∷ rest) = Leads edges a b × (Among (length (b ∷ rest)) roots ⊎ Leads edges b a)
+    × IsLinked edges roots (b ∷ rest)
 
 -- a source of the node held at p is settled, or is held with no root between it and p
 abbrev pub IsMet : List ℕ → ℕ → Standing → Type 0

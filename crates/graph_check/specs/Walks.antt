@@ -29,4 +29,5 @@ pub record IsOrder (nodes : ℕ) (edges : List (ℕ × ℕ)) (order : List ℕ) 
   pub long : length order ≡ nodes
   pub in_range : All (λ a. a < nodes) order
   pub covers : (a : ℕ) → a < nodes → Contains order a
-  pub forward : (a b i : ℕ) → HasEdge edges a b → slice_get order i ≡ Some b → (j : ℕ) × (j < i) × (slice_get order j ≡ Some a)
+  pub forward : (a b i : ℕ) → HasEdge edges a b → slice_get order i ≡ Some b
+      → (j : ℕ) × (j < i) × (slice_get order j ≡ Some a)

@@ -1,7 +1,8 @@
 ghost use Rattle.std.specs.Prelude.{◌≡◌, ◌<◌, ◌∷◌, [], ◌≢◌, IfOk, OnOk, length, reverse, replicate};
 ghost use Rattle.graph_check.specs.Walks.{AreNodes};
 ghost use Rattle.graph_check.specs.Among.{first_of, rest_of, through};
-ghost use Rattle.graph_check.specs.Searching.{entered, left, skipped, mark_of, sources_of, IsSound, Grows, Turned, Ran, Visited};
+ghost use Rattle.graph_check.specs.Searching.{entered, left, skipped, mark_of, sources_of, IsSound, Grows, Turned, Ran};
+ghost use Rattle.graph_check.specs.Searching.{Visited};
 
 use crate::sources::{drop_last, sources};
 use flow_model::List;
@@ -191,7 +192,8 @@ impl Search {
         requires sound { IsSound nodes edges.now self.old }
         requires idle { self.old.begun ≡ [] }
         requires inside { node < nodes }
-        ensures { OnOk result (IsSound nodes edges.now self.new × Grows nodes self.old self.new × (mark_of self.new node ≢ Mark.New)) }
+        ensures { OnOk result (IsSound nodes edges.now self.new × Grows nodes self.old self.new
+            × (mark_of self.new node ≢ Mark.New)) }
     {
         match self.mark(node) {
             Mark::New => {

@@ -1,7 +1,9 @@
-ghost use Rattle.std.specs.Prelude.{◌≡◌, ◌≢◌, ◌<◌, ◌^◌, ◌+◌, ◌≤◌, ℕ, [], ◌∷◌, IfOk, OnOk, Some, None, MatchBool, MatchOption, length, map, replicate, reverse, slice_set};
+ghost use Rattle.std.specs.Prelude.{◌≡◌, ◌≢◌, ◌<◌, ◌^◌, ◌+◌, ◌≤◌, ℕ, [], ◌∷◌, IfOk, OnOk, Some, None, MatchBool};
+ghost use Rattle.std.specs.Prelude.{MatchOption, length, map, replicate, reverse, slice_set};
 ghost use Rattle.graph_check.specs.Among.{Among, first_of, rest_of};
 ghost use Rattle.graph_check.specs.Components.{AreComponents, AreCyclic};
-ghost use Rattle.graph_check.specs.Grouping.{Advanced, At, Grows, IsGrouped, IsStep, IsTop, IsVisited, above, entered, left, mark_of, merged, number_of, released, row_of, settled, skipped};
+ghost use Rattle.graph_check.specs.Grouping.{Advanced, At, Grows, IsGrouped, IsStep, IsTop, IsVisited, above, entered};
+ghost use Rattle.graph_check.specs.Grouping.{left, mark_of, merged, number_of, released, row_of, settled, skipped};
 ghost use Rattle.graph_check.specs.Walks.{AreNodes};
 
 use crate::sources::{drop_last, sources};
@@ -172,7 +174,10 @@ impl Grouping {
 
     fn set_mark(&mut self, node: u32)
         requires { node < length self.old.marks }
-        ensures { self.new ≡ record self.old { marks = slice_set self.old.marks node (Standing.Settled self.old.count) } }
+        ensures { self.new ≡ record self.old {
+          marks = slice_set self.old.marks node
+              (Standing.Settled self.old.count);
+        } }
     {
         self.marks[node as usize] = Standing::Settled(self.count);
     }
@@ -269,7 +274,8 @@ impl Grouping {
     fn run(&mut self, nodes: u32, edges: &[(u32, u32)]) -> Result<(), AllocError>
         requires nodes { AreNodes nodes edges.now }
         requires grouped { IsGrouped nodes edges.now self.old }
-        ensures { OnOk result (IsGrouped nodes edges.now self.new × (self.new.path ≡ []) × Grows nodes self.old self.new) }
+        ensures { OnOk result (IsGrouped nodes edges.now self.new × (self.new.path ≡ [])
+            × Grows nodes self.old self.new) }
     {
         'turns: loop {
             if !self.advance(nodes, edges)? {
@@ -283,7 +289,8 @@ impl Grouping {
         requires grouped { IsGrouped nodes edges.now self.old }
         requires idle { self.old.path ≡ [] }
         requires inside { node < nodes }
-        ensures { OnOk result (IsGrouped nodes edges.now self.new × Grows nodes self.old self.new × (mark_of self.new node ≢ Standing.New)) }
+        ensures { OnOk result (IsGrouped nodes edges.now self.new × Grows nodes self.old self.new
+            × (mark_of self.new node ≢ Standing.New)) }
     {
         match self.mark(node) {
             Standing::New => {

@@ -1,5 +1,6 @@
 -- The open items of a root: which items are ready or running, and what becomes of all of them by an event.
-use Rattle.std.specs.Prelude.{◌≡◌, ℕ, Bool, true, false, if◌then◌else◌, Option, Some, None, List, slice_get, option_and_then}
+use Rattle.std.specs.Prelude.{◌≡◌, ℕ, Bool, true, false, if◌then◌else◌, Option, Some, None, List, slice_get}
+use Rattle.std.specs.Prelude.{option_and_then}
 use Rattle.activity_states.specs.States.{State, fate_of, hold_of, since_of}
 use Rattle.flow_model.specs.declared.graphs.Graph.{Graph}
 use Rattle.flow_model.specs.declared.graphs.Template.{Template}
@@ -55,10 +56,14 @@ pub record HasClosed (before after : Option State) : Type 0 where
 abbrev pub IsListed : List Path → Path → Type 0
 IsListed items path = (n : ℕ) × (slice_get items n ≡ Some path)
 
--- the listed items of a root came to be ready, each is listed once; the one that is completed, if any, closed; every other one stays as it was
-pub record ItemsMove (root clock : ℕ) (completed : Option (List Part)) (items : List Path) (before after : OpenItems) : Type 0 where
+-- the listed items of a root came to be ready, each is listed once; the one that is completed, if any, closed; every
+-- other one stays as it was
+pub record ItemsMove (root clock : ℕ) (completed : Option (List Part)) (items : List Path)
+    (before after : OpenItems) : Type 0 where
   pub named : (n : ℕ) (path : Path) → slice_get items n ≡ Some path → path.root ≡ root
   pub once : (n m : ℕ) (path : Path) → slice_get items n ≡ Some path → slice_get items m ≡ Some path → n ≡ m
-  pub opened : (n : ℕ) (path : Path) → slice_get items n ≡ Some path → HasOpened clock (before path.parts) (after path.parts)
+  pub opened : (n : ℕ) (path : Path) → slice_get items n ≡ Some path
+      → HasOpened clock (before path.parts) (after path.parts)
   pub closed : (item : List Part) → completed ≡ Some item → HasClosed (before item) (after item)
-  pub others : (item : List Part) → (IsListed items (record { root = root; parts = item }) → ⊥) → (completed ≡ Some item → ⊥) → after item ≡ before item
+  pub others : (item : List Part) → (IsListed items (record { root = root; parts = item }) → ⊥)
+      → (completed ≡ Some item → ⊥) → after item ≡ before item

@@ -1,4 +1,5 @@
--- Who performed what an open item asks for: the activities before it are settled, and what has become of a settled activity stays.
+-- Who performed what an open item asks for: the activities before it are settled, and what has become of a settled
+-- activity stays.
 use Rattle.std.specs.Prelude.{◌≡◌, ℕ, suc, Some, List, [], ◌∷◌, ◌++◌, IsTrue}
 use Rattle.activity_states.specs.States.{fate_of}
 use Rattle.activity_states.specs.declared.states.Completed.{Completed}
@@ -40,8 +41,10 @@ IsSettledBy e b = IsTrue (is_settled (ends_of (out-ScopeState e.scope).ends.item
 -- after every run whose messages were taken from the fronts of queues, whatever comes before an open item is settled
 abbrev pub SourcesAreSettled : Type 0
 SourcesAreSettled =
-    (r : Root) (q : Note → ℕ) (h : List Event) (s : ScopeState) (item : List Part) (e : Entry) (b : ℕ) → Well r.templates r.depth r.graph → TakesFronts (engine r q) h
-    → Shows r.templates r.depth (seen (running h)) r.graph r.input s → entry_at r.templates item (stand r.graph s) ≡ Some e
+    (r : Root) (q : Note → ℕ) (h : List Event) (s : ScopeState) (item : List Part) (e : Entry) (b : ℕ)
+    → Well r.templates r.depth r.graph → TakesFronts (engine r q) h
+    → Shows r.templates r.depth (seen (running h)) r.graph r.input s
+    → entry_at r.templates item (stand r.graph s) ≡ Some e
     → IsTrue (is_open_phase (phase_of (fate_of e.state) e.attempt)) → ComesBefore b e → IsSettledBy e b
 
 -- ---- what stays
@@ -57,24 +60,31 @@ pub record PerformersStay (e e' : Entry) : Type 0 where
 -- so it is of each item that is there before and after
 abbrev pub KeepsPerformers : List Template → Graph → ScopeState → ScopeState → Type 0
 KeepsPerformers ts g s s' =
-    (item : List Part) (e e' : Entry) → entry_at ts item (stand g s) ≡ Some e → entry_at ts item (stand g s') ≡ Some e' → PerformersStay e e'
+    (item : List Part) (e e' : Entry) → entry_at ts item (stand g s) ≡ Some e → entry_at ts item (stand g s') ≡ Some e'
+    → PerformersStay e e'
 
 -- whatever is known: where the state shows it and the event may come
-abbrev pub KeepsWhereShown : (ℕ → Known → Container → Known → Type 0) → List Template → Graph → ScopeState → ScopeState → Type 0
+abbrev pub KeepsWhereShown : (ℕ → Known → Container → Known → Type 0) → List Template → Graph → ScopeState → ScopeState
+    → Type 0
 KeepsWhereShown comes ts g s s' =
-    (depth : ℕ) (k k' : Known) (input : Container) → Well ts depth g → Served ts depth g → IsCounted k → comes depth k input k' → Shows ts depth k g input s → KeepsPerformers ts g s s'
+    (depth : ℕ) (k k' : Known) (input : Container) → Well ts depth g → Served ts depth g → IsCounted k
+    → comes depth k input k' → Shows ts depth k g input s → KeepsPerformers ts g s s'
 
 -- a message that may come is taken
 abbrev pub MessagesKeepPerformers : Type 0
 MessagesKeepPerformers =
-    (ts : List Template) (clock : ℕ) (message : Message) (note : Note) (g : Graph) (s s' : ScopeState) (given : List Message) (items : List Path)
-    → Takes ts clock message g s s' given items → note_in ts g message ≡ Some note → KeepsWhereShown (λ depth k input k'. Comes ts depth k g input note k') ts g s s'
+    (ts : List Template) (clock : ℕ) (message : Message) (note : Note) (g : Graph) (s s' : ScopeState)
+    (given : List Message) (items : List Path)
+    → Takes ts clock message g s s' given items → note_in ts g message ≡ Some note
+    → KeepsWhereShown (λ depth k input k'. Comes ts depth k g input note k') ts g s s'
 
 -- an item that may be completed is
 abbrev pub CompletionsKeepPerformers : Type 0
 CompletionsKeepPerformers =
-    (ts : List Template) (clock : ℕ) (item : Path) (c : Completed) (g : Graph) (s s' : ScopeState) (given : List Message) (items : List Path)
-    → ((around : List Part) (q : Part) → item.parts ≡ around ++ q ∷ [] → Happens ts (record { root = item.root; parts = around }) clock (Completes q.name c) g s s' given items)
+    (ts : List Template) (clock : ℕ) (item : Path) (c : Completed) (g : Graph) (s s' : ScopeState)
+    (given : List Message) (items : List Path)
+    → ((around : List Part) (q : Part) → item.parts ≡ around ++ q ∷ []
+    → Happens ts (record { root = item.root; parts = around }) clock (Completes q.name c) g s s' given items)
     → KeepsWhereShown (λ depth k input k'. ComesOutput ts depth k g input item.parts c.output k') ts g s s'
 
 -- the hold of an item that is there is changed
@@ -88,7 +98,10 @@ HoldsKeepPerformers =
 -- after every such run, who performed what comes before an open item stays the same where an event keeps the performers
 abbrev pub OpenItemsKeepPerformers : Type 0
 OpenItemsKeepPerformers =
-    (r : Root) (q : Note → ℕ) (h : List Event) (s s' : ScopeState) (item : List Part) (e e' : Entry) (b : ℕ) → Well r.templates r.depth r.graph → TakesFronts (engine r q) h
-    → Shows r.templates r.depth (seen (running h)) r.graph r.input s → KeepsPerformers r.templates r.graph s s' → entry_at r.templates item (stand r.graph s) ≡ Some e
-    → entry_at r.templates item (stand r.graph s') ≡ Some e' → IsTrue (is_open_phase (phase_of (fate_of e.state) e.attempt)) → ComesBefore b e
+    (r : Root) (q : Note → ℕ) (h : List Event) (s s' : ScopeState) (item : List Part) (e e' : Entry) (b : ℕ)
+    → Well r.templates r.depth r.graph → TakesFronts (engine r q) h
+    → Shows r.templates r.depth (seen (running h)) r.graph r.input s → KeepsPerformers r.templates r.graph s s'
+    → entry_at r.templates item (stand r.graph s) ≡ Some e
+    → entry_at r.templates item (stand r.graph s') ≡ Some e'
+    → IsTrue (is_open_phase (phase_of (fate_of e.state) e.attempt)) → ComesBefore b e
     → performer_at e'.scope b ≡ performer_at e.scope b

@@ -16,7 +16,7 @@ use Rattle.graph_check.specs.Walks.{IsOrder}
 use Rattle.text_graphs.proofs.Naming.{first_below}
 use Rattle.leaf_rules.specs.KindEdges.{kind_in, kind_edges}
 use Rattle.leaf_rules.specs.ReturnCodes.{return_code}
-use Rattle.leaf_rules.specs.Runs.{rows_of, IsRun, run_named, IsMadeBy, IsKindMade, AreKindsMade, AreMade, IsRowed}
+use Rattle.leaf_rules.specs.Runs.{leaves_in_run, IsRun, run_named, IsMadeBy, IsKindMade, AreKindsMade, AreLeavesMade, IsRowed}
 use Rattle.leaf_rules.specs.Structures.{structure_in}
 use Rattle.leaf_rules.specs.StructureLeaves.{members_leaves, members_said, members_named, leaves_to}
 use Rattle.leaf_rules.specs.declared.rows.Run.{Run}
@@ -79,7 +79,7 @@ module _ (structures : List StructDef) (order : List ℕ) where
 
         -- what one run has is one
         one_run : (a b : Run) (left right : List Leaf) → Some a ≡ Some b → IsRun table a left → IsRun table b right → left ≡ right
-        one_run a b left right same h k = let e : a ≡ b = inside a b same in sym h.whole ∙ ap (rows_of table) e ∙ k.whole
+        one_run a b left right same h k = let e : a ≡ b = inside a b same in sym h.whole ∙ ap (leaves_in_run table) e ∙ k.whole
           where
             inside : (x y : Run) → Some x ≡ Some y → x ≡ y
             inside x y e = cc
@@ -137,7 +137,7 @@ module _ (structures : List StructDef) (order : List ℕ) where
                 let old = so_far.right j other depth t (omega arith) placed there deep in
                 (old.0, set_elsewhere other old.0 apart old.1, grown old.0 (return_code ∷ members_leaves (leaves_to structures depth) t.members) old.2)
 
-    pub made_all : (i : ℕ) (runs : List Run) (table : List Leaf) → length order ≤ i → AreMadeTo structures order i runs table → AreMade structures runs table
+    pub made_all : (i : ℕ) (runs : List Run) (table : List Leaf) → length order ≤ i → AreMadeTo structures order i runs table → AreLeavesMade structures runs table
     made_all i runs table past h = record {
       long = h.long;
       right = λ number s is.

@@ -13,7 +13,7 @@ use Rattle.flow_model.specs.declared.trees.Member.{Member}
 use Rattle.flow_model.specs.declared.trees.StructDef.{StructDef}
 use Rattle.flow_model.specs.LeafRows.{place_steps, steps_said, linked_steps}
 use Rattle.leaf_rules.specs.ReturnCodes.{return_code}
-use Rattle.leaf_rules.specs.Runs.{rows_of, IsRun, run_named, IsMadeBy, IsKindMade, AreKindsMade, IsRowed}
+use Rattle.leaf_rules.specs.Runs.{leaves_in_run, IsRun, run_named, IsMadeBy, IsKindMade, AreKindsMade, IsRowed}
 use Rattle.leaf_rules.specs.StructureLeaves.{element_count, below, element_steps, kind_leaves, element_leaves, member_leaves, members_leaves, place_step}
 use Rattle.leaf_rules.specs.declared.rows.Run.{Run}
 

@@ -6,7 +6,7 @@ use Rattle.flow_model.specs.declared.graphs.Leaf.{Leaf}
 use Rattle.flow_model.specs.declared.trees.StructDef.{StructDef}
 use Rattle.text_graphs.proofs.Naming.{first_below}
 use Rattle.leaf_rules.specs.ReturnCodes.{return_code}
-use Rattle.leaf_rules.specs.Runs.{rows_of, IsRun, AreMade, AreOutputRuns}
+use Rattle.leaf_rules.specs.Runs.{leaves_in_run, IsRun, AreLeavesMade, AreOutputRuns}
 use Rattle.leaf_rules.specs.Structures.{structure_in}
 use Rattle.leaf_rules.specs.StructureLeaves.{leaves_of, leaves_in}
 use Rattle.leaf_rules.specs.declared.forms.StructureLeaves.{StructureLeaves}
@@ -23,7 +23,7 @@ within (y ∷ xs) zero x h = omega arith
 within (y ∷ xs) (suc i) x h = let l = within xs i x h in omega arith
 
 -- each run begins with a return code
-pub output_runs : (structures : List StructDef) (runs : List Run) (table : List Leaf) → AreMade structures runs table → AreOutputRuns table runs
+pub output_runs : (structures : List StructDef) (runs : List Run) (table : List Leaf) → AreLeavesMade structures runs table → AreOutputRuns table runs
 output_runs structures runs table h = λ number run is.
     let s = there_is structures number (let l = within runs number run is in let n = h.long in omega arith) in
     let made = h.right number s.0 s.1 in
@@ -33,25 +33,25 @@ output_runs structures runs table h = λ number run is.
     at a b e h = let same : a ≡ b = cc in rw (sym same) h
 
 -- the forms of a run
-form_at : (forms : List StructureLeaves) (runs : List Run) (table : List Leaf) (i : ℕ) (run : Run) → map (λ f. f.coded.leaves) forms ≡ map (rows_of table) runs → slice_get runs i ≡ Some run
-    → (form : StructureLeaves) × (slice_get forms i ≡ Some form) × (form.coded.leaves ≡ rows_of table run)
+form_at : (forms : List StructureLeaves) (runs : List Run) (table : List Leaf) (i : ℕ) (run : Run) → map (λ f. f.coded.leaves) forms ≡ map (leaves_in_run table) runs → slice_get runs i ≡ Some run
+    → (form : StructureLeaves) × (slice_get forms i ≡ Some form) × (form.coded.leaves ≡ leaves_in_run table run)
 form_at [] [] table i run same is = cc
 form_at [] (r ∷ runs) table i run same is = cc
 form_at (f ∷ forms) [] table i run same is = cc
-form_at (f ∷ forms) (r ∷ runs) table zero run same is = (f, refl, head f.coded.leaves (rows_of table r) (map (λ (x : StructureLeaves). x.coded.leaves) forms) (map (rows_of table) runs) same ∙ ap (rows_of table) (some_same r run is))
+form_at (f ∷ forms) (r ∷ runs) table zero run same is = (f, refl, head f.coded.leaves (leaves_in_run table r) (map (λ (x : StructureLeaves). x.coded.leaves) forms) (map (leaves_in_run table) runs) same ∙ ap (leaves_in_run table) (some_same r run is))
   where
     head : (a b : List Leaf) (xs ys : List (List Leaf)) → a ∷ xs ≡ b ∷ ys → a ≡ b
     head a b xs ys e = cc
 
     some_same : (a b : Run) → Some a ≡ Some b → a ≡ b
     some_same a b e = cc
-form_at (f ∷ forms) (r ∷ runs) table (suc i) run same is = form_at forms runs table i run (tail f.coded.leaves (rows_of table r) (map (λ (x : StructureLeaves). x.coded.leaves) forms) (map (rows_of table) runs) same) is
+form_at (f ∷ forms) (r ∷ runs) table (suc i) run same is = form_at forms runs table i run (tail f.coded.leaves (leaves_in_run table r) (map (λ (x : StructureLeaves). x.coded.leaves) forms) (map (leaves_in_run table) runs) same) is
   where
     tail : (a b : List Leaf) (xs ys : List (List Leaf)) → a ∷ xs ≡ b ∷ ys → xs ≡ ys
     tail a b xs ys e = cc
 
 -- so a table has the leaves of each structure
-pub has_leaves : (structures : List StructDef) (runs : List Run) (table : List Leaf) (forms : List StructureLeaves) → AreMade structures runs table → map (λ f. f.coded.leaves) forms ≡ map (rows_of table) runs
+pub has_leaves : (structures : List StructDef) (runs : List Run) (table : List Leaf) (forms : List StructureLeaves) → AreLeavesMade structures runs table → map (λ f. f.coded.leaves) forms ≡ map (leaves_in_run table) runs
     → (name : List ℕ) → option_map (λ f. f.plain.leaves) (option_and_then (λ number. slice_get forms number) (structure_in structures name)) ≡ leaves_in structures name
 has_leaves structures runs table forms h same name = by (structure_in structures name) refl
   where

@@ -1,5 +1,6 @@
 -- How many leaves structures have, and rule 8: at most 512.
-use Rattle.std.specs.Prelude.{◌≡◌, ℕ, ◌+◌, ◌-◌, ◌*◌, ◌^◌, ◌<◌, ◌≤◌, min, Option, None, Some, List, [], ◌∷◌, length, slice_get, slice_index}
+use Rattle.std.specs.Prelude.{◌≡◌, ℕ, ◌+◌, ◌-◌, ◌*◌, ◌^◌, ◌<◌, ◌≤◌, min, Option, None, Some, List, [], ◌∷◌, length}
+use Rattle.std.specs.Prelude.{slice_get, slice_index}
 use Rattle.flow_model.specs.declared.trees.KindTree.{KindTree}
 use Rattle.flow_model.specs.declared.trees.KindTree.TheVariants as kind
 use Rattle.flow_model.specs.declared.trees.Member.{Member}
@@ -14,7 +15,8 @@ told n = min n (2 ^ 64 - 1)
 
 -- the number of leaves of each structure is known as far as 64 bits tell it; going deeper adds none
 pub record AreCounted (structures : List StructDef) (counts : List ℕ) : Type 0 where
-  pub right : (number depth : ℕ) (s : StructDef) → slice_get structures number ≡ Some s → length structures ≤ depth → slice_index counts number ≡ told (length (members_leaves (leaves_to structures depth) s.members))
+  pub right : (number depth : ℕ) (s : StructDef) → slice_get structures number ≡ Some s → length structures ≤ depth
+      → slice_index counts number ≡ told (length (members_leaves (leaves_to structures depth) s.members))
 
 -- what is counted for the structure of this number, if there is one
 abbrev pub count_at : List ℕ → Option ℕ → ℕ
@@ -30,7 +32,8 @@ kind_count structures counts (kind.Struct name) = count_at counts (structure_in 
 -- for some members
 abbrev pub members_count : List StructDef → List ℕ → List Member → ℕ
 members_count structures counts [] = 0
-members_count structures counts (m ∷ later) = kind_count structures counts m.kind * element_count m + members_count structures counts later
+members_count structures counts (m ∷ later) = kind_count structures counts m.kind * element_count m
+    + members_count structures counts later
 
 -- a structure has more than 512 leaves
 abbrev pub IsLarge : List StructDef → StructDef → ℕ → Type 0

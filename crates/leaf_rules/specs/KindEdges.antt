@@ -22,7 +22,8 @@ kind_edge structures number m = option_map (λ inner. (inner, number)) (kind_in 
 -- to some structures, numbered from this number on
 abbrev pub edges_from : List StructDef → ℕ → List StructDef → List (ℕ × ℕ)
 edges_from structures number [] = []
-edges_from structures number (s ∷ later) = filter_map (kind_edge structures number) s.members ++ edges_from structures (number + 1) later
+edges_from structures number (s ∷ later) = filter_map (kind_edge structures number) s.members
+    ++ edges_from structures (number + 1) later
 
 -- to each structure
 abbrev pub kind_edges : List StructDef → List (ℕ × ℕ)

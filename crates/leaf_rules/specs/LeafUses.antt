@@ -49,7 +49,8 @@ abbrev pub IsInTransition : (List Leaf → Cond → Option ℕ) → Leafing → 
 IsInTransition finds leaves elements c = IsInCond finds (output_leaves leaves elements c.from.name) (when_said c.when)
 
 -- in a map; none where the leaves on either side are not known
-abbrev pub IsInMaps : (List Leaf → List Leaf → MapTree → ℕ → Type 0) → Option (List Leaf) → Option (List Leaf) → List MapTree → ℕ → Type 0
+abbrev pub IsInMaps : (List Leaf → List Leaf → MapTree → ℕ → Type 0) → Option (List Leaf) → Option (List Leaf)
+    → List MapTree → ℕ → Type 0
 IsInMaps breaks None to maps p = ⊥
 IsInMaps breaks (Some from) None maps p = ⊥
 IsInMaps breaks (Some from) (Some to) maps p = AnyAt (breaks from to) maps p
@@ -59,9 +60,11 @@ abbrev pub IsInLine : (List Leaf → List Leaf → MapTree → ℕ → Type 0) �
 IsInLine breaks leaves g l = IsInMaps breaks (line_source leaves g l.ends) (line_target leaves g l.ends) l.maps
 
 -- in a condition or a map of a graph
-abbrev pub IsInUses : (List Leaf → Cond → Option ℕ) → (List Leaf → List Leaf → MapTree → ℕ → Type 0) → Leafing → GraphAt → ℕ → Type 0
+abbrev pub IsInUses : (List Leaf → Cond → Option ℕ) → (List Leaf → List Leaf → MapTree → ℕ → Type 0) → Leafing → GraphAt
+    → ℕ → Type 0
 IsInUses finds breaks leaves g p =
-    (AnyAt (IsInExit finds leaves) (activities_in g.elements) p ⊎ AnyAt (IsInTransition finds leaves g.elements) (controls_in g.elements) p)
+    (AnyAt (IsInExit finds leaves) (activities_in g.elements) p
+    ⊎ AnyAt (IsInTransition finds leaves g.elements) (controls_in g.elements) p)
     ⊎ AnyAt (IsInLine breaks leaves (text_at g)) (lines_in g.elements) p
 
 -- ---- rule 13

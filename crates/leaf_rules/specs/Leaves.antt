@@ -21,7 +21,8 @@ with_code leaves = option_map (λ found. return_code ∷ found) leaves
 
 -- the leaves in both forms that a table has for the structure of a name
 abbrev pub forms_named : LeafTable → List ℕ → Option StructureLeaves
-forms_named table name = option_and_then (λ number. slice_get table.leaves.items number) (structure_in (behind table.structures.definitions.items) name)
+forms_named table name = option_and_then (λ number. slice_get table.leaves.items number)
+    (structure_in (behind table.structures.definitions.items) name)
 
 -- the leaves that it has
 abbrev pub table_leaves : LeafTable → Leafing
@@ -29,11 +30,13 @@ table_leaves table name = option_map (λ both. both.plain.leaves) (forms_named t
 
 -- of the input of an activity
 abbrev pub input_leaves : Leafing → List ElementTree → List ℕ → Option (List Leaf)
-input_leaves leaves elements name = option_and_then (λ activity. leaves activity.input.name) (activity_named elements name)
+input_leaves leaves elements name = option_and_then (λ activity. leaves activity.input.name)
+    (activity_named elements name)
 
 -- of the output of an activity
 abbrev pub output_leaves : Leafing → List ElementTree → List ℕ → Option (List Leaf)
-output_leaves leaves elements name = option_and_then (λ activity. with_code (leaves activity.output.name)) (activity_named elements name)
+output_leaves leaves elements name = option_and_then (λ activity. with_code (leaves activity.output.name))
+    (activity_named elements name)
 
 -- what a DATA line reads: the input of the graph, or the output of an activity
 abbrev pub source_leaves : Leafing → GraphText → EndTree → Option (List Leaf)

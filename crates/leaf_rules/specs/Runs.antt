@@ -13,13 +13,13 @@ use Rattle.leaf_rules.specs.StructureLeaves.{leaves_of}
 use Rattle.leaf_rules.specs.declared.rows.Run.{Run}
 
 -- the leaves of a run
-abbrev pub rows_of : List Leaf → Run → List Leaf
-rows_of table run = take run.count (drop run.first table)
+abbrev pub leaves_in_run : List Leaf → Run → List Leaf
+leaves_in_run table run = take run.count (drop run.first table)
 
 -- a run lies in a table, and has these leaves
 pub record IsRun (table : List Leaf) (run : Run) (leaves : List Leaf) : Type 0 where
   pub within : run.first + run.count ≤ length table
-  pub whole : rows_of table run ≡ leaves
+  pub whole : leaves_in_run table run ≡ leaves
 
 -- the run of an output begins with the return code
 abbrev pub IsOutputRun : List Leaf → Run → Type 0
@@ -43,16 +43,19 @@ IsMadeBy table (Some run) leaves = IsRun table run (return_code ∷ leaves)
 abbrev pub IsKindMade : List StructDef → List Run → List Leaf → (List ℕ → List Leaf) → KindTree → Type 0
 IsKindMade structures runs table inner kind.Long = Unit {0}
 IsKindMade structures runs table inner kind.Str = Unit {0}
-IsKindMade structures runs table inner (kind.Struct name) = IsMadeBy table (run_named structures runs name.name) (inner name.name)
+IsKindMade structures runs table inner (kind.Struct name) = IsMadeBy table (run_named structures runs name.name)
+    (inner name.name)
 
 -- those of the kinds of members are
 abbrev pub AreKindsMade : List StructDef → List Run → List Leaf → (List ℕ → List Leaf) → List Member → Type 0
-AreKindsMade structures runs table inner members = (m : Member) → Contains members m → IsKindMade structures runs table inner m.kind
+AreKindsMade structures runs table inner members = (m : Member) → Contains members m
+    → IsKindMade structures runs table inner m.kind
 
 -- the leaves of each structure are there
-pub record AreMade (structures : List StructDef) (runs : List Run) (table : List Leaf) : Type 0 where
+pub record AreLeavesMade (structures : List StructDef) (runs : List Run) (table : List Leaf) : Type 0 where
   pub long : length runs ≡ length structures
-  pub right : (number : ℕ) (s : StructDef) → slice_get structures number ≡ Some s → (run : Run) × (slice_get runs number ≡ Some run) × IsRun table run (return_code ∷ leaves_of structures s)
+  pub right : (number : ℕ) (s : StructDef) → slice_get structures number ≡ Some s
+      → (run : Run) × (slice_get runs number ≡ Some run) × IsRun table run (return_code ∷ leaves_of structures s)
 
 -- leaves come to a table, and are a run of it
 pub record IsRowed (old new : List Leaf) (run : Run) (leaves : List Leaf) : Type 0 where

@@ -1,4 +1,5 @@
--- The leaves of a structure: its LONG and STRING members, depth first in the order of declaration, those of arrays by place from 0.
+-- The leaves of a structure: its LONG and STRING members, depth first in the order of declaration, those of arrays by
+-- place from 0.
 use Rattle.std.specs.Prelude.{ℕ, zero, suc, Option, None, Some, List, [], ◌∷◌, ◌++◌, length, map, slice_get}
 use Rattle.std.specs.List.{flat_map, range_with_len}
 use Rattle.std.specs.Option.{option_map, option_and_then}

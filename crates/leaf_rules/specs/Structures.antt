@@ -18,7 +18,8 @@ structure_in structures name = first_place (λ s. bytes_eq s.name.name name) str
 
 -- names lead to the first structure of each
 abbrev pub AreStructuresNumbered : {S : Type 0} → List StructDef → HashMap (Bor (List ℕ)) ℕ S → Type 0
-AreStructuresNumbered structures numbers = (key : List ℕ) → hash.get_by (λ k. bytes_eq key k.now) numbers ≡ structure_in structures key
+AreStructuresNumbered structures numbers = (key : List ℕ)
+    → hash.get_by (λ k. bytes_eq key k.now) numbers ≡ structure_in structures key
 
 -- what references lead to
 abbrev pub behind : {X : Type 0} → List (Bor X) → List X
@@ -44,7 +45,8 @@ AreNoContainers structures a p = IsNoStructure structures a.input p ⊎ IsNoStru
 
 -- of a container of a graph, or of one of its activities
 abbrev pub AreNoContainersIn : List StructDef → GraphAt → ℕ → Type 0
-AreNoContainersIn structures g p = (IsNoStructure structures g.input p ⊎ IsNoStructure structures g.output p) ⊎ AnyAt (AreNoContainers structures) (activities_in g.elements) p
+AreNoContainersIn structures g p = (IsNoStructure structures g.input p ⊎ IsNoStructure structures g.output p)
+    ⊎ AnyAt (AreNoContainers structures) (activities_in g.elements) p
 
 -- of a member or a container
 abbrev pub NamesNoStructure : List StructDef → (ℕ → Type 0) → ℕ → Type 0

@@ -9,4 +9,5 @@ use Rattle.leaf_rules.specs.StructureLeaves.{Leafing}
 pub record HasContainers (wanted there : Leafing) (g : GraphAt) : Type 0 where
   pub input : there g.input.name ≡ wanted g.input.name
   pub output : there g.output.name ≡ wanted g.output.name
-  pub activities : All (λ a. (there a.input.name ≡ wanted a.input.name) × (there a.output.name ≡ wanted a.output.name)) (activities_in g.elements)
+  pub activities : All (λ a. (there a.input.name ≡ wanted a.input.name) × (there a.output.name ≡ wanted a.output.name))
+      (activities_in g.elements)

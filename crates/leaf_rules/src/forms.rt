@@ -1,7 +1,7 @@
 //! The leaves of a structure, as containers have them: an output has `_RC` besides.
 ghost use Rattle.std.specs.Prelude.{◌≡◌, ◌<◌, ◌^◌, ◌∷◌, length, map, IfOk};
 ghost use Rattle.leaf_rules.specs.ReturnCodes.{return_code};
-ghost use Rattle.leaf_rules.specs.Runs.{rows_of, IsOutputRun, AreOutputRuns};
+ghost use Rattle.leaf_rules.specs.Runs.{leaves_in_run, IsOutputRun, AreOutputRuns};
 
 use crate::rows::Run;
 use flow_model::{LeafRows, Leaves};
@@ -21,7 +21,7 @@ pub struct StructureLeaves {
 /// The leaves of a structure in both forms, by their run of a table.
 fn both_forms(table: &Rc<LeafRows>, run: Run) -> Result<StructureLeaves, AllocError>
     requires { IsOutputRun table.now.value run }
-    ensures { IfOk result (λ made. made.coded.leaves ≡ rows_of table.now.value run) }
+    ensures { IfOk result (λ made. made.coded.leaves ≡ leaves_in_run table.now.value run) }
 {
     let coded = Leaves::new(table.clone()?, run.first, run.count);
     let behind = narrow(run.first as usize + 1)?;
@@ -37,7 +37,8 @@ pub(crate) fn all_forms(
     runs: &[Run],
 ) -> Result<Vec<StructureLeaves>, AllocError>
     requires { AreOutputRuns table.now.value runs.now }
-    ensures { IfOk result (λ made. map (λ forms. forms.coded.leaves) made.items ≡ map (rows_of table.now.value) runs.now) }
+    ensures { IfOk result (λ made. map (λ forms. forms.coded.leaves) made.items
+        ≡ map (leaves_in_run table.now.value) runs.now) }
 {
     let mut made = Vec::new(alloc);
     for run in runs {

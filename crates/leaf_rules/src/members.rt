@@ -4,7 +4,8 @@ ghost use Rattle.text_graphs.specs.GraphTexts.{text_of};
 ghost use Rattle.leaf_rules.specs.Structures.{behind};
 ghost use Rattle.leaf_rules.specs.StructureLeaves.{leaves_in};
 ghost use Rattle.leaf_rules.specs.Ordered.{IsOrdered};
-ghost use Rattle.leaf_rules.specs.Leaves.{with_code, forms_named, table_leaves, input_leaves, output_leaves, source_leaves, target_leaves, line_source, line_target};
+ghost use Rattle.leaf_rules.specs.Leaves.{with_code, forms_named, table_leaves, input_leaves, output_leaves};
+ghost use Rattle.leaf_rules.specs.Leaves.{source_leaves, target_leaves, line_source, line_target};
 
 use crate::forms::{StructureLeaves, all_forms};
 use crate::structures::Structures;
@@ -24,8 +25,10 @@ impl<'a> LeafTable<'a> {
     /// The leaves of structures that have an order: see `Structures::cycle`.
     pub fn new(alloc: Global, structures: Structures<'a>) -> Result<LeafTable<'a>, AllocError>
         requires { IsOrdered (behind structures.definitions.items) structures.order }
-        ensures kept { IfOk result (λ table. behind table.structures.definitions.items ≡ behind structures.entry.definitions.items) }
-        ensures there { IfOk result (λ table. (name : List ℕ) → table_leaves table name ≡ leaves_in (behind structures.entry.definitions.items) name) }
+        ensures kept { IfOk result (λ table. behind table.structures.definitions.items
+            ≡ behind structures.entry.definitions.items) }
+        ensures there { IfOk result (λ table. (name : List ℕ)
+            → table_leaves table name ≡ leaves_in (behind structures.entry.definitions.items) name) }
     {
         let (table, runs) = structures.rows(alloc, structures.order())?;
         let leaves = all_forms(alloc, &Rc::new(alloc, table)?, &runs)?;
@@ -71,7 +74,8 @@ impl<'a> LeafTable<'a> {
 
     /// The leaves of the output of the activity of this name.
     fn output_of(&self, scope: &Scope<'a>, name: &'a NameAt) -> Option<&Leaves>
-        ensures leaves { option_map (λ l. l.now.leaves) result ≡ output_leaves (table_leaves self.now) scope.now.elements.now name.now.name }
+        ensures leaves { option_map (λ l. l.now.leaves) result
+            ≡ output_leaves (table_leaves self.now) scope.now.elements.now name.now.name }
         ensures few { IfSome result (λ l. length l.now.leaves < 2 ^ 32) }
     {
         match scope.activity(name) {
@@ -82,7 +86,8 @@ impl<'a> LeafTable<'a> {
 
     /// The leaves of the input of the activity of this name.
     fn input_of(&self, scope: &Scope<'a>, name: &'a NameAt) -> Option<&Leaves>
-        ensures leaves { option_map (λ l. l.now.leaves) result ≡ input_leaves (table_leaves self.now) scope.now.elements.now name.now.name }
+        ensures leaves { option_map (λ l. l.now.leaves) result
+            ≡ input_leaves (table_leaves self.now) scope.now.elements.now name.now.name }
         ensures few { IfSome result (λ l. length l.now.leaves < 2 ^ 32) }
     {
         match scope.activity(name) {
@@ -93,7 +98,8 @@ impl<'a> LeafTable<'a> {
 
     /// The leaves that a DATA line reads.
     fn source(&self, scope: &Scope<'a>, end: &'a EndTree) -> Option<&Leaves>
-        ensures leaves { option_map (λ l. l.now.leaves) result ≡ source_leaves (table_leaves self.now) (text_of scope.now) end.now }
+        ensures leaves { option_map (λ l. l.now.leaves) result
+            ≡ source_leaves (table_leaves self.now) (text_of scope.now) end.now }
         ensures few { IfSome result (λ l. length l.now.leaves < 2 ^ 32) }
     {
         match end {
@@ -104,7 +110,8 @@ impl<'a> LeafTable<'a> {
 
     /// The leaves that a DATA line writes.
     fn target(&self, scope: &Scope<'a>, end: &'a EndTree) -> Option<&Leaves>
-        ensures leaves { option_map (λ l. l.now.leaves) result ≡ target_leaves (table_leaves self.now) (text_of scope.now) end.now }
+        ensures leaves { option_map (λ l. l.now.leaves) result
+            ≡ target_leaves (table_leaves self.now) (text_of scope.now) end.now }
         ensures few { IfSome result (λ l. length l.now.leaves < 2 ^ 32) }
     {
         match end {
@@ -115,7 +122,8 @@ impl<'a> LeafTable<'a> {
 
     /// The leaves that a line reads.
     pub fn line_source(&self, scope: &Scope<'a>, ends: &'a EndsTree) -> Option<&Leaves>
-        ensures leaves { option_map (λ l. l.now.leaves) result ≡ line_source (table_leaves self.now) (text_of scope.now) ends.now }
+        ensures leaves { option_map (λ l. l.now.leaves) result
+            ≡ line_source (table_leaves self.now) (text_of scope.now) ends.now }
         ensures few { IfSome result (λ l. length l.now.leaves < 2 ^ 32) }
     {
         match ends {
@@ -126,7 +134,8 @@ impl<'a> LeafTable<'a> {
 
     /// The leaves that a line writes.
     pub fn line_target(&self, scope: &Scope<'a>, ends: &'a EndsTree) -> Option<&Leaves>
-        ensures leaves { option_map (λ l. l.now.leaves) result ≡ line_target (table_leaves self.now) (text_of scope.now) ends.now }
+        ensures leaves { option_map (λ l. l.now.leaves) result
+            ≡ line_target (table_leaves self.now) (text_of scope.now) ends.now }
         ensures few { IfSome result (λ l. length l.now.leaves < 2 ^ 32) }
     {
         match ends {
@@ -137,7 +146,8 @@ impl<'a> LeafTable<'a> {
 
     /// The leaves that a transition condition reads.
     pub fn connector_leaves(&self, scope: &Scope<'a>, control: &'a ControlTree) -> Option<&Leaves>
-        ensures leaves { option_map (λ l. l.now.leaves) result ≡ output_leaves (table_leaves self.now) scope.now.elements.now control.now.from.name }
+        ensures leaves { option_map (λ l. l.now.leaves) result
+            ≡ output_leaves (table_leaves self.now) scope.now.elements.now control.now.from.name }
         ensures few { IfSome result (λ l. length l.now.leaves < 2 ^ 32) }
     {
         self.output_of(scope, &control.from)

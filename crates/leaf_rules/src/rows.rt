@@ -1,12 +1,13 @@
 //! The rows of the leaves of all structures of a text: those of a structure go on with those of its members' kinds.
-ghost use Rattle.std.specs.Prelude.{◌≡◌, ◌<◌, ◌+◌, ◌++◌, ◌∷◌, [], length, map, false, replicate, slice_set, List as Seq, ℕ, IfOk, OnOk};
+ghost use Rattle.std.specs.Prelude.{◌≡◌, ◌<◌, ◌+◌, ◌++◌, ◌∷◌, [], length, map, false, replicate, slice_set};
+ghost use Rattle.std.specs.Prelude.{List as Seq, ℕ, IfOk, OnOk};
 ghost use Rattle.flow_model.specs.LeafRows.{place_steps, linked_steps};
 ghost use Rattle.flow_model.specs.declared.graphs.Kind.TheVariants.{Long};
 ghost use Rattle.flow_model.specs.declared.graphs.Leaf.{Leaf};
 ghost use Rattle.graph_check.specs.Walks.{IsOrder};
 ghost use Rattle.leaf_rules.specs.KindEdges.{kind_edges};
 ghost use Rattle.leaf_rules.specs.ReturnCodes.{return_code};
-ghost use Rattle.leaf_rules.specs.Runs.{run_named, IsRun, IsKindMade, AreKindsMade, AreMade, IsRowed};
+ghost use Rattle.leaf_rules.specs.Runs.{run_named, IsRun, IsKindMade, AreKindsMade, AreLeavesMade, IsRowed};
 ghost use Rattle.leaf_rules.specs.Structures.{behind};
 ghost use Rattle.leaf_rules.specs.StructureLeaves.{place_step, below, kind_leaves, member_leaves, members_leaves};
 
@@ -31,7 +32,11 @@ fn add_row(
     rest: usize,
     kind: Kind,
 ) -> Result<(), AllocError>
-    ensures { OnOk result (table.new ≡ table.old ++ record { name = record { steps = head.now.value ∷ (place_steps place ++ linked_steps table.old rest) }; kind = kind } ∷ []) }
+    ensures { OnOk result (table.new ≡ table.old ++ record {
+      name =
+          record { steps = head.now.value ∷ (place_steps place ++ linked_steps table.old rest) };
+      kind = kind;
+    } ∷ []) }
 {
     let rest = narrow(rest)?;
     table.push(LeafRow {
@@ -44,7 +49,8 @@ fn add_row(
 
 /// Adds the leaves of a structure behind a step that leads to it.
 fn add_below(table: &mut LeafRows, head: &Rc<Step>, place: u16, run: Run) -> Result<(), AllocError>
-    ensures { (inner : Seq Leaf) → IsRun table.old run (return_code ∷ inner) → OnOk result (table.new ≡ table.old ++ map (below (head.now.value ∷ place_steps place)) inner) }
+    ensures { (inner : Seq Leaf) → IsRun table.old run (return_code ∷ inner)
+        → OnOk result (table.new ≡ table.old ++ map (below (head.now.value ∷ place_steps place)) inner) }
 {
     let first = run.first as usize + 1;
     let past = table.len().min(run.first as usize + run.count as usize);
@@ -101,7 +107,9 @@ impl<'a> Structures<'a> {
 
     /// Whether a kind has leaves.
     fn has_leaves(&self, runs: &[Run], kind: &'a KindTree) -> bool
-        ensures { result ≡ false → (leaves : Seq Leaf) (inner : Seq ℕ → Seq Leaf) → IsKindMade (behind self.now.definitions.items) runs.now leaves inner kind.now → kind_leaves inner kind.now ≡ [] }
+        ensures { result ≡ false → (leaves : Seq Leaf) (inner : Seq ℕ → Seq Leaf)
+            → IsKindMade (behind self.now.definitions.items) runs.now leaves inner kind.now
+            → kind_leaves inner kind.now ≡ [] }
     {
         match kind {
             KindTree::Long => true,
@@ -122,7 +130,10 @@ impl<'a> Structures<'a> {
         place: u16,
         kind: &'a KindTree,
     ) -> Result<(), AllocError>
-        ensures { (inner : Seq ℕ → Seq Leaf) → IsKindMade (behind self.now.definitions.items) runs.now table.old inner kind.now → OnOk result (table.new ≡ table.old ++ map (below (head.now.value ∷ place_steps place)) (kind_leaves inner kind.now)) }
+        ensures { (inner : Seq ℕ → Seq Leaf) → IsKindMade
+            (behind self.now.definitions.items) runs.now table.old inner kind.now
+            → OnOk result (table.new ≡ table.old ++ map (below (head.now.value ∷ place_steps place))
+            (kind_leaves inner kind.now)) }
     {
         match kind {
             KindTree::Long => add_row(table, head, place, 0, Kind::Long),
@@ -142,7 +153,9 @@ impl<'a> Structures<'a> {
         runs: &[Run],
         member: &'a Member,
     ) -> Result<(), AllocError>
-        ensures { (inner : Seq ℕ → Seq Leaf) → IsKindMade (behind self.now.definitions.items) runs.now table.old inner member.now.kind → OnOk result (table.new ≡ table.old ++ member_leaves inner member.now) }
+        ensures { (inner : Seq ℕ → Seq Leaf) → IsKindMade
+            (behind self.now.definitions.items) runs.now table.old inner member.now.kind
+            → OnOk result (table.new ≡ table.old ++ member_leaves inner member.now) }
     {
         if !self.has_leaves(runs, &member.kind) {
             return Ok(());
@@ -162,7 +175,9 @@ impl<'a> Structures<'a> {
         runs: &[Run],
         members: &'a [Member],
     ) -> Result<(), AllocError>
-        ensures { (inner : Seq ℕ → Seq Leaf) → AreKindsMade (behind self.now.definitions.items) runs.now table.old inner members.now → OnOk result (table.new ≡ table.old ++ members_leaves inner members.now) }
+        ensures { (inner : Seq ℕ → Seq Leaf) → AreKindsMade
+            (behind self.now.definitions.items) runs.now table.old inner members.now
+            → OnOk result (table.new ≡ table.old ++ members_leaves inner members.now) }
     {
         for member in members {
             self.add_member(alloc, table, runs, member)?;
@@ -178,7 +193,10 @@ impl<'a> Structures<'a> {
         runs: &[Run],
         structure: &'a StructDef,
     ) -> Result<Run, AllocError>
-        ensures { (inner : Seq ℕ → Seq Leaf) → AreKindsMade (behind self.now.definitions.items) runs.now table.old inner structure.now.members → IfOk result (λ run. IsRowed table.old table.new run (return_code ∷ members_leaves inner structure.now.members)) }
+        ensures { (inner : Seq ℕ → Seq Leaf) → AreKindsMade
+            (behind self.now.definitions.items) runs.now table.old inner structure.now.members
+            → IfOk result (λ run. IsRowed table.old table.new run
+            (return_code ∷ members_leaves inner structure.now.members)) }
     {
         let first = table.len();
         add_row(table, &Rc::new(alloc, Step::Rc)?, 0, 0, Kind::Long)?;
@@ -195,8 +213,9 @@ impl<'a> Structures<'a> {
         alloc: Global,
         order: &[u32],
     ) -> Result<(LeafRows, Vec<Run>), AllocError>
-        requires { IsOrder (length (behind self.now.definitions.items)) (kind_edges (behind self.now.definitions.items)) order.now }
-        ensures { IfOk result (λ made. AreMade (behind self.now.definitions.items) made.1.items made.0) }
+        requires { IsOrder (length (behind self.now.definitions.items))
+            (kind_edges (behind self.now.definitions.items)) order.now }
+        ensures { IfOk result (λ made. AreLeavesMade (behind self.now.definitions.items) made.1.items made.0) }
     {
         let mut table = LeafRows::new(alloc);
         let mut runs = no_runs(alloc, self.len())?;

@@ -1,12 +1,14 @@
 //! The structures of a text with their leaves, and rules 6, 7 and 8 on them.
-ghost use Rattle.std.specs.Prelude.{◌≡◌, ◌⊎◌, ℕ, ◌<◌, ◌++◌, [], map, length, false, replicate, slice_get, slice_index, slice_index_or, slice_set, Some, IfOk, IsTrue, OnOk};
+ghost use Rattle.std.specs.Prelude.{◌≡◌, ◌⊎◌, ℕ, ◌<◌, ◌++◌, [], map, length, false, replicate, slice_get, slice_index};
+ghost use Rattle.std.specs.Prelude.{slice_index_or, slice_set, Some, IfOk, IsTrue, OnOk};
 ghost use Rattle.std.specs.List.{filter_map};
 ghost use Rattle.graph_check.specs.Walks.{IsOrder};
 ghost use Rattle.text_graphs.specs.ClosedWalks.{AreClosed};
 ghost use Rattle.text_graphs.specs.Graphs.{graph_at};
 ghost use Rattle.text_graphs.specs.Places.{IsLeastOf, AnyAt};
 ghost use Rattle.text_graphs.specs.Texts.{activities_in, structures_in};
-ghost use Rattle.leaf_rules.specs.Structures.{AreStructuresNumbered, behind, structure_in, IsNoStructure, IsNoKind, AreNoKinds, AreNoContainers, AreNoContainersIn, NamesNoStructure};
+ghost use Rattle.leaf_rules.specs.Structures.{AreStructuresNumbered, behind, structure_in, IsNoStructure, IsNoKind};
+ghost use Rattle.leaf_rules.specs.Structures.{AreNoKinds, AreNoContainers, AreNoContainersIn, NamesNoStructure};
 ghost use Rattle.leaf_rules.specs.StructureLeaves.{element_count};
 ghost use Rattle.leaf_rules.specs.Ordered.{IsOrdered};
 ghost use Rattle.leaf_rules.specs.KindEdges.{kind_in, kind_edge, kind_edges, IsInStructureCycle};
@@ -199,7 +201,8 @@ impl<'a> Structures<'a> {
     }
 
     fn unknown_members(&self) -> Option<u32>
-        ensures { IsLeastOf (AnyAt (AreNoKinds (behind self.now.definitions.items)) (behind self.now.definitions.items)) result }
+        ensures { IsLeastOf (AnyAt (AreNoKinds (behind self.now.definitions.items)) (behind self.now.definitions.items))
+            result }
     {
         let mut least = None;
         for structure in &self.definitions {
@@ -210,13 +213,15 @@ impl<'a> Structures<'a> {
 
     /// An input or output that names no structure.
     fn unknown_of_two(&self, input: &'a NameAt, output: &'a NameAt) -> Option<u32>
-        ensures { IsLeastOf (λ p. IsNoStructure (behind self.now.definitions.items) input.now p ⊎ IsNoStructure (behind self.now.definitions.items) output.now p) result }
+        ensures { IsLeastOf (λ p. IsNoStructure (behind self.now.definitions.items) input.now p
+            ⊎ IsNoStructure (behind self.now.definitions.items) output.now p) result }
     {
         lesser(self.unknown(input), self.unknown(output))
     }
 
     fn unknown_of_activities(&self, scope: &Scope<'a>) -> Option<u32>
-        ensures { IsLeastOf (AnyAt (AreNoContainers (behind self.now.definitions.items)) (activities_in scope.now.elements.now)) result }
+        ensures { IsLeastOf (AnyAt (AreNoContainers (behind self.now.definitions.items))
+            (activities_in scope.now.elements.now)) result }
     {
         let mut least = None;
         for activity in &scope.activities {
@@ -236,7 +241,8 @@ impl<'a> Structures<'a> {
     }
 
     fn unknown_containers(&self, scopes: &[Scope<'a>]) -> Option<u32>
-        ensures { IsLeastOf (AnyAt (λ s. AreNoContainersIn (behind self.now.definitions.items) (graph_at s)) scopes.now) result }
+        ensures { IsLeastOf (AnyAt (λ s. AreNoContainersIn (behind self.now.definitions.items) (graph_at s)) scopes.now)
+            result }
     {
         let mut least = None;
         for scope in scopes {
@@ -247,7 +253,8 @@ impl<'a> Structures<'a> {
 
     /// Rule 6: a member kind or a container names no structure of the text.
     pub fn unknown_structure(&self, scopes: &[Scope<'a>]) -> Option<u32>
-        ensures { IsLeastOf (NamesNoStructure (behind self.now.definitions.items) (AnyAt (λ s. AreNoContainersIn (behind self.now.definitions.items) (graph_at s)) scopes.now)) result }
+        ensures { IsLeastOf (NamesNoStructure (behind self.now.definitions.items)
+            (AnyAt (λ s. AreNoContainersIn (behind self.now.definitions.items) (graph_at s)) scopes.now)) result }
     {
         lesser(self.unknown_members(), self.unknown_containers(scopes))
     }
@@ -273,7 +280,9 @@ impl<'a> Structures<'a> {
         requires nodes { edges.old.nodes ≡ length (behind self.now.definitions.items) }
         requires within { to < edges.old.nodes }
         ensures nodes { OnOk result (edges.new.nodes ≡ edges.old.nodes) }
-        ensures added { OnOk result (edges.new.pairs.items ≡ edges.old.pairs.items ++ filter_map (kind_edge (behind self.now.definitions.items) to) structure.now.members) }
+        ensures added { OnOk result (edges.new.pairs.items
+            ≡ edges.old.pairs.items ++ filter_map (kind_edge (behind self.now.definitions.items) to)
+            structure.now.members) }
     {
         for member in structure.members.as_slice() {
             match self.kind_number(&member.kind) {
@@ -298,7 +307,8 @@ impl<'a> Structures<'a> {
 
     /// The least place of a structure of which it is known that a closed walk leads through it.
     fn least_closed(&self, closed: &[bool]) -> Option<u32>
-        requires { AreClosed (length (behind self.now.definitions.items)) (kind_edges (behind self.now.definitions.items)) closed.now }
+        requires { AreClosed (length (behind self.now.definitions.items))
+            (kind_edges (behind self.now.definitions.items)) closed.now }
         ensures { IsLeastOf (IsInStructureCycle (behind self.now.definitions.items)) result }
     {
         let mut least = None;
@@ -312,8 +322,10 @@ impl<'a> Structures<'a> {
     pub fn cycle(&mut self, alloc: Global) -> Result<Option<u32>, AllocError>
         ensures kept { behind self.new.definitions.items ≡ behind self.old.definitions.items }
         ensures least { IfOk result (IsLeastOf (IsInStructureCycle (behind self.old.definitions.items))) }
-        ensures counted { IfOk result (λ place. place ≡ None → AreCounted (behind self.new.definitions.items) self.new.counts.items) }
-        ensures ordered { IfOk result (λ place. place ≡ None → IsOrdered (behind self.new.definitions.items) self.new.order) }
+        ensures counted { IfOk result (λ place. place ≡ None
+            → AreCounted (behind self.new.definitions.items) self.new.counts.items) }
+        ensures ordered { IfOk result (λ place. place ≡ None
+            → IsOrdered (behind self.new.definitions.items) self.new.order) }
     {
         let edges = self.edges(alloc)?;
         match edges.order(alloc)? {
@@ -331,7 +343,8 @@ impl<'a> Structures<'a> {
 
     /// The leaves of each structure, counted in an order in which each comes behind its kinds.
     fn leaf_counts(&self, alloc: Global, order: &[u32]) -> Result<Vec<u64>, AllocError>
-        requires { IsOrder (length (behind self.now.definitions.items)) (kind_edges (behind self.now.definitions.items)) order.now }
+        requires { IsOrder (length (behind self.now.definitions.items))
+            (kind_edges (behind self.now.definitions.items)) order.now }
         ensures { IfOk result (λ counts. AreCounted (behind self.now.definitions.items) counts.items) }
     {
         let mut counts = no_counts(alloc, self.definitions.len())?;

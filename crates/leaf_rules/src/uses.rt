@@ -7,7 +7,8 @@ ghost use Rattle.text_graphs.specs.GraphTexts.{text_of};
 ghost use Rattle.text_graphs.specs.Places.{IsLeastOf, AnyAt};
 ghost use Rattle.text_graphs.specs.Texts.{activities_in, controls_in, lines_in};
 ghost use Rattle.leaf_rules.specs.Leaves.{with_code, table_leaves};
-ghost use Rattle.leaf_rules.specs.LeafUses.{IsInCond, IsInExit, when_said, IsInTransition, IsInMaps, IsInLine, IsInUses, IsNoLeaf, ReadsUnknownLeaf, leaf_kind, MixesKinds};
+ghost use Rattle.leaf_rules.specs.LeafUses.{IsInCond, IsInExit, when_said, IsInTransition, IsInMaps, IsInLine};
+ghost use Rattle.leaf_rules.specs.LeafUses.{IsInUses, IsNoLeaf, ReadsUnknownLeaf, leaf_kind, MixesKinds};
 ghost use Rattle.leaf_rules.specs.Searches.{finds_of, breaks_of};
 
 use crate::members::LeafTable;
@@ -41,7 +42,8 @@ fn cond_fault(search: Search, cond: &Cond, leaves: &Leaves) -> Option<u32>
 /// The place that is found in a condition over leaves, if there are such.
 fn found_in_cond(search: Search, cond: Option<&CondAt>, leaves: Option<&Leaves>) -> Option<u32>
     requires { IfSome leaves (λ l. length l.now.leaves < 2 ^ 32) }
-    ensures { IsLeastOf (IsInCond (finds_of search) (option_map (λ l. l.now.leaves) leaves.entry) (option_map (λ c. c.now) cond.entry)) result }
+    ensures { IsLeastOf (IsInCond (finds_of search) (option_map (λ l. l.now.leaves) leaves.entry)
+        (option_map (λ c. c.now) cond.entry)) result }
 {
     match leaves {
         None => None,
@@ -117,7 +119,8 @@ fn found_in_maps(
 ) -> Option<u32>
     requires from { IfSome from (λ l. length l.now.leaves < 2 ^ 32) }
     requires to { IfSome to (λ l. length l.now.leaves < 2 ^ 32) }
-    ensures { IsLeastOf (IsInMaps (breaks_of search) (option_map (λ l. l.now.leaves) from.entry) (option_map (λ l. l.now.leaves) to.entry) maps.now) result }
+    ensures { IsLeastOf (IsInMaps (breaks_of search) (option_map (λ l. l.now.leaves) from.entry)
+        (option_map (λ l. l.now.leaves) to.entry) maps.now) result }
 {
     match from {
         None => None,
@@ -142,7 +145,8 @@ fn line_fault<'a>(
 }
 
 fn lines_fault<'a>(search: Search, table: &LeafTable<'a>, scope: &Scope<'a>) -> Option<u32>
-    ensures { IsLeastOf (AnyAt (IsInLine (breaks_of search) (table_leaves table.now) (text_of scope.now)) (lines_in scope.now.elements.now)) result }
+    ensures { IsLeastOf (AnyAt (IsInLine (breaks_of search) (table_leaves table.now) (text_of scope.now))
+        (lines_in scope.now.elements.now)) result }
 {
     let mut least = None;
     for line in &scope.lines {
@@ -168,14 +172,16 @@ fn transition_fault<'a>(
     scope: &Scope<'a>,
     control: &'a ControlTree,
 ) -> Option<u32>
-    ensures { IsLeastOf (IsInTransition (finds_of search) (table_leaves table.now) scope.now.elements.now control.now) result }
+    ensures { IsLeastOf (IsInTransition (finds_of search) (table_leaves table.now) scope.now.elements.now control.now)
+        result }
 {
     let leaves = table.connector_leaves(scope, control);
     found_in_cond(search, condition(&control.when), leaves)
 }
 
 fn transitions_fault<'a>(search: Search, table: &LeafTable<'a>, scope: &Scope<'a>) -> Option<u32>
-    ensures { IsLeastOf (AnyAt (IsInTransition (finds_of search) (table_leaves table.now) scope.now.elements.now) (controls_in scope.now.elements.now)) result }
+    ensures { IsLeastOf (AnyAt (IsInTransition (finds_of search) (table_leaves table.now) scope.now.elements.now)
+        (controls_in scope.now.elements.now)) result }
 {
     let mut least = None;
     for control in &scope.controls {
@@ -206,7 +212,8 @@ fn exit_fault<'a>(
     output: &'a NameAt,
     what: &AttrTree,
 ) -> Option<u32>
-    ensures { IsLeastOf (IsInCond (finds_of search) (with_code (table_leaves table.now output.now.name)) (exit_said what.now)) result }
+    ensures { IsLeastOf (IsInCond (finds_of search) (with_code (table_leaves table.now output.now.name))
+        (exit_said what.now)) result }
 {
     found_in_cond(search, exit_condition(what), table.coded(output))
 }
@@ -229,7 +236,8 @@ fn activity_fault<'a>(
 }
 
 fn exits_fault<'a>(search: Search, table: &LeafTable<'a>, scope: &Scope<'a>) -> Option<u32>
-    ensures { IsLeastOf (AnyAt (IsInExit (finds_of search) (table_leaves table.now)) (activities_in scope.now.elements.now)) result }
+    ensures { IsLeastOf (AnyAt (IsInExit (finds_of search) (table_leaves table.now))
+        (activities_in scope.now.elements.now)) result }
 {
     let mut least = None;
     for activity in &scope.activities {
@@ -239,7 +247,10 @@ fn exits_fault<'a>(search: Search, table: &LeafTable<'a>, scope: &Scope<'a>) -> 
 }
 
 fn conditions_fault<'a>(search: Search, table: &LeafTable<'a>, scope: &Scope<'a>) -> Option<u32>
-    ensures { IsLeastOf (λ p. AnyAt (IsInExit (finds_of search) (table_leaves table.now)) (activities_in scope.now.elements.now) p ⊎ AnyAt (IsInTransition (finds_of search) (table_leaves table.now) scope.now.elements.now) (controls_in scope.now.elements.now) p) result }
+    ensures { IsLeastOf (λ p. AnyAt (IsInExit (finds_of search) (table_leaves table.now))
+        (activities_in scope.now.elements.now) p ⊎ AnyAt
+        (IsInTransition (finds_of search) (table_leaves table.now) scope.now.elements.now)
+        (controls_in scope.now.elements.now) p) result }
 {
     lesser(
         exits_fault(search, table, scope),
@@ -249,7 +260,8 @@ fn conditions_fault<'a>(search: Search, table: &LeafTable<'a>, scope: &Scope<'a>
 
 /// The least place of a graph where a search finds something.
 fn graph_fault<'a>(search: Search, table: &LeafTable<'a>, scope: &Scope<'a>) -> Option<u32>
-    ensures { IsLeastOf (IsInUses (finds_of search) (breaks_of search) (table_leaves table.now) (graph_at scope.now)) result }
+    ensures { IsLeastOf (IsInUses (finds_of search) (breaks_of search) (table_leaves table.now) (graph_at scope.now))
+        result }
 {
     lesser(
         conditions_fault(search, table, scope),
@@ -258,7 +270,8 @@ fn graph_fault<'a>(search: Search, table: &LeafTable<'a>, scope: &Scope<'a>) -> 
 }
 
 fn graphs_fault<'a>(search: Search, table: &LeafTable<'a>, scopes: &[Scope<'a>]) -> Option<u32>
-    ensures { IsLeastOf (AnyAt (λ s. IsInUses (finds_of search) (breaks_of search) (table_leaves table.now) (graph_at s)) scopes.now) result }
+    ensures { IsLeastOf (AnyAt (λ s. IsInUses (finds_of search) (breaks_of search) (table_leaves table.now)
+        (graph_at s)) scopes.now) result }
 {
     let mut least = None;
     for scope in scopes {

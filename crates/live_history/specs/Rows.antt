@@ -1,5 +1,6 @@
 -- The rows of a history: a transaction each, or nothing where it was taken away; and where those of each root stand.
-use Rattle.std.specs.Prelude.{◌≡◌, ℕ, ◌+◌, Bool, false, if◌then◌else◌, Option, Some, None, List, [], ◌∷◌, slice_get, slice_set}
+use Rattle.std.specs.Prelude.{◌≡◌, ℕ, ◌+◌, Bool, false, if◌then◌else◌, Option, Some, None, List, [], ◌∷◌, slice_get}
+use Rattle.std.specs.Prelude.{slice_set}
 use Rattle.std.specs.List.{filter_map}
 use Rattle.std.specs.Option.{option_and_then}
 use Rattle.std.specs.Ordering.{nat_cmp}

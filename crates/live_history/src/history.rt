@@ -1,5 +1,6 @@
 //! The rows of a history, and where those of each root stand.
-ghost use Rattle.std.specs.Prelude.{◌≡◌, ℕ, ◌==◌, ◌<◌, [], ◌∷◌, ◌++◌, None, length, map, if◌then◌else◌, option_copied, slice_set, IfOk, OnOk, OnErr};
+ghost use Rattle.std.specs.Prelude.{◌≡◌, ℕ, ◌==◌, ◌<◌, [], ◌∷◌, ◌++◌, None, length, map, if◌then◌else◌, option_copied};
+ghost use Rattle.std.specs.Prelude.{slice_set, IfOk, OnOk, OnErr};
 ghost use Rattle.std.specs.List.{filter};
 ghost use Rattle.std.specs.Option.{is_some};
 ghost use Rattle.live_history.specs.Transactions.{about, is_root, without_root};

@@ -40,7 +40,9 @@ IsEndWrong items in_graphs p = AnyAt IsItemEnd items p ⊎ in_graphs p
 
 -- the place of a second structure, person or process of one name
 abbrev pub IsItemAgain : List ItemTree → ℕ → Type 0
-IsItemAgain items p = PairAt IsAgainAt (map (λ s. s.name) (structures_in items)) p ⊎ (PairAt IsAgainAt (map (λ q. q.name) (people_in items)) p ⊎ PairAt IsAgainAt (map (λ q. q.name) (processes_in items)) p)
+IsItemAgain items p = PairAt IsAgainAt (map (λ s. s.name) (structures_in items)) p
+    ⊎ (PairAt IsAgainAt (map (λ q. q.name) (people_in items)) p
+    ⊎ PairAt IsAgainAt (map (λ q. q.name) (processes_in items)) p)
 
 -- of a second member of a structure, or role of a person
 abbrev pub IsPartAgain : ItemTree → ℕ → Type 0

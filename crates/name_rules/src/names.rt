@@ -4,7 +4,9 @@ ghost use Rattle.flow_model.specs.declared.trees.AttrAt.{AttrAt};
 ghost use Rattle.text_graphs.specs.Graphs.{graph_at};
 ghost use Rattle.text_graphs.specs.Meeting.{IsAgainAt};
 ghost use Rattle.name_rules.specs.KindsMet.{AreOfKind, IsKindMet};
-ghost use Rattle.name_rules.specs.Names.{IsOtherEnd, IsItemEnd, AreActivityEnds, kind_said, IsKindAgain, AreAttributesAgain, IsItemAgain, IsPartAgain, IsInsideAgain, IsEndWrong, IsTwice};
+ghost use Rattle.name_rules.specs.Names.{IsOtherEnd, IsItemEnd, AreActivityEnds, kind_said, IsKindAgain};
+ghost use Rattle.name_rules.specs.Names.{AreAttributesAgain, IsItemAgain, IsPartAgain, IsInsideAgain, IsEndWrong};
+ghost use Rattle.name_rules.specs.Names.{IsTwice};
 ghost use Rattle.text_graphs.specs.Places.{IsLeastOf, AnyAt, PairAt};
 ghost use Rattle.text_graphs.specs.Texts.{activities_in, processes_in, structures_in, people_in};
 
@@ -222,7 +224,8 @@ impl OfKind {
 
     /// Meets an attribute.
     fn meet(&mut self, attribute: &AttrAt)
-        ensures { (kind : AttributeKind) (attributes : List AttrAt) → IsKindMet self.old kind attributes → IsKindMet self.new kind (attributes ++ attribute.now ∷ []) }
+        ensures { (kind : AttributeKind) (attributes : List AttrAt) → IsKindMet self.old kind attributes
+            → IsKindMet self.new kind (attributes ++ attribute.now ∷ []) }
     {
         if attribute_kind(&attribute.what) != self.kind {
             return;

@@ -20,21 +20,24 @@ use Rattle.view_laws.specs.Laws.{IsQuiet}
 use Rattle.view_laws.specs.LegalRuns.{IsLegal}
 use Rattle.view_laws.specs.Messages.{Note}
 use Rattle.view_laws.specs.NextEvents.{Aimed}
-use Rattle.view_laws.specs.Runs.{Root, Event, Started, Turned, Completed, Held, Stopped, is_stopped, has_started, seen, fated}
+use Rattle.view_laws.specs.Runs.{Root, Event, Started, Turned, Completed, Held, Stopped, is_stopped, has_started, seen}
+use Rattle.view_laws.specs.Runs.{fated}
 
 -- ---- what events do
 
 -- a message that is taken, and what the turn gives
 abbrev pub DoesTurn : Root → Note → ScopeState → ScopeState → List Message → Type 0
 DoesTurn r m s s' given =
-    (clock : ℕ) × (message : Message) × (items : List Path) × (note_in r.templates r.graph message ≡ Some m) × Takes r.templates clock message r.graph s s' given items
+    (clock : ℕ) × (message : Message) × (items : List Path) × (note_in r.templates r.graph message ≡ Some m)
+    × Takes r.templates clock message r.graph s s' given items
 
 -- a completion of an item, and what it gives
 abbrev pub DoesComplete : Root → Fact → ScopeState → ScopeState → List Message → Type 0
 DoesComplete r f s s' given =
     (clock : ℕ) × (c : Outcome) × (items : List Path) × (c.output ≡ f.output)
     × ((around : List Part) (q : Part) → f.item.parts ≡ around ++ q ∷ []
-    → Happens r.templates (record { root = f.item.root; parts = around }) clock (Completes q.name c) r.graph s s' given items)
+    → Happens r.templates (record { root = f.item.root; parts = around }) clock
+    (Completes q.name c) r.graph s s' given items)
 
 abbrev pub Does : Root → Event → ScopeState → ScopeState → Type 0
 Does r Started s s' = s' ≡ s
@@ -65,26 +68,30 @@ pub record IsDriven (r : Root) (q : Note → ℕ) (h : List Event) (s : ScopeSta
 
 -- the state shows the view of the run
 abbrev pub RunsShow : Type 0
-RunsShow = (r : Root) (q : Note → ℕ) (h : List Event) (s : ScopeState) → IsDriven r q h s → Shows r.templates r.depth (seen h) r.graph r.input s
+RunsShow = (r : Root) (q : Note → ℕ) (h : List Event) (s : ScopeState) → IsDriven r q h s
+    → Shows r.templates r.depth (seen h) r.graph r.input s
 
 -- a turn gives what it puts
 abbrev pub TurnsGive : Type 0
 TurnsGive =
-    (r : Root) (q : Note → ℕ) (h : List Event) (s s' : ScopeState) (m : Note) (given : List Message) → IsDriven r q h s → IsTrue (has_started h)
+    (r : Root) (q : Note → ℕ) (h : List Event) (s s' : ScopeState) (m : Note) (given : List Message) → IsDriven r q h s
+    → IsTrue (has_started h)
     → IsLegal r q (Turned m ∷ h)
     → DoesTurn r m s s' given → GivesPut r h (Turned m) given
 
 -- and so does a completion
 abbrev pub CompletionsGive : Type 0
 CompletionsGive =
-    (r : Root) (q : Note → ℕ) (h : List Event) (s s' : ScopeState) (f : Fact) (given : List Message) → IsDriven r q h s → IsTrue (has_started h)
+    (r : Root) (q : Note → ℕ) (h : List Event) (s s' : ScopeState) (f : Fact) (given : List Message) → IsDriven r q h s
+    → IsTrue (has_started h)
     → IsLegal r q (Completed f ∷ h)
     → DoesComplete r f s s' given → GivesPut r h (Completed f) given
 
 -- whatever the state says of how an activity has ended is so by the completions alone
 abbrev pub RunsAreRight : Type 0
 RunsAreRight =
-    (r : Root) (q : Note → ℕ) (h : List Event) (s : ScopeState) (a : ℕ) → IsDriven r q h s → IsTrue (is_settled (ends_of (out-ScopeState s).ends.items a))
+    (r : Root) (q : Note → ℕ) (h : List Event) (s : ScopeState) (a : ℕ) → IsDriven r q h s
+    → IsTrue (is_settled (ends_of (out-ScopeState s).ends.items a))
     → ends_of (out-ScopeState s).ends.items a ≡ tree_ends r.templates r.depth (fated h) r.graph r.input a
 
 -- with no message queued it says all that the completions tell

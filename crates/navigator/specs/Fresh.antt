@@ -37,9 +37,11 @@ pub record IsFresh (g : Graph) (input : Container) (s : ScopeState) : Type 0 whe
   pub begun : (out-ScopeState s).begun ≡ false
   pub reads : (out-ScopeState s).input ≡ input
   pub tallied : length (out-ScopeState s).tallies.items ≡ length (out-Graph g).activities
-  pub tallies : (a : ℕ) (t : Tally) → slice_get (out-ScopeState s).tallies.items a ≡ Some t → Counts t (replicate (incoming_count g a) None)
+  pub tallies : (a : ℕ) (t : Tally) → slice_get (out-ScopeState s).tallies.items a ≡ Some t
+      → Counts t (replicate (incoming_count g a) None)
   pub ends : (out-ScopeState s).ends.items ≡ replicate (length (out-Graph g).activities) Unsettled
   pub stated : length (out-ScopeState s).states.items ≡ length (out-Graph g).activities
-  pub states : (a : ℕ) (activity : Activity) (state : ActivityState) → slice_get (out-Graph g).activities a ≡ Some activity
+  pub states : (a : ℕ) (activity : Activity) (state : ActivityState)
+      → slice_get (out-Graph g).activities a ≡ Some activity
       → slice_get (out-ScopeState s).states.items a ≡ Some state → IsFreshWork activity.work state
   pub unsettled : (out-ScopeState s).unsettled ≡ length (out-Graph g).activities

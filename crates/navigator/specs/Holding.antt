@@ -1,5 +1,6 @@
 -- Which hold a claim, a take, a release or a transfer sets, and that it changes nothing else.
-use Rattle.std.specs.Prelude.{◌≡◌, ℕ, ◌&&◌, Bool, false, bytes_eq, if◌then◌else◌, Option, Some, None, List, [], ◌∷◌, ◌++◌, slice_get}
+use Rattle.std.specs.Prelude.{◌≡◌, ℕ, ◌&&◌, Bool, false, bytes_eq, if◌then◌else◌, Option, Some, None, List, [], ◌∷◌}
+use Rattle.std.specs.Prelude.{◌++◌, slice_get}
 use Rattle.activity_states.specs.States.{State, held, taken, next_take}
 use Rattle.flow_model.specs.Rows.{same_part}
 use Rattle.flow_model.specs.declared.graphs.Graph.{Graph}
@@ -63,7 +64,8 @@ pub record SetsHold (name : Name) (change : HoldChange) (take : ℕ) (g : Graph)
 
 -- the last part of an item's path names its activity, in the scope to which the others lead; only that scope changes
 abbrev pub HoldsChanged : List Template → List Part → HoldChange → Graph → ScopeState → ScopeState → ℕ → Type 0
-HoldsChanged ts item change g s s' take = (parts : List Part) (q : Part) → item ≡ parts ++ q ∷ [] → ChangesAt ts (SetsHold q.name change take) parts g s s'
+HoldsChanged ts item change g s s' take = (parts : List Part) (q : Part) → item ≡ parts ++ q ∷ []
+    → ChangesAt ts (SetsHold q.name change take) parts g s s'
 
 -- ---- what is found at each path then
 
@@ -96,13 +98,16 @@ Stands change (Some e) None = ⊥
 Stands change (Some e) (Some e') = StandsSo change e e'
 
 -- the items of that activity are held so, and the items of every other one stay
-pub record IsHeldSo (ts : List Template) (item : List Part) (change : HoldChange) (g : Graph) (s s' : ScopeState) (take : ℕ) (e : Entry) : Type 0 where
+pub record IsHeldSo (ts : List Template) (item : List Part) (change : HoldChange) (g : Graph) (s s' : ScopeState)
+    (take : ℕ) (e : Entry) : Type 0 where
   pub item_is : Stands (held_by change) (Some e) (entry_at ts item (stand g s'))
-  pub others : (other : List Part) → Stands (held_if (name_one item other) change) (entry_at ts other (stand g s)) (entry_at ts other (stand g s'))
+  pub others : (other : List Part) → Stands (held_if (name_one item other) change) (entry_at ts other (stand g s))
+      (entry_at ts other (stand g s'))
   pub take_is : take ≡ take_of change e.state
 
 -- after a change of the hold of an item that is there, exactly the items of its activity are held so
 abbrev pub HoldsAreSet : Type 0
 HoldsAreSet =
     (ts : List Template) (item : List Part) (change : HoldChange) (g : Graph) (s s' : ScopeState) (take : ℕ) (e : Entry)
-    → entry_at ts item (stand g s) ≡ Some e → HoldsChanged ts item change g s s' take → IsHeldSo ts item change g s s' take e
+    → entry_at ts item (stand g s) ≡ Some e → HoldsChanged ts item change g s s' take
+    → IsHeldSo ts item change g s s' take e

@@ -18,7 +18,8 @@ mode_of false false true = Suspended
 mode_of false false false = Active
 
 -- a root that was started with this input, and whose scope hasn't begun
-pub record IsStarted (ts : List Template) (t : ℕ) (number : ℕ) (name : Name) (input : Container) (i : Instance) : Type 0 where
+pub record IsStarted (ts : List Template) (t : ℕ) (number : ℕ) (name : Name) (input : Container)
+    (i : Instance) : Type 0 where
   pub root : i.root ≡ number
   pub template : i.template ≡ t
   pub starter : i.starter ≡ name

@@ -15,5 +15,6 @@ use Rattle.view_laws.specs.Coming.{started_in}
 abbrev pub ReadsAttempt : Graph → ScopeState → ℕ → State → ℕ → Container → Type 0
 ReadsAttempt g s a p j read =
     (ts : List Template) (depth : ℕ) (k : Known) (input : Container) (activity : Activity) (n : ℕ) (start : Start)
-    → slice_get (out-Graph g).activities a ≡ Some activity → slice_get (out-ScopeState s).states.items a ≡ Some (Program p) → Shows ts depth k g input s
+    → slice_get (out-Graph g).activities a ≡ Some activity
+    → slice_get (out-ScopeState s).states.items a ≡ Some (Program p) → Shows ts depth k g input s
     → slice_get (started_in ts depth k g input a activity) n ≡ Some start → start.attempt ≡ j → read ≡ start.input

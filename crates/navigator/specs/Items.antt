@@ -1,5 +1,6 @@
 -- The scope one step down, and the item of a path.
-use Rattle.std.specs.Prelude.{ℕ, ◌-◌, ◌==◌, nat_le, ◌&&◌, if◌then◌else◌, Option, Some, None, List, [], ◌∷◌, slice_get, option_and_then}
+use Rattle.std.specs.Prelude.{ℕ, ◌-◌, ◌==◌, nat_le, ◌&&◌, if◌then◌else◌, Option, Some, None, List, [], ◌∷◌, slice_get}
+use Rattle.std.specs.Prelude.{option_and_then}
 use Rattle.activity_states.specs.States.{State, fate_of, output_of, performer_of}
 use Rattle.blocks_subprocs.specs.Ends.{ends_of}
 use Rattle.flow_model.specs.ScopeContainers.{graph_in, base_of, looped}
@@ -35,7 +36,8 @@ both (Some g) (Some s) = Some (stand g s)
 
 -- the scope of an attempt of the activity at a place, if the activity runs a graph
 abbrev pub into_place : List Template → Stand → ℕ → ℕ → Option Stand
-into_place ts at j a = option_and_then (λ activity. both (graph_in ts activity.work) (inner_of at.scope a j)) (slice_get (out-Graph at.graph).activities a)
+into_place ts at j a = option_and_then (λ activity. both (graph_in ts activity.work) (inner_of at.scope a j))
+    (slice_get (out-Graph at.graph).activities a)
 
 -- the scope one step down
 abbrev pub into : List Template → Stand → Part → Option Stand
@@ -61,11 +63,20 @@ attempts_in (fates.Finished j) = j
 attempts_in fates.Dead = 0
 
 abbrev pub entry_of : Graph → ScopeState → ℕ → Activity → State → ℕ → Entry
-entry_of g s a activity state j = record { graph = g; scope = s; number = a; activity = activity; state = state; attempt = j }
+entry_of g s a activity state j = record {
+  graph = g;
+  scope = s;
+  number = a;
+  activity = activity;
+  state =
+      state;
+  attempt = j;
+}
 
 -- an attempt that has come to be of a program activity
 abbrev pub entry_of_state : Stand → ℕ → ℕ → Activity → ActivityState → Option Entry
-entry_of_state at j a activity (Program p) = if nat_le 1 j && nat_le j (attempts_in (fate_of p)) then Some (entry_of at.graph at.scope a activity p j) else None
+entry_of_state at j a activity (Program p) = if nat_le 1 j
+    && nat_le j (attempts_in (fate_of p)) then Some (entry_of at.graph at.scope a activity p j) else None
 entry_of_state at j a activity (Nested n) = None
 
 abbrev pub entry : Stand → ℕ → ℕ → Option Activity → Option ActivityState → Option Entry
@@ -77,7 +88,8 @@ entry at j a (Some activity) (Some state) = entry_of_state at j a activity state
 abbrev pub entry_here : Part → Stand → Option Entry
 entry_here q at =
     if (out-ScopeState at.scope).begun
-    then option_and_then (λ a. entry at q.attempt a (slice_get (out-Graph at.graph).activities a) (slice_get (out-ScopeState at.scope).states.items a)) (place_of at.graph q.name)
+    then option_and_then (λ a. entry at q.attempt a (slice_get (out-Graph at.graph).activities a)
+    (slice_get (out-ScopeState at.scope).states.items a)) (place_of at.graph q.name)
     else None
 
 -- the item of a path, whose last part names it in the scope to which the others lead
@@ -106,7 +118,8 @@ looped_from g a base (Some last) = looped (out-Graph g).loops a last base
 
 -- the input of an attempt: the base input, with the LOOP maps from the output of the attempt before it
 abbrev pub item_input : Graph → ScopeState → ℕ → State → ℕ → Container
-item_input g s a state j = looped_from g a (base_at g s a (slice_get (out-Graph g).activities a)) (output_of state (j - 1))
+item_input g s a state j = looped_from g a (base_at g s a (slice_get (out-Graph g).activities a))
+    (output_of state (j - 1))
 
 -- ---- who did it
 
@@ -123,7 +136,9 @@ performer_if (Some end.Unsettled) state = None
 performer_if (Some end.Dead) state = None
 performer_if (Some (end.Finished output)) state = performer_in state
 
--- the person whose completion gave the final output of the activity at a place of a scope; none where it was an agent's or
+-- the person whose completion gave the final output of the activity at a place of a scope; none where it was an agent's
+-- or
 -- an administrator's, or the activity isn't finished
 abbrev pub performer_at : ScopeState → ℕ → Option (List ℕ)
-performer_at s a = performer_if (slice_get (out-ScopeState s).ends.items a) (slice_get (out-ScopeState s).states.items a)
+performer_at s a = performer_if (slice_get (out-ScopeState s).ends.items a)
+    (slice_get (out-ScopeState s).states.items a)

@@ -1,4 +1,5 @@
--- Which graphs are served: the rows of the wiring are right and sizes fit, at every depth, and none nests deeper than this.
+-- Which graphs are served: the rows of the wiring are right and sizes fit, at every depth, and none nests deeper than
+-- this.
 use Rattle.std.specs.Prelude.{◌≡◌, ℕ, zero, suc, ◌<◌, ◌^◌, Some, List, length, slice_get}
 use Rattle.flow_model.specs.ScopeContainers.{graph_in, graph_of}
 use Rattle.flow_model.specs.Wiring.{IsIncoming, IsSinking}
@@ -15,7 +16,8 @@ HasGraph ts (Block' b g) = Unit {0}
 HasGraph ts (Process t) = (h : Graph) × (graph_of ts t ≡ Some h)
 
 abbrev pub HasGraphs : List Template → Graph → Type 0
-HasGraphs ts g = (a : ℕ) (activity : Activity) → slice_get (out-Graph g).activities a ≡ Some activity → HasGraph ts activity.work
+HasGraphs ts g = (a : ℕ) (activity : Activity) → slice_get (out-Graph g).activities a ≡ Some activity
+    → HasGraph ts activity.work
 
 -- a graph whose blocks and subprocesses have this property
 pub record IsServed (ts : List Template) (g : Graph) (inner : Graph → Type 0) : Type 0 where
@@ -24,7 +26,8 @@ pub record IsServed (ts : List Template) (g : Graph) (inner : Graph → Type 0) 
   pub incoming : IsIncoming g
   pub sinking : IsSinking g
   pub few : length (out-Graph g).controls < 2 ^ 32
-  pub inside : (a : ℕ) (activity : Activity) (h : Graph) → slice_get (out-Graph g).activities a ≡ Some activity → graph_in ts activity.work ≡ Some h → inner h
+  pub inside : (a : ℕ) (activity : Activity) (h : Graph) → slice_get (out-Graph g).activities a ≡ Some activity
+      → graph_in ts activity.work ≡ Some h → inner h
 
 -- so is the graph, and so are those inside, to this depth, below which there is none
 abbrev pub Served : List Template → ℕ → Graph → Type 0

@@ -28,7 +28,8 @@ use Rattle.view_laws.specs.Messages.{Note, BeginNote, SignalNote, EndNote}
 
 abbrev pub graph_under : List Template → Graph → Option ℕ → Option Graph
 graph_under ts g None = None
-graph_under ts g (Some a) = option_and_then (λ activity. graph_in ts activity.work) (slice_get (out-Graph g).activities a)
+graph_under ts g (Some a) = option_and_then (λ activity. graph_in ts activity.work)
+    (slice_get (out-Graph g).activities a)
 
 -- the graph of the scope at the end of a path
 abbrev pub graph_along : List Template → List Part → Graph → Option Graph
@@ -60,19 +61,23 @@ pub record IsCounted (k : Known) : Type 0 where
   pub enough : length items ≤ k.most
 
 -- from a state to the next, whatever is known: where the first shows it, the second shows what is known after the event
-abbrev pub GoesOnShowing : (ℕ → Known → Container → Known → Type 0) → List Template → Graph → ScopeState → ScopeState → Type 0
+abbrev pub GoesOnShowing : (ℕ → Known → Container → Known → Type 0) → List Template → Graph → ScopeState → ScopeState
+    → Type 0
 GoesOnShowing comes ts g s s' =
-    (depth : ℕ) (k k' : Known) (input : Container) → Well ts depth g → Served ts depth g → IsCounted k → comes depth k input k'
+    (depth : ℕ) (k k' : Known) (input : Container) → Well ts depth g → Served ts depth g → IsCounted k
+    → comes depth k input k'
     → Shows ts depth k g input s → Shows ts depth k' g input s'
 
 -- a message that may come is taken
 abbrev pub ShowsTaken : List Template → Graph → Message → ScopeState → ScopeState → Type 0
 ShowsTaken ts g message s s' =
-    (note : Note) → note_in ts g message ≡ Some note → GoesOnShowing (λ depth k input k'. Comes ts depth k g input note k') ts g s s'
+    (note : Note) → note_in ts g message ≡ Some note
+    → GoesOnShowing (λ depth k input k'. Comes ts depth k g input note k') ts g s s'
 
 -- an item that may be completed is
 abbrev pub ShowsCompleted : List Template → Graph → List Part → Container → ScopeState → ScopeState → Type 0
-ShowsCompleted ts g item out s s' = GoesOnShowing (λ depth k input k'. ComesOutput ts depth k g input item out k') ts g s s'
+ShowsCompleted ts g item out s s' = GoesOnShowing
+    (λ depth k input k'. ComesOutput ts depth k g input item out k') ts g s s'
 
 -- ---- what is shown after a change of a hold
 
@@ -83,23 +88,28 @@ pub record DiffersInHold (p p' : State) : Type 0 where
 
 -- whatever the first state shows, the second shows
 abbrev pub StaysShown : List Template → Graph → ScopeState → ScopeState → Type 0
-StaysShown ts g s s' = (depth : ℕ) (k : Known) (input : Container) → Shows ts depth k g input s → Shows ts depth k g input s'
+StaysShown ts g s s' = (depth : ℕ) (k : Known) (input : Container) → Shows ts depth k g input s
+    → Shows ts depth k g input s'
 
 -- so it is of an activity, whatever it runs
 abbrev pub StaysShownItem : ActivityState → ActivityState → Type 0
 StaysShownItem state state' =
-    (ts : List Template) (w : Work) (depth : ℕ) (k : Known) (name : Name) (h : Option Graph) (fate : Fate) (outs : List Container) (starts : List Start)
-    → ShowsWork w fate outs starts (shows_attempt (ShowsWithin ts depth) k name h) state → ShowsWork w fate outs starts (shows_attempt (ShowsWithin ts depth) k name h) state'
+    (ts : List Template) (w : Work) (depth : ℕ) (k : Known) (name : Name) (h : Option Graph) (fate : Fate)
+    (outs : List Container) (starts : List Start)
+    → ShowsWork w fate outs starts (shows_attempt (ShowsWithin ts depth) k name h) state
+    → ShowsWork w fate outs starts (shows_attempt (ShowsWithin ts depth) k name h) state'
 
 -- of a block or process activity of this graph
 abbrev pub StaysShownNested : List Template → Graph → NestedState → NestedState → Type 0
 StaysShownNested ts h n n' =
-    (depth : ℕ) (k : Known) (name : Name) (fate : Fate) (starts : List Start) → ShowsNested fate starts (shows_attempt (ShowsWithin ts depth) k name (Some h)) n
+    (depth : ℕ) (k : Known) (name : Name) (fate : Fate) (starts : List Start)
+    → ShowsNested fate starts (shows_attempt (ShowsWithin ts depth) k name (Some h)) n
     → ShowsNested fate starts (shows_attempt (ShowsWithin ts depth) k name (Some h)) n'
 
 -- and of an activity that runs this graph
 abbrev pub StaysShownWork : List Template → Graph → ActivityState → ActivityState → Type 0
 StaysShownWork ts h state state' =
-    (w : Work) (depth : ℕ) (k : Known) (name : Name) (fate : Fate) (outs : List Container) (starts : List Start) → graph_in ts w ≡ Some h
+    (w : Work) (depth : ℕ) (k : Known) (name : Name) (fate : Fate) (outs : List Container) (starts : List Start)
+    → graph_in ts w ≡ Some h
     → ShowsWork w fate outs starts (shows_attempt (ShowsWithin ts depth) k name (Some h)) state
     → ShowsWork w fate outs starts (shows_attempt (ShowsWithin ts depth) k name (Some h)) state'

@@ -1,5 +1,6 @@
 -- What each step of an event does to the scope that receives it, and which messages and items follow.
-use Rattle.std.specs.Prelude.{◌≡◌, ℕ, zero, suc, ◌+◌, ◌-◌, ◌==◌, Bool, true, false, not, ◌&&◌, if◌then◌else◌, Option, Some, None, List, [], ◌∷◌, ◌++◌, length, slice_get, slice_set}
+use Rattle.std.specs.Prelude.{◌≡◌, ℕ, zero, suc, ◌+◌, ◌-◌, ◌==◌, Bool, true, false, not, ◌&&◌, if◌then◌else◌, Option}
+use Rattle.std.specs.Prelude.{Some, None, List, [], ◌∷◌, ◌++◌, length, slice_get, slice_set}
 use Rattle.activity_states.specs.States.{State, fate_of, made_ready, killed, completed}
 use Rattle.activity_states.specs.declared.states.Completed.{Completed}
 use Rattle.blocks_subprocs.specs.Ends.{ends_of}
@@ -89,7 +90,11 @@ end_after path left = if (left == 0) && not (is_root path.parts) then End path �
 
 -- its signals go out, and the scope's END where it was the last
 abbrev pub tell_settled : Graph → Path → ℕ → SourceEnd → ℕ → Told → Told
-tell_settled g path a e left t = record t { signals = t.signals ++ signals g path a e; ends = t.ends ++ end_after path left }
+tell_settled g path a e left t = record t {
+  signals = t.signals ++ signals g path a e;
+  ends = t.ends
+      ++ end_after path left;
+}
 
 -- ---- the join of an activity is false
 
@@ -126,33 +131,45 @@ next_of (Program p) = 0
 next_of (Nested n) = length (out-NestedState n).scopes.items + 1
 
 -- the next scope of the activity at a place has this graph and input, and its BEGIN goes out
-pub record BeginsNext (h : Graph) (input : Container) (path : Path) (a : ℕ) (activity : Activity) (was : ActivityState) (old new : Fields) (before after : Told) : Type 0 where
+pub record BeginsNext (h : Graph) (input : Container) (path : Path) (a : ℕ) (activity : Activity) (was : ActivityState)
+    (old new : Fields) (before after : Told) : Type 0 where
   pub next : ScopeState
   pub fresh : IsFresh h input next
   pub state : ActivityState
   pub grows : GrowsState next was state
   pub scope : new ≡ with_state a state old
-  pub tells : after ≡ record before { begins = before.begins ++ Begin (below path (part activity.name (next_of was))) ∷ [] }
+  pub tells : after ≡ record before {
+    begins = before.begins
+        ++ Begin (below path (part activity.name (next_of was))) ∷ [];
+  }
 
 -- an activity that runs no graph has no scope
-abbrev pub Begins : Option Graph → Container → Path → ℕ → Activity → ActivityState → Fields → Fields → Told → Told → Type 0
+abbrev pub Begins : Option Graph → Container → Path → ℕ → Activity → ActivityState → Fields → Fields → Told → Told
+    → Type 0
 Begins None input path a activity was old new before after = (new ≡ old) × (after ≡ before)
-Begins (Some h) input path a activity was old new before after = BeginsNext h input path a activity was old new before after
+Begins (Some h) input path a activity was old new before after =
+    BeginsNext h input path a activity was old new before after
 
 -- the first attempt of the activity at a place: an item that is ready, or a scope whose input is the base input
-abbrev pub Opens : List Template → Graph → Path → ℕ → ℕ → Activity → Option ActivityState → Fields → Fields → Told → Told → Type 0
+abbrev pub Opens : List Template → Graph → Path → ℕ → ℕ → Activity → Option ActivityState → Fields → Fields → Told
+    → Told → Type 0
 Opens ts g path clock a activity None old new before after = (new ≡ old) × (after ≡ before)
 Opens ts g path clock a activity (Some (Program p)) old new before after =
-    (new ≡ with_state a (Program (made_ready p clock)) old) × (after ≡ record before { ready = before.ready ++ below path (part activity.name 1) ∷ [] })
+    (new ≡ with_state a (Program (made_ready p clock)) old)
+    × (after ≡ record before { ready = before.ready ++ below path (part activity.name 1) ∷ [] })
 Opens ts g path clock a activity (Some (Nested n)) old new before after =
-    Begins (graph_in ts activity.work) (base_of g activity a old.input (ends_of old.ends)) path a activity (Nested n) old new before after
+    Begins (graph_in ts activity.work) (base_of g activity a old.input (ends_of old.ends)) path a activity
+    (Nested n) old new before after
 
 -- ---- the join of an activity is known, or not yet
 
-abbrev pub Decides : List Template → Graph → Path → ℕ → ℕ → Activity → Option Bool → Fields → Fields → Told → Told → Type 0
+abbrev pub Decides : List Template → Graph → Path → ℕ → ℕ → Activity → Option Bool → Fields → Fields → Told → Told
+    → Type 0
 Decides ts g path clock a activity None old new before after = (new ≡ old) × (after ≡ before)
-Decides ts g path clock a activity (Some true) old new before after = Opens ts g path clock a activity (slice_get old.states a) old new before after
-Decides ts g path clock a activity (Some false) old new before after = (new ≡ dies a old) × (after ≡ tell_settled g path a end.Dead (old.unsettled - 1) before)
+Decides ts g path clock a activity (Some true) old new before after = Opens ts g path clock a activity
+    (slice_get old.states a) old new before after
+Decides ts g path clock a activity (Some false) old new before after = (new ≡ dies a old)
+    × (after ≡ tell_settled g path a end.Dead (old.unsettled - 1) before)
 
 -- ---- a signal is taken
 
@@ -163,7 +180,8 @@ pub record TakesValue (a : ℕ) (vs : List (Option Bool)) (old new : Fields) : T
   pub scope : new ≡ record old { tallies = slice_set old.tallies a tally }
 
 -- the values are these, and the activity is decided where they say so
-pub record TakesSignal (ts : List Template) (g : Graph) (path : Path) (clock a : ℕ) (activity : Activity) (vs : List (Option Bool)) (old new : Fields) (before after : Told) : Type 0 where
+pub record TakesSignal (ts : List Template) (g : Graph) (path : Path) (clock a : ℕ) (activity : Activity)
+    (vs : List (Option Bool)) (old new : Fields) (before after : Told) : Type 0 where
   pub middle : Fields
   pub takes : TakesValue a vs old middle
   pub decides : Decides ts g path clock a activity (joined activity.join vs) middle new before after
@@ -183,23 +201,29 @@ completed_state c last clock (Program p) = Program (completed p c last clock)
 completed_state c last clock (Nested n) = Nested n
 
 -- where the completion is the last one, the activity is settled, else the next item is ready
-abbrev pub CompletesBy : Bool → Graph → Path → ℕ → ℕ → Activity → State → Completed → Fields → Fields → Told → Told → Type 0
+abbrev pub CompletesBy : Bool → Graph → Path → ℕ → ℕ → Activity → State → Completed → Fields → Fields → Told → Told
+    → Type 0
 CompletesBy true g path clock a activity p c old new before after =
     (new ≡ settled a (end.Finished c.output) (with_state a (Program (completed p c true clock)) old))
     × (after ≡ tell_settled g path a (end.Finished c.output) (old.unsettled - 1) before)
 CompletesBy false g path clock a activity p c old new before after =
     (new ≡ with_state a (Program (completed p c false clock)) old)
-    × (after ≡ record before { ready = before.ready ++ ready_item path activity.name (fate_of (completed p c false clock)) })
+    × (after ≡ record before {
+      ready = before.ready
+          ++ ready_item path activity.name (fate_of (completed p c false clock));
+    })
 
 -- by the exit condition
 abbrev pub Completes : Graph → Path → ℕ → ℕ → Activity → State → Completed → Fields → Fields → Told → Told → Type 0
-Completes g path clock a activity p c old new before after = CompletesBy (holds activity.exit c.output) g path clock a activity p c old new before after
+Completes g path clock a activity p c old new before after = CompletesBy
+    (holds activity.exit c.output) g path clock a activity p c old new before after
 
 -- ---- the scope of an attempt has ended
 
 -- the output of a scope, with the return code before it
 abbrev pub given_by : Graph → ScopeState → Container
-given_by h s = with_return_code (fed (out-Graph h).lines Border (out-ScopeState s).input (ends_of (out-ScopeState s).ends.items) (fresh (out-Graph h).output))
+given_by h s = with_return_code (fed (out-Graph h).lines Border (out-ScopeState s).input
+    (ends_of (out-ScopeState s).ends.items) (fresh (out-Graph h).output))
 
 abbrev pub finished_state : ActivityState → ActivityState
 finished_state (Program p) = Program p
@@ -209,31 +233,40 @@ finished_state (Nested n) = Nested (at_stage stages.Finished n)
 abbrev pub finishes : ℕ → Container → Fields → Fields
 finishes a out f = settled a (end.Finished out) (changed_at finished_state a (slice_get f.states a) f)
 
--- where the attempt is the last one, the activity is settled, else the next scope reads the base input with the LOOP maps from this output
-abbrev pub EndsBy : Bool → Graph → Graph → Path → ℕ → Activity → ActivityState → Container → Fields → Fields → Told → Told → Type 0
+-- where the attempt is the last one, the activity is settled, else the next scope reads the base input with the LOOP
+-- maps from this output
+abbrev pub EndsBy : Bool → Graph → Graph → Path → ℕ → Activity → ActivityState → Container → Fields → Fields → Told
+    → Told → Type 0
 EndsBy true g h path a activity was out old new before after =
     (new ≡ finishes a out old) × (after ≡ tell_settled g path a (end.Finished out) (old.unsettled - 1) before)
 EndsBy false g h path a activity was out old new before after =
-    BeginsNext h (looped (out-Graph g).loops a out (base_of g activity a old.input (ends_of old.ends))) path a activity was old new before after
+    BeginsNext h (looped (out-Graph g).loops a out (base_of g activity a old.input (ends_of old.ends))) path a activity
+    was old new before after
 
 -- by the exit condition
-abbrev pub EndsAttempt : Graph → Graph → Path → ℕ → Activity → ActivityState → Container → Fields → Fields → Told → Told → Type 0
-EndsAttempt g h path a activity was out old new before after = EndsBy (holds activity.exit out) g h path a activity was out old new before after
+abbrev pub EndsAttempt : Graph → Graph → Path → ℕ → Activity → ActivityState → Container → Fields → Fields → Told → Told
+    → Type 0
+EndsAttempt g h path a activity was out old new before after = EndsBy
+    (holds activity.exit out) g h path a activity was out old new before after
 
 -- ---- a scope begins
 
 -- an activity is decided after earlier ones
-pub record DecidesNext (ts : List Template) (g : Graph) (path : Path) (clock : ℕ) (values : ℕ → List (Option Bool)) (earlier : Fields → Told → Type 0) (a : ℕ) (new : Fields) (after : Told) : Type 0 where
+pub record DecidesNext (ts : List Template) (g : Graph) (path : Path) (clock : ℕ) (values : ℕ → List (Option Bool))
+    (earlier : Fields → Told → Type 0) (a : ℕ) (new : Fields) (after : Told) : Type 0 where
   pub middle : Fields
   pub so_far : Told
   pub before : earlier middle so_far
-  pub decides : (activity : Activity) → slice_get (out-Graph g).activities a ≡ Some activity → Decides ts g path clock a activity (joined activity.join (values a)) middle new so_far after
+  pub decides : (activity : Activity) → slice_get (out-Graph g).activities a ≡ Some activity
+      → Decides ts g path clock a activity (joined activity.join (values a)) middle new so_far after
 
 -- the first n activities are decided in their order, each by the values of the connectors that lead there
-abbrev pub DecidesFirst : List Template → Graph → Path → ℕ → (ℕ → List (Option Bool)) → ℕ → Fields → Fields → Told → Told → Type 0
+abbrev pub DecidesFirst : List Template → Graph → Path → ℕ → (ℕ → List (Option Bool)) → ℕ → Fields → Fields → Told
+    → Told → Type 0
 DecidesFirst ts g path clock values zero old new before after = (new ≡ old) × (after ≡ before)
 DecidesFirst ts g path clock values (suc n) old new before after =
-    DecidesNext ts g path clock values (λ middle so_far. DecidesFirst ts g path clock values n old middle before so_far) n new after
+    DecidesNext ts g path clock values (λ middle so_far. DecidesFirst ts g path clock values n old middle before so_far)
+    n new after
 
 -- each activity has a tally, which counts these values
 pub record AreTallied (g : Graph) (values : ℕ → List (Option Bool)) (tallies : List Tally) : Type 0 where
@@ -241,6 +274,7 @@ pub record AreTallied (g : Graph) (values : ℕ → List (Option Bool)) (tallies
   pub counts : (a : ℕ) (t : Tally) → slice_get tallies a ≡ Some t → Counts t (values a)
 
 -- all activities are decided; those to which no connector leads have a join that is known
-abbrev pub BeginsAll : List Template → Graph → Path → ℕ → (ℕ → List (Option Bool)) → Fields → Fields → Told → Told → Type 0
+abbrev pub BeginsAll : List Template → Graph → Path → ℕ → (ℕ → List (Option Bool)) → Fields → Fields → Told → Told
+    → Type 0
 BeginsAll ts g path clock values old new before after =
     DecidesFirst ts g path clock values (length (out-Graph g).activities) (record old { begun = true }) new before after

@@ -1,5 +1,6 @@
 //! What an event does to the scope that receives it, and what follows from it.
-ghost use Rattle.std.specs.Prelude.{◌≡◌, ◌∷◌, ◌++◌, ◌-◌, ◌<◌, ◌≤◌, ◌^◌, length, ℕ, List as Seq, Option, Bool, [], Some, None, IfOk, OnOk, slice_get};
+ghost use Rattle.std.specs.Prelude.{◌≡◌, ◌∷◌, ◌++◌, ◌-◌, ◌<◌, ◌≤◌, ◌^◌, length, ℕ, List as Seq, Option, Bool, [], Some};
+ghost use Rattle.std.specs.Prelude.{None, IfOk, OnOk, slice_get};
 ghost use Rattle.activity_states.specs.States.{State, fate_of, made_ready, completed};
 ghost use Rattle.blocks_subprocs.specs.Ends.{ends_of};
 ghost use Rattle.dead_paths.specs.Tallies.{Counts};
@@ -14,7 +15,10 @@ ghost use Rattle.flow_model.specs.declared.graphs.Activity.{Activity as Node};
 ghost use Rattle.flow_model.specs.declared.graphs.Graph.{Graph as Process, out-Graph};
 ghost use Rattle.flow_model.specs.declared.instances.Message.TheVariants.{Begin};
 ghost use Rattle.flow_model.specs.declared.instances.SourceEnd.TheVariants.{Dead, Finished};
-ghost use Rattle.navigator.specs.Steps.{fields, told, with_state, settled, end_after, tell_settled, changed_at, ready_state, completed_state, dead_state, finished_state, dies, finishes, ready_item, given_by, Begins, Opens, Decides, AreTallied, BeginsAll, TakesValue, TakesSignal, Completes, EndsAttempt};
+ghost use Rattle.navigator.specs.Steps.{fields, told, with_state, settled, end_after, tell_settled, changed_at};
+ghost use Rattle.navigator.specs.Steps.{ready_state, completed_state, dead_state, finished_state, dies, finishes};
+ghost use Rattle.navigator.specs.Steps.{ready_item, given_by, Begins, Opens, Decides, AreTallied, BeginsAll};
+ghost use Rattle.navigator.specs.Steps.{TakesValue, TakesSignal, Completes, EndsAttempt};
 ghost use Rattle.navigator.specs.Events.{happening, nothing, IsUsable, Receives, ChangesScope, ChangesState, ChangesAt};
 ghost use Rattle.navigator.specs.Reading.{inner_of};
 ghost use Rattle.navigator.specs.declared.scopes.NestedState.{NestedState as Nest, out-NestedState};
@@ -53,7 +57,10 @@ impl Effects {
 
     /// Adds signals.
     fn add_signals(&mut self, signals: List<Message>) -> Result<(), AllocError>
-        ensures { OnOk result (told self.new ≡ record (told self.old) { signals = (told self.old).signals ++ signals }) }
+        ensures { OnOk result (told self.new ≡ record (told self.old) {
+          signals = (told self.old).signals
+              ++ signals;
+        }) }
     {
         for signal in signals.into_vec() {
             self.signals.push(signal)?;
@@ -63,7 +70,10 @@ impl Effects {
 
     /// Adds the BEGIN of a scope.
     fn add_begin(&mut self, scope: Path) -> Result<(), AllocError>
-        ensures { OnOk result (told self.new ≡ record (told self.old) { begins = (told self.old).begins ++ Begin scope ∷ [] }) }
+        ensures { OnOk result (told self.new ≡ record (told self.old) {
+          begins = (told self.old).begins
+              ++ Begin scope ∷ [];
+        }) }
     {
         self.begins.push(Message::Begin(scope))?;
         Ok(())
@@ -71,7 +81,10 @@ impl Effects {
 
     /// Adds the END of a scope of which so many activities are left, if it is due; the root has none.
     fn add_end(&mut self, alloc: Global, path: &Path, left: usize) -> Result<(), AllocError>
-        ensures { OnOk result (told self.new ≡ record (told self.old) { ends = (told self.old).ends ++ end_after path.now left }) }
+        ensures { OnOk result (told self.new ≡ record (told self.old) {
+          ends = (told self.old).ends
+              ++ end_after path.now left;
+        }) }
     {
         if left == 0 && !path.parts.is_empty() {
             self.ends.push(Message::End(path.copy(alloc)?))?;
@@ -95,7 +108,10 @@ impl Effects {
         activity: &Activity,
         fate: Fate,
     ) -> Result<(), AllocError>
-        ensures { OnOk result (told self.new ≡ record (told self.old) { ready = (told self.old).ready ++ ready_item path.now activity.now.name fate }) }
+        ensures { OnOk result (told self.new ≡ record (told self.old) {
+          ready = (told self.old).ready
+              ++ ready_item path.now activity.now.name fate;
+        }) }
     {
         match fate {
             Fate::Waiting => Ok(()),
@@ -158,8 +174,11 @@ impl ActivityState {
         finished: bool,
         clock: u64,
     ) -> Result<Fate, AllocError>
-        ensures fate { (p : State) → self.old ≡ Program p → IfOk result (λ f. f ≡ fate_of (completed p (record { output = output; performer = performer }) finished clock)) }
-        ensures state { OnOk result (self.new ≡ completed_state (record { output = output; performer = performer }) finished clock self.old) }
+        ensures fate { (p : State) → self.old ≡ Program p
+            → IfOk result (λ f. f ≡ fate_of (completed p (record { output = output; performer = performer }) finished
+            clock)) }
+        ensures state { OnOk result (self.new ≡ completed_state
+            (record { output = output; performer = performer }) finished clock self.old) }
     {
         match self {
             ActivityState::Program(state) => {
@@ -212,7 +231,9 @@ impl ScopeState {
         input: Container,
         effects: &mut Effects,
     ) -> Result<(), AllocError>
-        ensures { (was : Stands) → slice_get (fields self.old).states place ≡ Some was → OnOk result (Begins (graph_in with.entry.library.now.templates activity.now.work) input path.now place activity.now was (fields self.old) (fields self.new) (told effects.old) (told effects.new)) }
+        ensures { (was : Stands) → slice_get (fields self.old).states place ≡ Some was
+            → OnOk result (Begins (graph_in with.entry.library.now.templates activity.now.work) input path.now place
+            activity.now was (fields self.old) (fields self.new) (told effects.old) (told effects.new)) }
     {
         let Some(graph) = graph_of(with.library, &activity.work) else {
             return Ok(());
@@ -229,7 +250,8 @@ impl ScopeState {
 
     /// The first attempt of the activity at a place is ready, if it is a program activity.
     fn set_ready(&mut self, place: usize, clock: u64)
-        ensures { fields self.new ≡ changed_at (ready_state clock) place (slice_get (fields self.old).states place) (fields self.old) }
+        ensures { fields self.new ≡ changed_at (ready_state clock) place (slice_get (fields self.old).states place)
+            (fields self.old) }
     {
         if let Some(state) = self.states.get_mut(place) {
             state.make_ready(clock);
@@ -245,7 +267,13 @@ impl ScopeState {
         activity: &'x Activity,
         effects: &mut Effects,
     ) -> Result<(), AllocError>
-        ensures { (p : State) → slice_get (fields self.old).states place ≡ Some (Program p) → OnOk result ((fields self.new ≡ with_state place (Program (made_ready p with.entry.clock)) (fields self.old)) × (told effects.new ≡ record (told effects.old) { ready = (told effects.old).ready ++ path_to path.now (part activity.now.name 1) ∷ [] })) }
+        ensures { (p : State) → slice_get (fields self.old).states place ≡ Some (Program p)
+            → OnOk result ((fields self.new ≡ with_state place (Program (made_ready p with.entry.clock))
+            (fields self.old)) × (told effects.new ≡ record
+            (told effects.old) {
+              ready = (told effects.old).ready
+                  ++ path_to path.now (part activity.now.name 1) ∷ [];
+            })) }
     {
         self.set_ready(place, with.clock);
         effects.add_ready(path_below(with.alloc, path, activity, 1)?)?;
@@ -262,7 +290,12 @@ impl ScopeState {
         activity: &'x Activity,
         effects: &mut Effects,
     ) -> Result<(), AllocError>
-        ensures { place < 2 ^ 32 → IsFeeding graph.now → slice_get (out-Graph graph.now).activities place ≡ Some activity.now → (was : Stands) → slice_get (fields self.old).states place ≡ Some was → OnOk result (Begins (graph_in with.entry.library.now.templates activity.now.work) (base_of graph.now activity.now place (fields self.old).input (ends_of (fields self.old).ends)) path.now place activity.now was (fields self.old) (fields self.new) (told effects.old) (told effects.new)) }
+        ensures { place < 2 ^ 32 → IsFeeding graph.now
+            → slice_get (out-Graph graph.now).activities place ≡ Some activity.now → (was : Stands)
+            → slice_get (fields self.old).states place ≡ Some was
+            → OnOk result (Begins (graph_in with.entry.library.now.templates activity.now.work)
+            (base_of graph.now activity.now place (fields self.old).input (ends_of (fields self.old).ends)) path.now
+            place activity.now was (fields self.old) (fields self.new) (told effects.old) (told effects.new)) }
     {
         let number = u32::try_from(place).unwrap_or(u32::MAX);
         let input = base_input(with.alloc, graph, number, &self.input, &self.ends)?;
@@ -279,7 +312,11 @@ impl ScopeState {
         activity: &'x Activity,
         effects: &mut Effects,
     ) -> Result<(), AllocError>
-        ensures { place < 2 ^ 32 → IsFeeding graph.now → slice_get (out-Graph graph.now).activities place ≡ Some activity.now → OnOk result (Opens with.entry.library.now.templates graph.now path.now with.entry.clock place activity.now (slice_get (fields self.old).states place) (fields self.old) (fields self.new) (told effects.old) (told effects.new)) }
+        ensures { place < 2 ^ 32 → IsFeeding graph.now
+            → slice_get (out-Graph graph.now).activities place ≡ Some activity.now
+            → OnOk result (Opens with.entry.library.now.templates graph.now path.now with.entry.clock place activity.now
+            (slice_get (fields self.old).states place) (fields self.old) (fields self.new) (told effects.old)
+            (told effects.new)) }
     {
         match self.states.get(place) {
             None => Ok(()),
@@ -312,7 +349,9 @@ impl ScopeState {
         effects: &mut Effects,
     ) -> Result<(), AllocError>
         ensures state { OnOk result (fields self.new ≡ settled place end (fields self.old)) }
-        ensures tells { place < 2 ^ 32 → IsOutgoing graph.now → OnOk result (told effects.new ≡ tell_settled graph.now path.now place end ((fields self.old).unsettled - 1) (told effects.old)) }
+        ensures tells { place < 2 ^ 32 → IsOutgoing graph.now
+            → OnOk result (told effects.new ≡ tell_settled graph.now path.now place end
+            ((fields self.old).unsettled - 1) (told effects.old)) }
     {
         let number = u32::try_from(place).unwrap_or(u32::MAX);
         let signals = signals_of(with.alloc, graph, path, number, &end)?;
@@ -323,7 +362,8 @@ impl ScopeState {
 
     /// The activity at a place is dead.
     fn set_dead(&mut self, place: usize)
-        ensures { fields self.new ≡ changed_at dead_state place (slice_get (fields self.old).states place) (fields self.old) }
+        ensures { fields self.new ≡ changed_at dead_state place (slice_get (fields self.old).states place)
+            (fields self.old) }
     {
         if let Some(state) = self.states.get_mut(place) {
             state.kill();
@@ -340,7 +380,9 @@ impl ScopeState {
         effects: &mut Effects,
     ) -> Result<(), AllocError>
         ensures state { OnOk result (fields self.new ≡ dies place (fields self.old)) }
-        ensures tells { place < 2 ^ 32 → IsOutgoing graph.now → OnOk result (told effects.new ≡ tell_settled graph.now path.now place Dead ((fields self.old).unsettled - 1) (told effects.old)) }
+        ensures tells { place < 2 ^ 32 → IsOutgoing graph.now
+            → OnOk result (told effects.new ≡ tell_settled graph.now path.now place Dead
+            ((fields self.old).unsettled - 1) (told effects.old)) }
     {
         self.set_dead(place);
         self.settle(with, graph, path, place, SourceEnd::Dead, effects)
@@ -355,7 +397,11 @@ impl ScopeState {
         place: usize,
         effects: &mut Effects,
     ) -> Result<(), AllocError>
-        ensures { place < 2 ^ 32 → IsFeeding graph.now → IsOutgoing graph.now → (activity : Node) → slice_get (out-Graph graph.now).activities place ≡ Some activity → (t : Tally) → slice_get (fields self.old).tallies place ≡ Some t → (vs : Seq (Option Bool)) → Counts t vs → OnOk result (Decides with.entry.library.now.templates graph.now path.now with.entry.clock place activity (joined activity.join vs) (fields self.old) (fields self.new) (told effects.old) (told effects.new)) }
+        ensures { place < 2 ^ 32 → IsFeeding graph.now → IsOutgoing graph.now → (activity : Node)
+            → slice_get (out-Graph graph.now).activities place ≡ Some activity → (t : Tally)
+            → slice_get (fields self.old).tallies place ≡ Some t → (vs : Seq (Option Bool)) → Counts t vs
+            → OnOk result (Decides with.entry.library.now.templates graph.now path.now with.entry.clock place activity
+            (joined activity.join vs) (fields self.old) (fields self.new) (told effects.old) (told effects.new)) }
     {
         let Some(activity) = graph.activities.as_slice().get(place) else {
             return Ok(());
@@ -378,7 +424,10 @@ impl ScopeState {
         path: &Path,
         effects: &mut Effects,
     ) -> Result<(), AllocError>
-        ensures { IsFeeding graph.now → IsOutgoing graph.now → length (out-Graph graph.now).activities ≤ 2 ^ 32 → (values : ℕ → Seq (Option Bool)) → AreTallied graph.now values (fields self.old).tallies → OnOk result (BeginsAll with.entry.library.now.templates graph.now path.now with.entry.clock values (fields self.old) (fields self.new) (told effects.old) (told effects.new)) }
+        ensures { IsFeeding graph.now → IsOutgoing graph.now → length (out-Graph graph.now).activities ≤ 2 ^ 32
+            → (values : ℕ → Seq (Option Bool)) → AreTallied graph.now values (fields self.old).tallies
+            → OnOk result (BeginsAll with.entry.library.now.templates graph.now path.now with.entry.clock values
+            (fields self.old) (fields self.new) (told effects.old) (told effects.new)) }
     {
         self.begun = true;
         for place in 0..graph.activities.len() {
@@ -389,7 +438,9 @@ impl ScopeState {
 
     /// One more value of the connectors that lead to the activity at a place is known.
     fn take_value(&mut self, place: usize, value: bool)
-        ensures { (t : Tally) → slice_get (fields self.old).tallies place ≡ Some t → (xs : Seq (Option Bool)) → (ys : Seq (Option Bool)) → Counts t (xs ++ None ∷ ys) → TakesValue place (xs ++ Some value ∷ ys) (fields self.old) (fields self.new) }
+        ensures { (t : Tally) → slice_get (fields self.old).tallies place ≡ Some t → (xs : Seq (Option Bool))
+            → (ys : Seq (Option Bool)) → Counts t (xs ++ None ∷ ys)
+            → TakesValue place (xs ++ Some value ∷ ys) (fields self.old) (fields self.new) }
     {
         if let Some(tally) = self.tallies.get_mut(place) {
             tally.take(value);
@@ -406,7 +457,12 @@ impl ScopeState {
         value: bool,
         effects: &mut Effects,
     ) -> Result<(), AllocError>
-        ensures { place < 2 ^ 32 → IsFeeding graph.now → IsOutgoing graph.now → (activity : Node) → slice_get (out-Graph graph.now).activities place ≡ Some activity → (t : Tally) → slice_get (fields self.old).tallies place ≡ Some t → (xs : Seq (Option Bool)) → (ys : Seq (Option Bool)) → Counts t (xs ++ None ∷ ys) → OnOk result (TakesSignal with.entry.library.now.templates graph.now path.now with.entry.clock place activity (xs ++ Some value ∷ ys) (fields self.old) (fields self.new) (told effects.old) (told effects.new)) }
+        ensures { place < 2 ^ 32 → IsFeeding graph.now → IsOutgoing graph.now → (activity : Node)
+            → slice_get (out-Graph graph.now).activities place ≡ Some activity → (t : Tally)
+            → slice_get (fields self.old).tallies place ≡ Some t → (xs : Seq (Option Bool)) → (ys : Seq (Option Bool))
+            → Counts t (xs ++ None ∷ ys) → OnOk result (TakesSignal with.entry.library.now.templates graph.now path.now
+            with.entry.clock place activity (xs ++ Some value ∷ ys) (fields self.old) (fields self.new)
+            (told effects.old) (told effects.new)) }
     {
         self.take_value(place, value);
         self.decide(with, graph, path, place, effects)?;
@@ -421,7 +477,8 @@ impl ScopeState {
         activity: &'x Activity,
         attempt: u64,
     ) -> Result<Option<Container>, AllocError>
-        ensures { (h : Process) → graph_in with.entry.library.now.templates activity.now.work ≡ Some h → IsSinking h → (s : Scope) → inner_of self.now place attempt ≡ Some s → IfOk result (λ out. out ≡ Some (given_by h s)) }
+        ensures { (h : Process) → graph_in with.entry.library.now.templates activity.now.work ≡ Some h → IsSinking h
+            → (s : Scope) → inner_of self.now place attempt ≡ Some s → IfOk result (λ out. out ≡ Some (given_by h s)) }
     {
         let Some(graph) = graph_of(with.library, &activity.work) else {
             return Ok(None);
@@ -435,7 +492,8 @@ impl ScopeState {
 
     /// The activity at a place is finished, if it is a block or process activity.
     fn set_finished(&mut self, place: usize)
-        ensures { fields self.new ≡ changed_at finished_state place (slice_get (fields self.old).states place) (fields self.old) }
+        ensures { fields self.new ≡ changed_at finished_state place (slice_get (fields self.old).states place)
+            (fields self.old) }
     {
         if let Some(state) = self.states.get_mut(place) {
             state.finish();
@@ -453,7 +511,9 @@ impl ScopeState {
         effects: &mut Effects,
     ) -> Result<(), AllocError>
         ensures state { OnOk result (fields self.new ≡ finishes place output (fields self.old)) }
-        ensures tells { place < 2 ^ 32 → IsOutgoing graph.now → OnOk result (told effects.new ≡ tell_settled graph.now path.now place (Finished output) ((fields self.old).unsettled - 1) (told effects.old)) }
+        ensures tells { place < 2 ^ 32 → IsOutgoing graph.now
+            → OnOk result (told effects.new ≡ tell_settled graph.now path.now place (Finished output)
+            ((fields self.old).unsettled - 1) (told effects.old)) }
     {
         self.set_finished(place);
         self.settle(
@@ -477,7 +537,13 @@ impl ScopeState {
         output: &Container,
         effects: &mut Effects,
     ) -> Result<(), AllocError>
-        ensures { place < 2 ^ 32 → IsFeeding graph.now → IsLooping graph.now → slice_get (out-Graph graph.now).activities place ≡ Some activity.now → (was : Stands) → slice_get (fields self.old).states place ≡ Some was → OnOk result (Begins (graph_in with.entry.library.now.templates activity.now.work) (looped (out-Graph graph.now).loops place output.now (base_of graph.now activity.now place (fields self.old).input (ends_of (fields self.old).ends))) path.now place activity.now was (fields self.old) (fields self.new) (told effects.old) (told effects.new)) }
+        ensures { place < 2 ^ 32 → IsFeeding graph.now → IsLooping graph.now
+            → slice_get (out-Graph graph.now).activities place ≡ Some activity.now → (was : Stands)
+            → slice_get (fields self.old).states place ≡ Some was
+            → OnOk result (Begins (graph_in with.entry.library.now.templates activity.now.work)
+            (looped (out-Graph graph.now).loops place output.now
+            (base_of graph.now activity.now place (fields self.old).input (ends_of (fields self.old).ends))) path.now
+            place activity.now was (fields self.old) (fields self.new) (told effects.old) (told effects.new)) }
     {
         let number = u32::try_from(place).unwrap_or(u32::MAX);
         let base = base_input(with.alloc, graph, number, &self.input, &self.ends)?;
@@ -495,7 +561,13 @@ impl ScopeState {
         attempt: u64,
         effects: &mut Effects,
     ) -> Result<(), AllocError>
-        ensures { place < 2 ^ 32 → IsFeeding graph.now → IsOutgoing graph.now → IsLooping graph.now → (activity : Node) → slice_get (out-Graph graph.now).activities place ≡ Some activity → (h : Process) → graph_in with.entry.library.now.templates activity.work ≡ Some h → IsSinking h → (was : Stands) → slice_get (fields self.old).states place ≡ Some was → (s : Scope) → inner_of self.old place attempt ≡ Some s → OnOk result (EndsAttempt graph.now h path.now place activity was (given_by h s) (fields self.old) (fields self.new) (told effects.old) (told effects.new)) }
+        ensures { place < 2 ^ 32 → IsFeeding graph.now → IsOutgoing graph.now → IsLooping graph.now → (activity : Node)
+            → slice_get (out-Graph graph.now).activities place ≡ Some activity → (h : Process)
+            → graph_in with.entry.library.now.templates activity.work ≡ Some h → IsSinking h → (was : Stands)
+            → slice_get (fields self.old).states place ≡ Some was → (s : Scope)
+            → inner_of self.old place attempt ≡ Some s → OnOk result
+            (EndsAttempt graph.now h path.now place activity was (given_by h s) (fields self.old) (fields self.new)
+            (told effects.old) (told effects.new)) }
     {
         let Some(activity) = graph.activities.as_slice().get(place) else {
             return Ok(());
@@ -520,8 +592,12 @@ impl ScopeState {
         finished: bool,
         clock: u64,
     ) -> Result<Fate, AllocError>
-        ensures fate { (p : State) → slice_get (fields self.old).states place ≡ Some (Program p) → IfOk result (λ f. f ≡ fate_of (completed p (record { output = output; performer = performer }) finished clock)) }
-        ensures state { OnOk result (fields self.new ≡ changed_at (completed_state (record { output = output; performer = performer }) finished clock) place (slice_get (fields self.old).states place) (fields self.old)) }
+        ensures fate { (p : State) → slice_get (fields self.old).states place ≡ Some (Program p)
+            → IfOk result (λ f. f ≡ fate_of (completed p (record { output = output; performer = performer }) finished
+            clock)) }
+        ensures state { OnOk result (fields self.new ≡ changed_at
+            (completed_state (record { output = output; performer = performer }) finished clock) place
+            (slice_get (fields self.old).states place) (fields self.old)) }
     {
         match self.states.get_mut(place) {
             None => Ok(Fate::Waiting),
@@ -540,7 +616,12 @@ impl ScopeState {
         performer: Option<Name>,
         effects: &mut Effects,
     ) -> Result<(), AllocError>
-        ensures { place < 2 ^ 32 → IsOutgoing graph.now → (activity : Node) → slice_get (out-Graph graph.now).activities place ≡ Some activity → (p : State) → slice_get (fields self.old).states place ≡ Some (Program p) → OnOk result (Completes graph.now path.now with.entry.clock place activity p (record { output = output; performer = performer }) (fields self.old) (fields self.new) (told effects.old) (told effects.new)) }
+        ensures { place < 2 ^ 32 → IsOutgoing graph.now → (activity : Node)
+            → slice_get (out-Graph graph.now).activities place ≡ Some activity → (p : State)
+            → slice_get (fields self.old).states place ≡ Some (Program p)
+            → OnOk result (Completes graph.now path.now with.entry.clock place activity p
+            (record { output = output; performer = performer }) (fields self.old) (fields self.new) (told effects.old)
+            (told effects.new)) }
     {
         let Some(activity) = graph.activities.as_slice().get(place) else {
             return Ok(());
@@ -568,7 +649,8 @@ impl ScopeState {
         event: Event<'_>,
         effects: &mut Effects,
     ) -> Result<(), AllocError>
-        ensures { OnOk result (IsUsable graph.now → Receives with.entry.library.now.templates path.now with.entry.clock (happening event.entry) (told effects.old) (told effects.new) graph.now self.old self.new) }
+        ensures { OnOk result (IsUsable graph.now → Receives with.entry.library.now.templates path.now with.entry.clock
+            (happening event.entry) (told effects.old) (told effects.new) graph.now self.old self.new) }
     {
         match event {
             Event::Begin => {
@@ -610,7 +692,10 @@ impl ScopeState {
         event: Event<'_>,
         effects: &mut Effects,
     ) -> Result<(), AllocError>
-        ensures { OnOk result (ChangesAt with.entry.library.now.templates (λ g s t. IsUsable g → Receives with.entry.library.now.templates path.now with.entry.clock (happening event.entry) (told effects.old) (told effects.new) g s t) parts.now graph.now self.old self.new) }
+        ensures { OnOk result (ChangesAt with.entry.library.now.templates
+            (λ g s t. IsUsable g → Receives with.entry.library.now.templates path.now with.entry.clock
+            (happening event.entry) (told effects.old) (told effects.new) g s t) parts.now graph.now self.old
+            self.new) }
     {
         match parts {
             [] => {
@@ -636,7 +721,10 @@ impl ScopeState {
         event: Event<'_>,
         effects: &mut Effects,
     ) -> Result<(), AllocError>
-        ensures { OnOk result (ChangesAt with.entry.library.now.templates (λ g s t. IsUsable g → Receives with.entry.library.now.templates path.now with.entry.clock (happening event.entry) (told effects.old) (told effects.new) g s t) (part.now ∷ rest.now) graph.now self.old self.new) }
+        ensures { OnOk result (ChangesAt with.entry.library.now.templates
+            (λ g s t. IsUsable g → Receives with.entry.library.now.templates path.now with.entry.clock
+            (happening event.entry) (told effects.old) (told effects.new) g s t)
+            (part.now ∷ rest.now) graph.now self.old self.new) }
     {
         let Some(place) = place_of(graph, &part.name) else {
             return Ok(());
@@ -673,7 +761,12 @@ impl ActivityState {
         event: Event<'_>,
         effects: &mut Effects,
     ) -> Result<(), AllocError>
-        ensures { (n : Nest) → self.old ≡ Nested n → (inner : Scope) → slice_get (out-NestedState n).scopes.items attempt ≡ Some inner → OnOk result (ChangesState (ChangesAt with.entry.library.now.templates (λ g s t. IsUsable g → Receives with.entry.library.now.templates path.now with.entry.clock (happening event.entry) (told effects.old) (told effects.new) g s t) rest.now graph.now) attempt inner n self.new) }
+        ensures { (n : Nest) → self.old ≡ Nested n → (inner : Scope)
+            → slice_get (out-NestedState n).scopes.items attempt ≡ Some inner
+            → OnOk result (ChangesState (ChangesAt with.entry.library.now.templates
+            (λ g s t. IsUsable g → Receives with.entry.library.now.templates path.now with.entry.clock
+            (happening event.entry) (told effects.old) (told effects.new) g s t) rest.now graph.now) attempt inner n
+            self.new) }
     {
         match self {
             ActivityState::Program(_) => Ok(()),
@@ -697,7 +790,11 @@ impl NestedState {
         event: Event<'_>,
         effects: &mut Effects,
     ) -> Result<(), AllocError>
-        ensures { (inner : Scope) → slice_get (out-NestedState self.old).scopes.items attempt ≡ Some inner → OnOk result (ChangesScope (ChangesAt with.entry.library.now.templates (λ g s t. IsUsable g → Receives with.entry.library.now.templates path.now with.entry.clock (happening event.entry) (told effects.old) (told effects.new) g s t) rest.now graph.now) attempt inner self.old self.new) }
+        ensures { (inner : Scope) → slice_get (out-NestedState self.old).scopes.items attempt ≡ Some inner
+            → OnOk result (ChangesScope (ChangesAt with.entry.library.now.templates
+            (λ g s t. IsUsable g → Receives with.entry.library.now.templates path.now with.entry.clock
+            (happening event.entry) (told effects.old) (told effects.new) g s t) rest.now graph.now) attempt inner
+            self.old self.new) }
     {
         match self.scopes.get_mut(attempt) {
             None => Ok(()),
@@ -714,7 +811,8 @@ pub fn messages_of(
     alloc: Global,
     effects: Effects,
 ) -> Result<(List<Message>, Vec<Path>), AllocError>
-    ensures { IfOk result (λ given. (given.0 ≡ (told effects).signals ++ (told effects).begins ++ (told effects).ends) × (given.1.items ≡ (told effects).ready)) }
+    ensures { IfOk result (λ given. (given.0 ≡ (told effects).signals ++ (told effects).begins ++ (told effects).ends)
+        × (given.1.items ≡ (told effects).ready)) }
 {
     let Effects {
         signals,

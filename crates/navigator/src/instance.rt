@@ -1,5 +1,6 @@
 //! A root instance.
-ghost use Rattle.std.specs.Prelude.{◌∷◌, ◌++◌, ◌≡◌, true, false, ◌==◌, ◌&&◌, ℕ, List as Seq, [], slice_get, IfOk, OnOk, option_copied, option_map, option_and_then, Some};
+ghost use Rattle.std.specs.Prelude.{◌∷◌, ◌++◌, ◌≡◌, true, false, ◌==◌, ◌&&◌, ℕ, List as Seq, [], slice_get, IfOk, OnOk};
+ghost use Rattle.std.specs.Prelude.{option_copied, option_map, option_and_then, Some};
 ghost use Rattle.activity_states.specs.States.{fate_of, hold_of};
 ghost use Rattle.flow_model.specs.Scopes.{Known, tree_ends};
 ghost use Rattle.flow_model.specs.ScopeContainers.{graph_of as template_graph, is_complete as all_settled};
@@ -12,8 +13,10 @@ ghost use Rattle.navigator.specs.Events.{ChangesAt, ChangesScope, ChangesState, 
 ghost use Rattle.navigator.specs.Holding.{held_by, take_of, held_state, take_from, SetsHold, HoldsChanged};
 ghost use Rattle.navigator.specs.Giving.{GivesTaken, GivesCompleted};
 ghost use Rattle.navigator.specs.Instances.{mode_of, Starts};
-ghost use Rattle.navigator.specs.Items.{stand, entry_of, attempts_in as attempts_of_fate, entry_of_state, entry_here, entry_at, phase_of};
-ghost use Rattle.navigator.specs.Showing.{ShowsTaken, ShowsCompleted, DiffersInHold, StaysShown, StaysShownItem, StaysShownNested, StaysShownWork};
+ghost use Rattle.navigator.specs.Items.{stand, entry_of, attempts_in as attempts_of_fate, entry_of_state, entry_here};
+ghost use Rattle.navigator.specs.Items.{entry_at, phase_of};
+ghost use Rattle.navigator.specs.Showing.{ShowsTaken, ShowsCompleted, DiffersInHold, StaysShown, StaysShownItem};
+ghost use Rattle.navigator.specs.Showing.{StaysShownNested, StaysShownWork};
 ghost use Rattle.navigator.specs.Views.{Shows};
 ghost use Rattle.navigator.specs.declared.scopes.ActivityState.{Nested};
 ghost use Rattle.navigator.specs.declared.scopes.NestedState.{NestedState as Nest, out-NestedState};
@@ -91,7 +94,9 @@ fn item_of<'a>(
     state: &'a ActivityState,
     attempt: u64,
 ) -> Option<Item<'a>>
-    ensures { option_map (λ i. entry_of i.place.graph.now i.place.scope.now i.number i.activity.now i.state.now i.attempt) result ≡ entry_of_state (stand place.entry.graph.now place.entry.scope.now) attempt number activity.now state.now }
+    ensures { option_map (λ i. entry_of i.place.graph.now i.place.scope.now i.number i.activity.now i.state.now
+        i.attempt) result ≡ entry_of_state (stand place.entry.graph.now place.entry.scope.now) attempt number
+        activity.now state.now }
 {
     let ActivityState::Program(state) = state else {
         return None;
@@ -110,7 +115,8 @@ fn item_of<'a>(
 
 /// The item of a part in a scope, which has to have begun.
 fn item_here<'a>(graph: &'a Graph, scope: &'a ScopeState, part: &Part) -> Option<Item<'a>>
-    ensures { option_map (λ i. entry_of i.place.graph.now i.place.scope.now i.number i.activity.now i.state.now i.attempt) result ≡ entry_here part.now (stand graph.now scope.now) }
+    ensures { option_map (λ i. entry_of i.place.graph.now i.place.scope.now i.number i.activity.now i.state.now
+        i.attempt) result ≡ entry_here part.now (stand graph.now scope.now) }
 {
     if !scope.begun {
         return None;
@@ -134,7 +140,8 @@ fn item_at<'a>(
     scope: &'a ScopeState,
     parts: &[Part],
 ) -> Option<Item<'a>>
-    ensures { option_map (λ i. entry_of i.place.graph.now i.place.scope.now i.number i.activity.now i.state.now i.attempt) result ≡ entry_at library.now.templates parts.now (stand graph.now scope.now) }
+    ensures { option_map (λ i. entry_of i.place.graph.now i.place.scope.now i.number i.activity.now i.state.now
+        i.attempt) result ≡ entry_at library.now.templates parts.now (stand graph.now scope.now) }
 {
     match parts {
         [] => None,
@@ -180,8 +187,13 @@ impl Instance {
 
     /// The mode.
     pub fn mode(&self) -> Mode
-        ensures state { result ≡ mode_of self.now.terminated ((out-ScopeState self.now.scope).begun && ((out-ScopeState self.now.scope).unsettled == 0)) self.now.suspended }
-        ensures shows { (ts : Seq Template) → (depth : ℕ) → (k : Known) → (g : Process) → (input : Values) → Shows ts depth k g input self.now.scope → result ≡ mode_of self.now.terminated (k.begun [] && all_settled g (tree_ends ts depth k g input)) self.now.suspended }
+        ensures state { result ≡ mode_of self.now.terminated
+            ((out-ScopeState self.now.scope).begun && ((out-ScopeState self.now.scope).unsettled == 0))
+            self.now.suspended }
+        ensures shows { (ts : Seq Template) → (depth : ℕ) → (k : Known) → (g : Process) → (input : Values)
+            → Shows ts depth k g input self.now.scope → result
+            ≡ mode_of self.now.terminated (k.begun [] && all_settled g (tree_ends ts depth k g input))
+            self.now.suspended }
     {
         if self.terminated {
             Mode::Terminated
@@ -220,7 +232,10 @@ impl Instance {
         event: Event<'_>,
     ) -> Result<(List<Message>, Vec<Path>), AllocError>
         ensures kept { self.new ≡ record self.old { scope = self.new.scope } }
-        ensures happens { IfOk result (λ given. (g : Process) → template_graph with.entry.library.now.templates self.old.template ≡ Some g → Happens with.entry.library.now.templates path.now with.entry.clock (happening event.entry) g self.old.scope self.new.scope given.0 given.1.items) }
+        ensures happens { IfOk result (λ given. (g : Process)
+            → template_graph with.entry.library.now.templates self.old.template ≡ Some g
+            → Happens with.entry.library.now.templates path.now with.entry.clock
+            (happening event.entry) g self.old.scope self.new.scope given.0 given.1.items) }
     {
         let mut effects = Effects::new(with.alloc);
         let Some(graph) = self.graph(with.library) else {
@@ -240,7 +255,10 @@ impl Instance {
         path: &Path,
     ) -> Result<(List<Message>, Vec<Path>), AllocError>
         ensures kept { self.new ≡ record self.old { scope = self.new.scope } }
-        ensures takes { IfOk result (λ given. (g : Process) → template_graph with.entry.library.now.templates self.old.template ≡ Some g → Takes with.entry.library.now.templates with.entry.clock (End path.now) g self.old.scope self.new.scope given.0 given.1.items) }
+        ensures takes { IfOk result (λ given. (g : Process)
+            → template_graph with.entry.library.now.templates self.old.template ≡ Some g
+            → Takes with.entry.library.now.templates with.entry.clock
+            (End path.now) g self.old.scope self.new.scope given.0 given.1.items) }
     {
         match path.parts.as_slice() {
             [] => Ok((List::new(with.alloc), Vec::new(with.alloc))),
@@ -260,10 +278,17 @@ impl Instance {
         message: &Message,
     ) -> Result<(List<Message>, Vec<Path>), AllocError>
         ensures kept { self.new ≡ record self.old { scope = self.new.scope } }
-        ensures idle { self.old.terminated ≡ true → (self.new ≡ self.old) × IfOk result (λ given. (given.0 ≡ []) × (given.1.items ≡ [])) }
-        ensures takes { self.old.terminated ≡ false → IfOk result (λ given. (g : Process) → template_graph library.now.templates self.old.template ≡ Some g → Takes library.now.templates clock message.now g self.old.scope self.new.scope given.0 given.1.items) }
-        ensures shows { self.old.terminated ≡ false → OnOk result ((g : Process) → template_graph library.now.templates self.old.template ≡ Some g → ShowsTaken library.now.templates g message.now self.old.scope self.new.scope) }
-        ensures gives { self.old.terminated ≡ false → IfOk result (λ given. (g : Process) → template_graph library.now.templates self.old.template ≡ Some g → GivesTaken library.now.templates g message.now self.old.scope given.0) }
+        ensures idle { self.old.terminated ≡ true → (self.new ≡ self.old)
+            × IfOk result (λ given. (given.0 ≡ []) × (given.1.items ≡ [])) }
+        ensures takes { self.old.terminated ≡ false → IfOk result
+            (λ given. (g : Process) → template_graph library.now.templates self.old.template ≡ Some g
+            → Takes library.now.templates clock message.now g self.old.scope self.new.scope given.0 given.1.items) }
+        ensures shows { self.old.terminated ≡ false → OnOk result
+            ((g : Process) → template_graph library.now.templates self.old.template ≡ Some g
+            → ShowsTaken library.now.templates g message.now self.old.scope self.new.scope) }
+        ensures gives { self.old.terminated ≡ false → IfOk result
+            (λ given. (g : Process) → template_graph library.now.templates self.old.template ≡ Some g
+            → GivesTaken library.now.templates g message.now self.old.scope given.0) }
     {
         if self.terminated {
             return Ok((List::new(alloc), Vec::new(alloc)));
@@ -291,7 +316,12 @@ impl Instance {
         performer: Option<Name>,
     ) -> Result<(List<Message>, Vec<Path>), AllocError>
         ensures kept { self.new ≡ record self.old { scope = self.new.scope } }
-        ensures completes { IfOk result (λ given. (g : Process) → template_graph with.entry.library.now.templates self.old.template ≡ Some g → (parts : Seq Step) → (q : Step) → item.now.parts ≡ parts ++ q ∷ [] → Happens with.entry.library.now.templates (record { root = item.now.root; parts = parts }) with.entry.clock (Completes q.name (record { output = output; performer = performer })) g self.old.scope self.new.scope given.0 given.1.items) }
+        ensures completes { IfOk result (λ given. (g : Process)
+            → template_graph with.entry.library.now.templates self.old.template ≡ Some g → (parts : Seq Step)
+            → (q : Step) → item.now.parts ≡ parts ++ q ∷ []
+            → Happens with.entry.library.now.templates (record { root = item.now.root; parts = parts }) with.entry.clock
+            (Completes q.name (record { output = output; performer = performer })) g self.old.scope self.new.scope
+            given.0 given.1.items) }
     {
         match item.parts.as_slice() {
             [] => Ok((List::new(with.alloc), Vec::new(with.alloc))),
@@ -314,9 +344,17 @@ impl Instance {
         performer: Option<Name>,
     ) -> Result<(List<Message>, Vec<Path>), AllocError>
         ensures kept { self.new ≡ record self.old { scope = self.new.scope } }
-        ensures completes { IfOk result (λ given. (g : Process) → template_graph library.now.templates self.old.template ≡ Some g → (parts : Seq Step) → (q : Step) → item.now.parts ≡ parts ++ q ∷ [] → Happens library.now.templates (record { root = item.now.root; parts = parts }) clock (Completes q.name (record { output = output; performer = performer })) g self.old.scope self.new.scope given.0 given.1.items) }
-        ensures shows { OnOk result ((g : Process) → template_graph library.now.templates self.old.template ≡ Some g → ShowsCompleted library.now.templates g item.now.parts output self.old.scope self.new.scope) }
-        ensures gives { IfOk result (λ given. (g : Process) → template_graph library.now.templates self.old.template ≡ Some g → GivesCompleted library.now.templates g item.now output self.old.scope given.0) }
+        ensures completes { IfOk result (λ given. (g : Process)
+            → template_graph library.now.templates self.old.template ≡ Some g → (parts : Seq Step) → (q : Step)
+            → item.now.parts ≡ parts ++ q ∷ [] → Happens library.now.templates
+            (record { root = item.now.root; parts = parts }) clock
+            (Completes q.name (record { output = output; performer = performer })) g self.old.scope self.new.scope
+            given.0 given.1.items) }
+        ensures shows { OnOk result ((g : Process) → template_graph library.now.templates self.old.template ≡ Some g
+            → ShowsCompleted library.now.templates g item.now.parts output self.old.scope self.new.scope) }
+        ensures gives { IfOk result (λ given. (g : Process)
+            → template_graph library.now.templates self.old.template ≡ Some g
+            → GivesCompleted library.now.templates g item.now output self.old.scope given.0) }
     {
         let with = Context {
             alloc,
@@ -328,7 +366,9 @@ impl Instance {
 
     /// The item of a path; None exactly where there is no such item.
     pub fn item<'a>(&'a self, library: &'a Library, item: &Path) -> Option<Item<'a>>
-        ensures { option_map (λ i. entry_of i.place.graph.now i.place.scope.now i.number i.activity.now i.state.now i.attempt) result ≡ option_and_then (λ g. entry_at library.now.templates item.now.parts (stand g self.now.scope)) (template_graph library.now.templates self.now.template) }
+        ensures { option_map (λ i. entry_of i.place.graph.now i.place.scope.now i.number i.activity.now i.state.now
+            i.attempt) result ≡ option_and_then (λ g. entry_at library.now.templates item.now.parts
+            (stand g self.now.scope)) (template_graph library.now.templates self.now.template) }
     {
         item_at(
             library,
@@ -341,8 +381,10 @@ impl Instance {
     /// Changes who holds the open attempt of an item's activity; answers the take number of an agent.
     pub fn change_hold(&mut self, library: &Library, item: &Path, change: HoldChange) -> u64
         ensures kept { self.new ≡ record self.old { scope = self.new.scope } }
-        ensures shows { (g : Process) → template_graph library.now.templates self.old.template ≡ Some g → StaysShown library.now.templates g self.old.scope self.new.scope }
-        ensures sets { (g : Process) → template_graph library.now.templates self.old.template ≡ Some g → HoldsChanged library.now.templates item.now.parts change g self.old.scope self.new.scope result }
+        ensures shows { (g : Process) → template_graph library.now.templates self.old.template ≡ Some g
+            → StaysShown library.now.templates g self.old.scope self.new.scope }
+        ensures sets { (g : Process) → template_graph library.now.templates self.old.template ≡ Some g
+            → HoldsChanged library.now.templates item.now.parts change g self.old.scope self.new.scope result }
     {
         let [parts @ .., last] = item.parts.as_slice() else {
             return 0;
@@ -382,7 +424,8 @@ impl ScopeState {
         change: HoldChange,
     ) -> u64
         ensures shows { StaysShown library.now.templates graph.now self.old self.new }
-        ensures sets { ChangesAt library.now.templates (SetsHold name.now change result) parts.now graph.now self.old self.new }
+        ensures sets { ChangesAt library.now.templates
+            (SetsHold name.now change result) parts.now graph.now self.old self.new }
     {
         match parts {
             [] => change_hold_here(graph, self, name, change),
@@ -401,7 +444,8 @@ impl ScopeState {
         change: HoldChange,
     ) -> u64
         ensures shows { StaysShown library.now.templates graph.now self.old self.new }
-        ensures sets { ChangesAt library.now.templates (SetsHold name.now change result) (part.now ∷ rest.now) graph.now self.old self.new }
+        ensures sets { ChangesAt library.now.templates (SetsHold name.now change result)
+            (part.now ∷ rest.now) graph.now self.old self.new }
     {
         let Some(place) = place_of(graph, &part.name) else {
             return 0;
@@ -434,7 +478,10 @@ impl ActivityState {
         change: HoldChange,
     ) -> u64
         ensures shows { StaysShownWork library.now.templates graph.now self.old self.new }
-        ensures sets { (n : Nest) → self.old ≡ Nested n → (inner : Scope) → slice_get (out-NestedState n).scopes.items attempt ≡ Some inner → ChangesState (ChangesAt library.now.templates (SetsHold name.now change result) rest.now graph.now) attempt inner n self.new }
+        ensures sets { (n : Nest) → self.old ≡ Nested n → (inner : Scope)
+            → slice_get (out-NestedState n).scopes.items attempt ≡ Some inner
+            → ChangesState (ChangesAt library.now.templates (SetsHold name.now change result) rest.now graph.now)
+            attempt inner n self.new }
     {
         match self {
             ActivityState::Program(_) => 0,
@@ -457,7 +504,9 @@ impl NestedState {
         change: HoldChange,
     ) -> u64
         ensures shows { StaysShownNested library.now.templates graph.now self.old self.new }
-        ensures sets { (inner : Scope) → slice_get (out-NestedState self.old).scopes.items attempt ≡ Some inner → ChangesScope (ChangesAt library.now.templates (SetsHold name.now change result) rest.now graph.now) attempt inner self.old self.new }
+        ensures sets { (inner : Scope) → slice_get (out-NestedState self.old).scopes.items attempt ≡ Some inner
+            → ChangesScope (ChangesAt library.now.templates (SetsHold name.now change result) rest.now graph.now)
+            attempt inner self.old self.new }
     {
         match self.scopes.get_mut(attempt) {
             None => 0,

@@ -1,5 +1,6 @@
 //! A scope of an instance.
-ghost use Rattle.std.specs.Prelude.{◌≡◌, ◌+◌, ◌==◌, ◌&&◌, ◌<◌, ◌^◌, ℕ, List as Seq, [], length, IfOk, OnOk, option_copied, option_map};
+ghost use Rattle.std.specs.Prelude.{◌≡◌, ◌+◌, ◌==◌, ◌&&◌, ◌<◌, ◌^◌, ℕ, List as Seq, [], length, IfOk, OnOk};
+ghost use Rattle.std.specs.Prelude.{option_copied, option_map};
 ghost use Rattle.flow_model.specs.Scopes.{Known, tree_ends, tree_fate};
 ghost use Rattle.flow_model.specs.ScopeContainers.{graph_in, is_complete as all_settled};
 ghost use Rattle.flow_model.specs.Wiring.{IsIncoming};
@@ -8,7 +9,8 @@ ghost use Rattle.flow_model.specs.declared.graphs.Container.{Container as Values
 ghost use Rattle.flow_model.specs.declared.graphs.Template.{Template};
 ghost use Rattle.navigator.specs.Fresh.{incoming_count as connectors_to, IsFreshWork, IsFreshNested, IsFresh};
 ghost use Rattle.navigator.specs.Items.{stand, both, into};
-ghost use Rattle.navigator.specs.Reading.{place_of as place_in, attempt_place as place_before, nested_fate, state_fate, fate_in, hold_in, with_hold, inner_of};
+ghost use Rattle.navigator.specs.Reading.{place_of as place_in, attempt_place as place_before, nested_fate, state_fate};
+ghost use Rattle.navigator.specs.Reading.{fate_in, hold_in, with_hold, inner_of};
 ghost use Rattle.navigator.specs.Steps.{Grows, GrowsState, next_of};
 ghost use Rattle.navigator.specs.Views.{Shows};
 ghost use Rattle.view_laws.specs.Coming.{IsUntouched};
@@ -160,7 +162,9 @@ impl ScopeState {
     /// A scope of a graph that hasn't begun.
     pub fn new(alloc: Global, graph: &Graph, input: Container) -> Result<ScopeState, AllocError>
         ensures fresh { IfOk result (λ s. IsFresh graph.now input s) }
-        ensures shows { IfOk result (λ s. (ts : Seq Template) → (depth : ℕ) → (k : Known) → IsUntouched k → IsIncoming graph.now → length (out-Graph graph.now).controls < 2 ^ 32 → Shows ts depth k graph.now input s) }
+        ensures shows { IfOk result (λ s. (ts : Seq Template) → (depth : ℕ) → (k : Known) → IsUntouched k
+            → IsIncoming graph.now → length (out-Graph graph.now).controls < 2 ^ 32
+            → Shows ts depth k graph.now input s) }
     {
         let mut tallies = Vec::new(alloc);
         let mut ends = Vec::new(alloc);
@@ -183,7 +187,9 @@ impl ScopeState {
     /// Whether all activities are settled.
     pub fn is_complete(&self) -> bool
         ensures state { result ≡ ((out-ScopeState self.now).begun && ((out-ScopeState self.now).unsettled == 0)) }
-        ensures shows { (ts : Seq Template) → (depth : ℕ) → (k : Known) → (g : Process) → (input : Values) → Shows ts depth k g input self.now → result ≡ (k.begun [] && all_settled g (tree_ends ts depth k g input)) }
+        ensures shows { (ts : Seq Template) → (depth : ℕ) → (k : Known) → (g : Process) → (input : Values)
+            → Shows ts depth k g input self.now → result ≡ (k.begun []
+            && all_settled g (tree_ends ts depth k g input)) }
     {
         self.begun && self.unsettled == 0
     }
@@ -191,7 +197,9 @@ impl ScopeState {
     /// The fate of the activity at a place; all is waiting in a scope that hasn't begun.
     pub fn fate(&self, place: usize) -> Fate
         ensures state { result ≡ fate_in self.now place }
-        ensures shows { (ts : Seq Template) → (depth : ℕ) → (k : Known) → (g : Process) → (input : Values) → Shows ts depth k g input self.now → result ≡ with_hold (hold_in self.now place) (tree_fate ts depth k g input place) }
+        ensures shows { (ts : Seq Template) → (depth : ℕ) → (k : Known) → (g : Process) → (input : Values)
+            → Shows ts depth k g input self.now → result ≡ with_hold (hold_in self.now place)
+            (tree_fate ts depth k g input place) }
     {
         match self.states.get(place) {
             None => Fate::Waiting,
@@ -225,7 +233,8 @@ fn step_in<'a>(
     activity: &'a Activity,
     attempt: u64,
 ) -> Option<Place<'a>>
-    ensures { option_map (λ p. stand p.graph.now p.scope.now) result ≡ both (graph_in library.now.templates activity.now.work) (inner_of scope.now place attempt) }
+    ensures { option_map (λ p. stand p.graph.now p.scope.now) result
+        ≡ both (graph_in library.now.templates activity.now.work) (inner_of scope.now place attempt) }
 {
     let graph = graph_of(library, &activity.work)?;
     let scope = scope.inner(place, attempt)?;
@@ -239,7 +248,8 @@ pub fn step_into<'a>(
     scope: &'a ScopeState,
     part: &Part,
 ) -> Option<Place<'a>>
-    ensures { option_map (λ p. stand p.graph.now p.scope.now) result ≡ into library.now.templates (stand graph.now scope.now) part.now }
+    ensures { option_map (λ p. stand p.graph.now p.scope.now) result
+        ≡ into library.now.templates (stand graph.now scope.now) part.now }
 {
     let place = place_of(graph, &part.name)?;
     let activity = graph.activities.as_slice().get(place)?;

@@ -1,9 +1,11 @@
 //! What an instance shows: its rows, and the containers of items and of the root.
-ghost use Rattle.std.specs.Prelude.{◌≡◌, ◌∷◌, ◌++◌, ◌+◌, ◌<◌, ◌^◌, ℕ, [], Some, List as Seq, true, IfOk, OnOk, option_copied};
+ghost use Rattle.std.specs.Prelude.{◌≡◌, ◌∷◌, ◌++◌, ◌+◌, ◌<◌, ◌^◌, ℕ, [], Some, List as Seq, true, IfOk, OnOk};
+ghost use Rattle.std.specs.Prelude.{option_copied};
 ghost use Rattle.activity_states.specs.States.{fate_of};
 ghost use Rattle.blocks_subprocs.specs.Ends.{ends_of};
 ghost use Rattle.flow_model.specs.Containers.{fresh as fresh_container};
-ghost use Rattle.flow_model.specs.ScopeContainers.{fed, graph_in, graph_of as template_graph, is_complete as all_settled};
+ghost use Rattle.flow_model.specs.ScopeContainers.{fed, graph_in, graph_of as template_graph};
+ghost use Rattle.flow_model.specs.ScopeContainers.{is_complete as all_settled};
 ghost use Rattle.flow_model.specs.Scopes.{Known, Start, at, part, tree_ends, output as output_of_scope};
 ghost use Rattle.flow_model.specs.Wiring.{IsFeeding, IsLooping, IsSinking};
 ghost use Rattle.flow_model.specs.declared.graphs.Container.{Container as Values};
@@ -38,7 +40,10 @@ fn add_attempt<'x>(
     attempt: u64,
     rows: &mut List<FateRow>,
 ) -> Result<(), AllocError>
-    ensures { (n : ℕ) → (k : Known) → (input : Values) → ShowsWithin library.now.templates n (at (part activity.now.name attempt) k) graph.now input scope.now → OnOk result (rows.new ≡ rows.old ++ attempt_rows (rows_within library.now.templates n) k activity.now (Some graph.now) (Some scope.now) path.now (record { attempt = attempt; input = input })) }
+    ensures { (n : ℕ) → (k : Known) → (input : Values)
+        → ShowsWithin library.now.templates n (at (part activity.now.name attempt) k) graph.now input scope.now
+        → OnOk result (rows.new ≡ rows.old ++ attempt_rows (rows_within library.now.templates n) k activity.now
+        (Some graph.now) (Some scope.now) path.now (record { attempt = attempt; input = input })) }
 {
     if !scope.begun {
         return Ok(());
@@ -58,7 +63,11 @@ fn add_inner<'x>(
     activity: &'x Activity,
     rows: &mut List<FateRow>,
 ) -> Result<(), AllocError>
-    ensures { (n : ℕ) → (k : Known) → (fate : Stands) → (starts : Seq Start) → AreNumbered starts → ShowsNested fate starts (shows_attempt (ShowsWithin library.now.templates n) k activity.now.name (graph_in library.now.templates activity.now.work)) state.now → OnOk result (rows.new ≡ rows.old ++ inner_rows library.now.templates (rows_within library.now.templates n) k activity.now (Nested state.now) path.now starts) }
+    ensures { (n : ℕ) → (k : Known) → (fate : Stands) → (starts : Seq Start) → AreNumbered starts
+        → ShowsNested fate starts (shows_attempt (ShowsWithin library.now.templates n) k activity.now.name
+        (graph_in library.now.templates activity.now.work)) state.now
+        → OnOk result (rows.new ≡ rows.old ++ inner_rows library.now.templates
+        (rows_within library.now.templates n) k activity.now (Nested state.now) path.now starts) }
 {
     let Some(graph) = graph_of(library, &activity.work) else {
         return Ok(());
@@ -80,7 +89,17 @@ fn add_activity<'x>(
     activity: &'x Activity,
     rows: &mut List<FateRow>,
 ) -> Result<(), AllocError>
-    ensures { (n : ℕ) → (k : Known) → (fate : Stands) → (outs : Seq Values) → (starts : Seq Start) → AreNumbered starts → ShowsWork activity.now.work fate outs starts (shows_attempt (ShowsWithin library.now.templates n) k activity.now.name (graph_in library.now.templates activity.now.work)) state.now → OnOk result (rows.new ≡ rows.old ++ record { scope = path.now; name = activity.now.name; fate = state_fate state.now } ∷ inner_rows library.now.templates (rows_within library.now.templates n) k activity.now state.now path.now starts) }
+    ensures { (n : ℕ) → (k : Known) → (fate : Stands) → (outs : Seq Values) → (starts : Seq Start) → AreNumbered starts
+        → ShowsWork activity.now.work fate outs starts
+        (shows_attempt (ShowsWithin library.now.templates n) k activity.now.name
+        (graph_in library.now.templates activity.now.work)) state.now
+        → OnOk result (rows.new ≡ rows.old ++ record {
+          scope = path.now;
+          name = activity.now.name;
+          fate =
+              state_fate state.now;
+        } ∷ inner_rows library.now.templates
+        (rows_within library.now.templates n) k activity.now state.now path.now starts) }
 {
     rows.push(FateRow {
         scope: path.copy(alloc)?,
@@ -106,7 +125,9 @@ fn add_rows<'x>(
     path: &Path,
     rows: &mut List<FateRow>,
 ) -> Result<(), AllocError>
-    ensures { (n : ℕ) → (k : Known) → (input : Values) → ShowsWithin library.now.templates n k graph.now input scope.now → OnOk result (rows.new ≡ rows.old ++ rows_within library.now.templates n k graph.now input scope.now path.now) }
+    ensures { (n : ℕ) → (k : Known) → (input : Values) → ShowsWithin library.now.templates n k graph.now input scope.now
+        → OnOk result (rows.new ≡ rows.old ++ rows_within library.now.templates n k graph.now input scope.now
+        path.now) }
 {
     for (place, activity) in graph.activities.as_slice().iter().enumerate() {
         let Some(state) = scope.states.get(place) else {
@@ -119,7 +140,9 @@ fn add_rows<'x>(
 
 /// The output of a scope, once it is complete.
 fn scope_output(alloc: Global, graph: &Graph, scope: &ScopeState) -> Result<Container, AllocError>
-    ensures { IsSinking graph.now → IfOk result (λ out. out ≡ fed (out-Graph graph.now).lines Border (out-ScopeState scope.now).input (ends_of (out-ScopeState scope.now).ends.items) (fresh_container (out-Graph graph.now).output)) }
+    ensures { IsSinking graph.now → IfOk result (λ out. out
+        ≡ fed (out-Graph graph.now).lines Border (out-ScopeState scope.now).input
+        (ends_of (out-ScopeState scope.now).ends.items) (fresh_container (out-Graph graph.now).output)) }
 {
     output_of(alloc, graph, &scope.input, &scope.ends)
 }
@@ -127,7 +150,10 @@ fn scope_output(alloc: Global, graph: &Graph, scope: &ScopeState) -> Result<Cont
 impl Instance {
     /// The view in show order.
     pub fn rows(&self, alloc: Global, library: &Library) -> Result<List<FateRow>, AllocError>
-        ensures { IfOk result (λ rows. (g : Process) → template_graph library.now.templates self.now.template ≡ Some g → (depth : ℕ) → (k : Known) → (input : Values) → Shows library.now.templates depth k g input self.now.scope → rows ≡ view_rows library.now.templates depth k g input self.now.scope (record { root = self.now.root; parts = [] })) }
+        ensures { IfOk result (λ rows. (g : Process) → template_graph library.now.templates self.now.template ≡ Some g
+            → (depth : ℕ) → (k : Known) → (input : Values) → Shows library.now.templates depth k g input self.now.scope
+            → rows ≡ view_rows library.now.templates depth k g input self.now.scope
+            (record { root = self.now.root; parts = [] })) }
     {
         let mut rows = List::new(alloc);
         let path = Path {
@@ -143,7 +169,11 @@ impl Instance {
 
     /// The output of the root, where its mode is DONE.
     pub fn output(&self, alloc: Global, library: &Library) -> Result<Container, AllocError>
-        ensures { IfOk result (λ out. (g : Process) → template_graph library.now.templates self.now.template ≡ Some g → IsSinking g → (depth : ℕ) → (k : Known) → (input : Values) → Shows library.now.templates depth k g input self.now.scope → all_settled g (tree_ends library.now.templates depth k g input) ≡ true → output_of_scope library.now.templates (depth + 1) k g input ≡ Some out) }
+        ensures { IfOk result (λ out. (g : Process) → template_graph library.now.templates self.now.template ≡ Some g
+            → IsSinking g → (depth : ℕ) → (k : Known) → (input : Values)
+            → Shows library.now.templates depth k g input self.now.scope
+            → all_settled g (tree_ends library.now.templates depth k g input) ≡ true
+            → output_of_scope library.now.templates (depth + 1) k g input ≡ Some out) }
     {
         match self.graph(library) {
             None => Ok(Container {
@@ -167,7 +197,9 @@ fn last_performer(state: &ActivityState) -> Option<&Name>
 impl<'a> Item<'a> {
     /// The base input, with the LOOP maps from the output of the attempt before.
     fn looped_input(&self, alloc: Global) -> Result<Container, AllocError>
-        ensures { self.now.number < 2 ^ 32 → IsFeeding self.now.place.graph.now → IsLooping self.now.place.graph.now → IfOk result (λ c. c ≡ item_input self.now.place.graph.now self.now.place.scope.now self.now.number self.now.state.now self.now.attempt) }
+        ensures { self.now.number < 2 ^ 32 → IsFeeding self.now.place.graph.now → IsLooping self.now.place.graph.now
+            → IfOk result (λ c. c ≡ item_input self.now.place.graph.now self.now.place.scope.now self.now.number
+            self.now.state.now self.now.attempt) }
     {
         let (graph, scope) = (self.place.graph, self.place.scope);
         let number = u32::try_from(self.number).unwrap_or(u32::MAX);
@@ -180,8 +212,14 @@ impl<'a> Item<'a> {
 
     /// The input of the item: the base input, with the LOOP maps from the output of the attempt before it.
     pub fn input(&self, alloc: Global) -> Result<Container, AllocError>
-        ensures state { self.now.number < 2 ^ 32 → IsFeeding self.now.place.graph.now → IsLooping self.now.place.graph.now → IfOk result (λ c. c ≡ item_input self.now.place.graph.now self.now.place.scope.now self.now.number self.now.state.now self.now.attempt) }
-        ensures shows { self.now.number < 2 ^ 32 → IsFeeding self.now.place.graph.now → IsLooping self.now.place.graph.now → IfOk result (λ c. ReadsAttempt self.now.place.graph.now self.now.place.scope.now self.now.number self.now.state.now self.now.attempt c) }
+        ensures state { self.now.number < 2 ^ 32 → IsFeeding self.now.place.graph.now
+            → IsLooping self.now.place.graph.now → IfOk result
+            (λ c. c ≡ item_input self.now.place.graph.now self.now.place.scope.now self.now.number self.now.state.now
+            self.now.attempt) }
+        ensures shows { self.now.number < 2 ^ 32 → IsFeeding self.now.place.graph.now
+            → IsLooping self.now.place.graph.now → IfOk result
+            (λ c. ReadsAttempt self.now.place.graph.now self.now.place.scope.now self.now.number self.now.state.now
+            self.now.attempt c) }
     {
         self.looped_input(alloc)
     }

@@ -80,7 +80,8 @@ fn value_at(container: &Container, place: usize) -> Option<&Value>
 
 /// Appends the line of a leaf.
 fn write_line(out: &mut Vec<u8>, steps: LeafSteps<'_>, value: &Value) -> Result<(), AllocError>
-    ensures { (leaf : Leaf) → steps.entry ≡ leaf.name.steps → OnOk result (out.new.items ≡ out.old.items ++ line_text (leaf, value.now)) }
+    ensures { (leaf : Leaf) → steps.entry ≡ leaf.name.steps
+        → OnOk result (out.new.items ≡ out.old.items ++ line_text (leaf, value.now)) }
 {
     write_leaf(out, steps)?;
     out.extend_from_slice(b" = ")?;

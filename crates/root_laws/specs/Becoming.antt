@@ -12,15 +12,19 @@ use Rattle.navigator.specs.Showing.{ShowsTaken, ShowsCompleted, StaysShown}
 use Rattle.navigator.specs.declared.instance.HoldChange.{HoldChange}
 use Rattle.navigator.specs.declared.instance.Instance.{Instance}
 
--- it takes a message: a root that is terminated stays as it is and gives nothing, each other one goes on showing its view, and gives what came to be due
+-- it takes a message: a root that is terminated stays as it is and gives nothing, each other one goes on showing its
+-- view, and gives what came to be due
 pub record TakesIn (ts : List Template) (message : Message) (given : List Message) (i i' : Instance) : Type 0 where
   pub kept : i' ≡ record i { scope = i'.scope }
   pub idle : i.terminated ≡ true → (i' ≡ i) × (given ≡ [])
-  pub shows : i.terminated ≡ false → (g : Graph) → graph_of ts i.template ≡ Some g → ShowsTaken ts g message i.scope i'.scope
-  pub gives : i.terminated ≡ false → (g : Graph) → graph_of ts i.template ≡ Some g → GivesTaken ts g message i.scope given
+  pub shows : i.terminated ≡ false → (g : Graph) → graph_of ts i.template ≡ Some g
+      → ShowsTaken ts g message i.scope i'.scope
+  pub gives : i.terminated ≡ false → (g : Graph) → graph_of ts i.template ≡ Some g
+      → GivesTaken ts g message i.scope given
 
 -- an item of it is completed with this output
-pub record CompletesIn (ts : List Template) (item : Path) (out : Container) (given : List Message) (i i' : Instance) : Type 0 where
+pub record CompletesIn (ts : List Template) (item : Path) (out : Container) (given : List Message)
+    (i i' : Instance) : Type 0 where
   pub kept : i' ≡ record i { scope = i'.scope }
   pub shows : (g : Graph) → graph_of ts i.template ≡ Some g → ShowsCompleted ts g item.parts out i.scope i'.scope
   pub gives : (g : Graph) → graph_of ts i.template ≡ Some g → GivesCompleted ts g item out i.scope given
@@ -29,4 +33,5 @@ pub record CompletesIn (ts : List Template) (item : Path) (out : Container) (giv
 pub record HoldsIn (ts : List Template) (item : Path) (change : HoldChange) (i i' : Instance) : Type 0 where
   pub kept : i' ≡ record i { scope = i'.scope }
   pub shows : (g : Graph) → graph_of ts i.template ≡ Some g → StaysShown ts g i.scope i'.scope
-  pub sets : (g : Graph) → graph_of ts i.template ≡ Some g → (take : ℕ) × HoldsChanged ts item.parts change g i.scope i'.scope take
+  pub sets : (g : Graph) → graph_of ts i.template ≡ Some g
+      → (take : ℕ) × HoldsChanged ts item.parts change g i.scope i'.scope take

@@ -35,7 +35,8 @@ after_taken n queued k = if k == n then drop 1 (queued k) else queued k
 
 -- each of these messages is put where the rule for the places of activities puts it
 abbrev pub AgreesOn : List Template → Graph → (Message → ℕ) → (Note → ℕ) → List Message → Type 0
-AgreesOn ts g queue_of q given = (k : ℕ) (m : Message) (note : Note) → slice_get given k ≡ Some m → note_in ts g m ≡ Some note → queue_of m ≡ q note
+AgreesOn ts g queue_of q given = (k : ℕ) (m : Message) (note : Note) → slice_get given k ≡ Some m
+    → note_in ts g m ≡ Some note → queue_of m ≡ q note
 
 -- they are, by the places of their activities, what the run put there and didn't take
 abbrev pub AreQueued : Root → (Note → ℕ) → List Event → Queued → Type 0
@@ -47,8 +48,10 @@ AreQueued r q h queued = (n : ℕ) → map (note_in r.templates r.graph) (queued
 abbrev pub root_in : List Template → ℕ → Graph → Container → Root
 root_in ts depth g input = record { templates = ts; depth = depth; graph = g; input = input }
 
--- a root is right after a run on this input: the run may be, the state shows its view, and its messages stand in their queues
-pub record IsRight (ts : List Template) (q : Note → ℕ) (h : List Event) (queued : Queued) (input : Container) (i : Instance) : Type 0 where
+-- a root is right after a run on this input: the run may be, the state shows its view, and its messages stand in their
+-- queues
+pub record IsRight (ts : List Template) (q : Note → ℕ) (h : List Event) (queued : Queued) (input : Container)
+    (i : Instance) : Type 0 where
   pub depth : ℕ
   pub graph : Graph
   pub process : graph_of ts i.template ≡ Some graph

@@ -17,7 +17,8 @@ use Rattle.staff_worklists.specs.Shelves.{shelves_of}
 use Rattle.staff_worklists.specs.Standing.{item_in}
 
 -- the item of this rank on one of these shelves, else what was found so far
-abbrev pub seen_on : {S : Type 0} → HashMap (Vec ℕ) (BTreeMap (Vec ℕ) Listed) S → List (List ℕ) → Option Listed → List ℕ → Option Listed
+abbrev pub seen_on : {S : Type 0} → HashMap (Vec ℕ) (BTreeMap (Vec ℕ) Listed) S → List (List ℕ) → Option Listed → List ℕ
+    → Option Listed
 seen_on shelves [] so_far rank = so_far
 seen_on shelves (name ∷ names) so_far rank = seen_on shelves names (option_or (item_in shelves name rank) so_far) rank
 

@@ -1,5 +1,6 @@
 -- Who may do what: who is eligible, and the first refusal of each command on an item.
-use Rattle.std.specs.Prelude.{ℕ, ◌==◌, Bool, true, false, not, ◌&&◌, if◌then◌else◌, Option, unwrap_or, Result, Ok, Err, List, bytes_eq}
+use Rattle.std.specs.Prelude.{ℕ, ◌==◌, Bool, true, false, not, ◌&&◌, if◌then◌else◌, Option, unwrap_or, Result, Ok, Err}
+use Rattle.std.specs.Prelude.{List, bytes_eq}
 use Rattle.std.specs.List.{list_any}
 use Rattle.flow_model.specs.declared.graphs.DoneBy.{DoneBy}
 use Rattle.flow_model.specs.declared.graphs.DoneBy.TheVariants as by

@@ -1,5 +1,6 @@
 -- On which shelf an open item stands, and which shelves a person sees.
-use Rattle.std.specs.Prelude.{◌≡◌, ℕ, Bool, true, false, ◌||◌, ◌&&◌, if◌then◌else◌, Option, Some, None, unwrap_or, List, ◌∷◌, map, bytes_eq}
+use Rattle.std.specs.Prelude.{◌≡◌, ℕ, Bool, true, false, ◌||◌, ◌&&◌, if◌then◌else◌, Option, Some, None, unwrap_or, List}
+use Rattle.std.specs.Prelude.{◌∷◌, map, bytes_eq}
 use Rattle.std.specs.List.{list_any}
 use Rattle.flow_model.specs.declared.graphs.DoneBy.{DoneBy}
 use Rattle.flow_model.specs.declared.graphs.DoneBy.TheVariants as by
@@ -20,7 +21,8 @@ claim_shelf (by.PerformerOf place) starter performer = 80 ∷ unwrap_or performe
 abbrev pub shelf_by : Hold → ItemLine → Option (List ℕ)
 shelf_by (held.Person holder) line = Some (72 ∷ holder)
 shelf_by (held.Agent take) line = None
-shelf_by held.Nobody line = if line.program.manual then Some (claim_shelf line.program.by line.starter line.performer) else None
+shelf_by held.Nobody line = if line.program.manual then Some
+    (claim_shelf line.program.by line.starter line.performer) else None
 
 -- the shelf on which an item stands
 abbrev pub shelf_for : ItemLine → Option (List ℕ)
@@ -50,4 +52,5 @@ is_free (held.Agent take) = false
 -- a person sees an item exactly where the person holds it, or nobody does and the person is eligible
 abbrev pub IsSeenWhereAllowed : Type 0
 IsSeenWhereAllowed = (person : PersonDef) (line : ItemLine)
-    → sees person (shelf_for line) ≡ (holds_it line.hold person.name || (is_free line.hold && is_eligible person line.program line.starter line.performer))
+    → sees person (shelf_for line) ≡ (holds_it line.hold person.name ||
+    (is_free line.hold && is_eligible person line.program line.starter line.performer))

@@ -1,6 +1,7 @@
 -- Which item stands where on the shelves.
 use Rattle.std.specs.List.{list_any}
-use Rattle.std.specs.Prelude.{◌==◌, Bool, false, ◌∷◌, [], ◌≡◌, ℕ, Option, Some, None, option_map, IsSome, if◌then◌else◌, List, bytes_eq}
+use Rattle.std.specs.Prelude.{◌==◌, Bool, false, ◌∷◌, [], ◌≡◌, ℕ, Option, Some, None, option_map, IsSome, if◌then◌else◌}
+use Rattle.std.specs.Prelude.{List, bytes_eq}
 use Rattle.std.specs.Ordering.{nat_cmp}
 use Rattle.std.specs.Cmp.Lexicographic.{slice_cmp}
 use Rattle.std.specs.Global.{Vec}

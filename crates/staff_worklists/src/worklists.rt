@@ -1,13 +1,16 @@
 //! The open manual items of all roots, and the worklists over them.
-ghost use Rattle.std.specs.Prelude.{◌≡◌, ℕ, ◌∷◌, ◌&&◌, List as Seq, false, true, None, Some, IfOk, OnOk, OnErr, option_map, option_copied, if◌then◌else◌, bytes_eq};
-ghost use Rattle.staff_worklists.specs.Shelves.{claim_shelf as claim_shelf_of, is_held as is_held_test, shelf_for as shelf_of_line, shelves_of};
+ghost use Rattle.std.specs.Prelude.{◌≡◌, ℕ, ◌∷◌, ◌&&◌, List as Seq, false, true, None, Some, IfOk, OnOk, OnErr};
+ghost use Rattle.std.specs.Prelude.{option_map, option_copied, if◌then◌else◌, bytes_eq};
+ghost use Rattle.staff_worklists.specs.Shelves.{claim_shelf as claim_shelf_of, is_held as is_held_test};
+ghost use Rattle.staff_worklists.specs.Shelves.{shelf_for as shelf_of_line, shelves_of};
 ghost use Rattle.std.specs.Prelude.{map};
 ghost use Rattle.std.specs.Option.{option_or, IsSome};
 ghost use Rattle.std.specs.Ordering.{nat_cmp};
 ghost use Rattle.std.specs.Cmp.Lexicographic.{slice_cmp};
 ghost use Rattle.std.specs.BTreeMap.{IsOrdered};
 ghost use Rattle.staff_worklists.specs.Listing.{line_of as work_line, found_at, seen_on, IsWorklist};
-ghost use Rattle.staff_worklists.specs.Standing.{shelf_at, at_rank, item_in, ArePlaced, listed_at, begins_with, is_among};
+ghost use Rattle.staff_worklists.specs.Standing.{shelf_at, at_rank, item_in, ArePlaced, listed_at, begins_with};
+ghost use Rattle.staff_worklists.specs.Standing.{is_among};
 
 use flow_model::{DoneBy, Hold, ItemLine, List, Name, Path, PersonDef, WorkLine};
 use indexmap::IndexMap;
@@ -56,7 +59,8 @@ const HOLDER: u8 = b'H';
 
 /// The shelf of those who may claim an item.
 fn claim_shelf(alloc: Global, line: &ItemLine) -> Result<Vec<u8>, AllocError>
-    ensures { IfOk result (λ shelf. shelf.items ≡ claim_shelf_of line.now.program.by line.now.starter line.now.performer) }
+    ensures { IfOk result (λ shelf. shelf.items ≡ claim_shelf_of line.now.program.by line.now.starter
+        line.now.performer) }
 {
     match &line.program.by {
         DoneBy::Role(role) => shelf_of(alloc, ROLE, role),
@@ -87,7 +91,8 @@ fn shelf_for(alloc: Global, line: &ItemLine) -> Result<Option<Vec<u8>>, AllocErr
 
 /// Takes the item of a rank off a shelf.
 fn take_off(shelves: &mut IndexMap<Vec<u8>, Shelf>, name: &[u8], rank: &Rank)
-    ensures { (q : Seq ℕ) → (r : Seq ℕ) → item_in shelves.new q r ≡ (if bytes_eq name.now q && bytes_eq rank.now.items r then None else item_in shelves.old q r) }
+    ensures { (q : Seq ℕ) → (r : Seq ℕ) → item_in shelves.new q r
+        ≡ (if bytes_eq name.now q && bytes_eq rank.now.items r then None else item_in shelves.old q r) }
 {
     if let Some(items) = shelves.get_mut(name) {
         let _ = items.remove(rank);
@@ -103,7 +108,9 @@ fn put_first(
     listed: Listed,
 ) -> Result<(), AllocError>
     requires { shelf_at shelves.old name.items ≡ None }
-    ensures ok { OnOk result ((q : Seq ℕ) → (r : Seq ℕ) → item_in shelves.new q r ≡ (if bytes_eq name.items q && bytes_eq rank.items r then Some listed else item_in shelves.old q r)) }
+    ensures ok { OnOk result ((q : Seq ℕ) → (r : Seq ℕ)
+        → item_in shelves.new q r ≡ (if bytes_eq name.items q
+        && bytes_eq rank.items r then Some listed else item_in shelves.old q r)) }
     ensures err { OnErr result (shelves.new.entries ≡ shelves.old.entries) }
 {
     let mut items = BTreeMap::new(alloc);
@@ -120,7 +127,9 @@ fn put_on(
     rank: Rank,
     listed: Listed,
 ) -> Result<(), AllocError>
-    ensures ok { OnOk result ((q : Seq ℕ) → (r : Seq ℕ) → item_in shelves.new q r ≡ (if bytes_eq name.items q && bytes_eq rank.items r then Some listed else item_in shelves.old q r)) }
+    ensures ok { OnOk result ((q : Seq ℕ) → (r : Seq ℕ)
+        → item_in shelves.new q r ≡ (if bytes_eq name.items q
+        && bytes_eq rank.items r then Some listed else item_in shelves.old q r)) }
     ensures err { OnErr result ((q : Seq ℕ) → (r : Seq ℕ) → item_in shelves.new q r ≡ item_in shelves.old q r) }
 {
     if let Some(items) = shelves.get_mut(name.as_slice()) {
@@ -164,7 +173,8 @@ fn add_items<'a>(
     items: &'a Shelf,
     found: &mut BTreeMap<&'a [u64], &'a Listed>,
 ) -> Result<(), AllocError>
-    ensures { OnOk result ((r : Seq ℕ) → found_at found.new r ≡ option_or (at_rank items.now r) (found_at found.old r)) }
+    ensures { OnOk result ((r : Seq ℕ) → found_at found.new r
+        ≡ option_or (at_rank items.now r) (found_at found.old r)) }
 {
     for (rank, listed) in items.iter() {
         found.insert(rank.as_slice(), listed)?;
@@ -184,7 +194,8 @@ fn line_of(alloc: Global, listed: &Listed) -> Result<WorkLine, AllocError>
 
 /// The lines of what was found, by rising rank.
 fn lines_of(alloc: Global, found: &BTreeMap<&[u64], &Listed>) -> Result<List<WorkLine>, AllocError>
-    ensures { IfOk result (λ lines. (lines ≡ map (λ e. work_line e.1.now) found.now.entries) × IsOrdered (λ k l. slice_cmp nat_cmp k.now l.now) found.now) }
+    ensures { IfOk result (λ lines. (lines ≡ map (λ e. work_line e.1.now) found.now.entries)
+        × IsOrdered (λ k l. slice_cmp nat_cmp k.now l.now) found.now) }
 {
     let mut lines = List::new(alloc);
     for (_rank, listed) in found.iter() {
@@ -218,8 +229,12 @@ impl Worklists {
     /// Puts an item on the shelf that its line asks for, in the place of where it stood. Without memory it may
     /// have been taken off only.
     pub fn set(&mut self, item: &Path, rank: &Rank, line: &ItemLine) -> Result<(), AllocError>
-        ensures ok { OnOk result ((q : Seq ℕ) → (r : Seq ℕ) → item_in self.new.shelves q r ≡ (if bytes_eq rank.now.items r then listed_at (shelf_of_line line.now) q (record { item = item.now; held = is_held_test line.now.hold }) else item_in self.old.shelves q r)) }
-        ensures err { OnErr result ((q : Seq ℕ) → (r : Seq ℕ) → item_in self.new.shelves q r ≡ (if bytes_eq rank.now.items r then None else item_in self.old.shelves q r)) }
+        ensures ok { OnOk result ((q : Seq ℕ) → (r : Seq ℕ)
+            → item_in self.new.shelves q r ≡ (if bytes_eq rank.now.items r then listed_at (shelf_of_line line.now) q
+            (record { item = item.now; held = is_held_test line.now.hold }) else item_in self.old.shelves q r)) }
+        ensures err { OnErr result ((q : Seq ℕ) → (r : Seq ℕ)
+            → item_in self.new.shelves q r ≡ (if bytes_eq rank.now.items r then None else item_in self.old.shelves q
+            r)) }
     {
         self.drop_item(rank);
         let Some(shelf) = shelf_for(self.alloc, line)? else {
@@ -233,8 +248,11 @@ impl Worklists {
     /// Puts an item that stands nowhere on a shelf.
     fn put(&mut self, shelf: Vec<u8>, rank: &Rank, listed: Listed) -> Result<(), AllocError>
         requires { (q : Seq ℕ) → item_in self.old.shelves q rank.now.items ≡ None }
-        ensures ok { OnOk result ((q : Seq ℕ) → (r : Seq ℕ) → item_in self.new.shelves q r ≡ (if bytes_eq shelf.items q && bytes_eq rank.now.items r then Some listed else item_in self.old.shelves q r)) }
-        ensures err { OnErr result ((q : Seq ℕ) → (r : Seq ℕ) → item_in self.new.shelves q r ≡ item_in self.old.shelves q r) }
+        ensures ok { OnOk result ((q : Seq ℕ) → (r : Seq ℕ)
+            → item_in self.new.shelves q r ≡ (if bytes_eq shelf.items q
+            && bytes_eq rank.now.items r then Some listed else item_in self.old.shelves q r)) }
+        ensures err { OnErr result ((q : Seq ℕ) → (r : Seq ℕ)
+            → item_in self.new.shelves q r ≡ item_in self.old.shelves q r) }
     {
         let key = copied(self.alloc, rank.as_slice())?;
         let other = copied(self.alloc, rank.as_slice())?;
@@ -246,7 +264,8 @@ impl Worklists {
 
     /// Takes an item off its shelf; nothing happens where it stands on none.
     pub fn drop_item(&mut self, rank: &Rank)
-        ensures { (q : Seq ℕ) → (r : Seq ℕ) → item_in self.new.shelves q r ≡ (if bytes_eq rank.now.items r then None else item_in self.old.shelves q r) }
+        ensures { (q : Seq ℕ) → (r : Seq ℕ) → item_in self.new.shelves q r
+            ≡ (if bytes_eq rank.now.items r then None else item_in self.old.shelves q r) }
     {
         if let Some(shelf) = self.places.remove(rank) {
             take_off(&mut self.shelves, shelf.as_slice(), rank);
@@ -255,8 +274,10 @@ impl Worklists {
 
     /// Takes all items of a root off their shelves. Without memory nothing is taken off.
     pub fn drop_root(&mut self, root: u64) -> Result<(), AllocError>
-        ensures others { (q : Seq ℕ) → (r : Seq ℕ) → begins_with root r ≡ false → item_in self.new.shelves q r ≡ item_in self.old.shelves q r }
-        ensures gone { OnOk result ((q : Seq ℕ) → (r : Seq ℕ) → begins_with root r ≡ true → item_in self.new.shelves q r ≡ None) }
+        ensures others { (q : Seq ℕ) → (r : Seq ℕ) → begins_with root r ≡ false
+            → item_in self.new.shelves q r ≡ item_in self.old.shelves q r }
+        ensures gone { OnOk result ((q : Seq ℕ) → (r : Seq ℕ) → begins_with root r ≡ true
+            → item_in self.new.shelves q r ≡ None) }
         ensures err { OnErr result (self.new ≡ self.old) }
     {
         let ranks = self.ranks_of(root)?;
@@ -266,8 +287,10 @@ impl Worklists {
 
     /// The ranks of the items of a root that stand on a shelf.
     fn ranks_of(&self, root: u64) -> Result<Vec<Rank>, AllocError>
-        ensures others { IfOk result (λ ranks. (r : Seq ℕ) → begins_with root r ≡ false → is_among ranks.items r ≡ false) }
-        ensures all { IfOk result (λ ranks. (r : Seq ℕ) → begins_with root r ≡ true → IsSome (at_rank self.now.places r) → is_among ranks.items r ≡ true) }
+        ensures others { IfOk result (λ ranks. (r : Seq ℕ) → begins_with root r ≡ false
+            → is_among ranks.items r ≡ false) }
+        ensures all { IfOk result (λ ranks. (r : Seq ℕ) → begins_with root r ≡ true → IsSome (at_rank self.now.places r)
+            → is_among ranks.items r ≡ true) }
     {
         let mut ranks = Vec::new(self.alloc);
         let from = vec![in self.alloc; root]?;
@@ -282,7 +305,8 @@ impl Worklists {
 
     /// Takes items off their shelves.
     fn drop_items(&mut self, ranks: &[Rank])
-        ensures { (q : Seq ℕ) → (r : Seq ℕ) → item_in self.new.shelves q r ≡ (if is_among ranks.now r then None else item_in self.old.shelves q r) }
+        ensures { (q : Seq ℕ) → (r : Seq ℕ) → item_in self.new.shelves q r
+            ≡ (if is_among ranks.now r then None else item_in self.old.shelves q r) }
     {
         for rank in ranks {
             self.drop_item(rank);
@@ -295,7 +319,8 @@ impl Worklists {
         shelf: &[u8],
         found: &mut BTreeMap<&'a [u64], &'a Listed>,
     ) -> Result<(), AllocError>
-        ensures { OnOk result ((r : Seq ℕ) → found_at found.new r ≡ option_or (item_in self.now.shelves shelf.now r) (found_at found.old r)) }
+        ensures { OnOk result ((r : Seq ℕ) → found_at found.new r
+            ≡ option_or (item_in self.now.shelves shelf.now r) (found_at found.old r)) }
     {
         match self.shelves.get(shelf) {
             None => Ok(()),
@@ -309,7 +334,8 @@ impl Worklists {
         role: &Name,
         found: &mut BTreeMap<&'a [u64], &'a Listed>,
     ) -> Result<(), AllocError>
-        ensures { OnOk result ((r : Seq ℕ) → found_at found.new r ≡ option_or (item_in self.now.shelves (ROLE ∷ role.now) r) (found_at found.old r)) }
+        ensures { OnOk result ((r : Seq ℕ) → found_at found.new r
+            ≡ option_or (item_in self.now.shelves (ROLE ∷ role.now) r) (found_at found.old r)) }
     {
         let shelf = shelf_of(self.alloc, ROLE, role)?;
         self.add_shelf(shelf.as_slice(), found)?;
@@ -322,7 +348,8 @@ impl Worklists {
         roles: &[Name],
         found: &mut BTreeMap<&'a [u64], &'a Listed>,
     ) -> Result<(), AllocError>
-        ensures { OnOk result ((r : Seq ℕ) → found_at found.new r ≡ seen_on self.now.shelves (map (λ role. ROLE ∷ role) roles.now) (found_at found.old r) r) }
+        ensures { OnOk result ((r : Seq ℕ) → found_at found.new r
+            ≡ seen_on self.now.shelves (map (λ role. ROLE ∷ role) roles.now) (found_at found.old r) r) }
     {
         for role in roles {
             self.add_role(role, found)?;
@@ -336,7 +363,8 @@ impl Worklists {
         person: &PersonDef,
         found: &mut BTreeMap<&'a [u64], &'a Listed>,
     ) -> Result<(), AllocError>
-        ensures { OnOk result ((r : Seq ℕ) → found_at found.new r ≡ seen_on self.now.shelves (shelves_of person.now) (found_at found.old r) r) }
+        ensures { OnOk result ((r : Seq ℕ) → found_at found.new r
+            ≡ seen_on self.now.shelves (shelves_of person.now) (found_at found.old r) r) }
     {
         let named = shelf_of(self.alloc, PERSON, &person.name)?;
         self.add_shelf(named.as_slice(), found)?;

@@ -69,16 +69,19 @@ IsSoundWork work = (g : Graph) → graph_in [] work ≡ Some g → IsSoundAlone 
 
 -- ---- performers
 
--- where the program of an activity is done by the performer of another one, a walk of connectors leads from that one to it
+-- where the program of an activity is done by the performer of another one, a walk of connectors leads from that one to
+-- it
 abbrev pub PerformersComeBefore : Graph → Type 0
 PerformersComeBefore g =
-    (a b : ℕ) (activity : Activity) (p : ProgramOf) → slice_get (out-Graph g).activities a ≡ Some activity → activity.work ≡ Program p → p.by ≡ by.PerformerOf b
+    (a b : ℕ) (activity : Activity) (p : ProgramOf) → slice_get (out-Graph g).activities a ≡ Some activity
+    → activity.work ≡ Program p → p.by ≡ by.PerformerOf b
     → (n : ℕ) × Walk (out-Graph g).controls (suc n) b a
 
 -- so it is in a graph, and what its activities run has this property
 pub record ComeBeforeWith (ts : List Template) (g : Graph) (P : Graph → Type 0) : Type 0 where
   pub here : PerformersComeBefore g
-  pub inside : (a : ℕ) (activity : Activity) (h : Graph) → slice_get (out-Graph g).activities a ≡ Some activity → graph_in ts activity.work ≡ Some h → P h
+  pub inside : (a : ℕ) (activity : Activity) (h : Graph) → slice_get (out-Graph g).activities a ≡ Some activity
+      → graph_in ts activity.work ≡ Some h → P h
 
 -- so it is in a graph, and in those inside it, to this depth
 abbrev pub ComeBeforeTo : List Template → ℕ → Graph → Type 0

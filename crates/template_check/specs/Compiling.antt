@@ -42,11 +42,13 @@ template_names ts = map (λ t. t.name) ts
 abbrev pub AreLeavesOf : List ItemTree → Leafing → Type 0
 AreLeavesOf items leaves = (g : GraphAt) → IsGraphOf items g → HasContainers (leaves_in (structures_in items)) leaves g
 
--- a reading of the names of a text, behind a library: the structures of containers have the leaves of their members; a process
+-- a reading of the names of a text, behind a library: the structures of containers have the leaves of their members; a
+-- process
 -- is the one that stands before in the text, else the newest that was imported, where the index of the library is right
 pub record IsReading (earlier : Catalog) (items : List ItemTree) (reading : Reading) : Type 0 where
   pub leaves : AreLeavesOf items reading.leaves
-  pub places : IsIndexed earlier → (number : ℕ) (name : List ℕ) → reading.place number name ≡ place_named earlier (processes_in items) number name
+  pub places : IsIndexed earlier → (number : ℕ) (name : List ℕ)
+      → reading.place number name ≡ place_named earlier (processes_in items) number name
 
 -- a template has the depth and the size of this shape, as far as 32 bits tell them
 pub record HasShape (t : Template) (shape : Shape) : Type 0 where
@@ -84,8 +86,10 @@ pub record IsNamedBy (text : List ℕ) (ts : List Template) : Type 0 where
   pub has : HasTree text tree
   pub named : template_names ts ≡ process_names tree.items
 
--- the graphs of what a text compiles to are those of its processes, in order: there is one reading of its names, the same
--- for all of them, by which each is meant; their versions, depths and sizes are those that the library and the text give
+-- the graphs of what a text compiles to are those of its processes, in order: there is one reading of its names, the
+-- same
+-- for all of them, by which each is meant; their versions, depths and sizes are those that the library and the text
+-- give
 pub record IsMeantBy (text : List ℕ) (earlier : Catalog) (ts : List Template) : Type 0 where
   pub tree : Tree
   pub has : HasTree text tree

@@ -1,4 +1,5 @@
--- How a text is judged: by its length, its bytes, its tokens and its syntax, and then by the other rules in their order.
+-- How a text is judged: by its length, its bytes, its tokens and its syntax, and then by the other rules in their
+-- order.
 use Rattle.std.specs.Prelude.{◌≡◌, ◌==◌, ℕ, ◌+◌, ◌<◌, ◌≤◌, List, length, take, None, Some, Result, Ok, Err}
 use Rattle.std.specs.List.{filter}
 use Rattle.fdl_lexer.specs.Tokens.{AreTokens, Faults}
@@ -17,17 +18,20 @@ use Rattle.template_check.specs.declared.faults.ImportFault.TheVariants as fault
 abbrev pub line_at : List ℕ → ℕ → ℕ
 line_at text place = length (filter (λ byte. byte == 10) (take place text)) + 1
 
--- a text has no tree, by this rule and at this place: it is too long, it has a byte that may not stand in a text, or a place
+-- a text has no tree, by this rule and at this place: it is too long, it has a byte that may not stand in a text, or a
+-- place
 -- where no token begins, or its tokens have no tree
 pub data IsEarly (text : List ℕ) (rule place : ℕ) : Type 0 where
   TooLong : 1048576 < length text → rule ≡ 24 → place ≡ 0 → IsEarly text rule place
   WrongByte : length text ≤ 1048576 → rule ≡ 1 → Faults text (lexed.Byte place) → IsEarly text rule place
   NoToken : length text ≤ 1048576 → rule ≡ 2 → Faults text (lexed.Token place) → IsEarly text rule place
-  NoTree : length text ≤ 1048576 → rule ≡ 3 → (tokens : List Token) → AreTokens text tokens → RefusesFirst text tokens (parsed.At place) → HaveNoTree text tokens (parsed.At place) → IsEarly text rule place
+  NoTree : length text ≤ 1048576 → rule ≡ 3 → (tokens : List Token) → AreTokens text tokens
+      → RefusesFirst text tokens (parsed.At place) → HaveNoTree text tokens (parsed.At place) → IsEarly text rule place
 
 -- a fault names this rule and this place, with its line
 abbrev pub IsFault : List ℕ → ℕ → ℕ → ImportFault → Type 0
-IsFault text rule place (fault.Rule found) = (found.rule ≡ rule) × (found.place ≡ place) × (found.line ≡ line_at text place)
+IsFault text rule place (fault.Rule found) = (found.rule ≡ rule) × (found.place ≡ place)
+    × (found.line ≡ line_at text place)
 IsFault text rule place fault.NoMemory = ⊥
 
 -- a fault of a text that has no tree
@@ -57,5 +61,6 @@ pub data IsRefused (library : Library) (text : List ℕ) (rule place : ℕ) : Ty
 -- how a text is judged, behind a library
 abbrev pub IsJudged : {T : Type 0} → Library → List ℕ → Result T ImportFault → Type 0
 IsJudged library text (Ok done) = IsFaultless library text
-IsJudged library text (Err (fault.Rule found)) = IsRefused library text found.rule found.place × (found.line ≡ line_at text found.place)
+IsJudged library text (Err (fault.Rule found)) = IsRefused library text found.rule found.place
+    × (found.line ≡ line_at text found.place)
 IsJudged library text (Err fault.NoMemory) = Unit {0}

@@ -82,7 +82,8 @@ IsWhen leaves (written.Cond cond) when.Otherwise = ⊥
 IsWhen leaves written.Otherwise made = made ≡ when.Otherwise
 
 -- a connector: its ends, and its condition on the output of the activity that it leaves
-pub record IsControl (leaves : Leafing) (elements : List ElementTree) (control : ControlTree) (made : Control) : Type 0 where
+pub record IsControl (leaves : Leafing) (elements : List ElementTree) (control : ControlTree)
+    (made : Control) : Type 0 where
   pub from : number_in elements control.from.name ≡ Some made.from
   pub to : number_in elements control.to.name ≡ Some made.to
   pub when : IsWhen (output_leaves leaves elements control.from.name) control.when made.when
@@ -101,7 +102,8 @@ AreMaps (Some from) None maps made = ⊥
 AreMaps (Some from) (Some to) maps made = AreParts (IsOne (IsMap from to)) maps made
 
 -- a line between two ends
-pub record IsBetween (leaves : Leafing) (g : GraphText) (from to : EndTree) (line : DataTree) (made : DataLine) : Type 0 where
+pub record IsBetween (leaves : Leafing) (g : GraphText) (from to : EndTree) (line : DataTree)
+    (made : DataLine) : Type 0 where
   pub begins : end_in g.elements from ≡ Some made.from
   pub leads : end_in g.elements to ≡ Some made.to
   pub maps : AreMaps (line_source leaves g line.ends) (line_target leaves g line.ends) line.maps made.maps
@@ -139,13 +141,17 @@ HasInside P (Process t) = ⊥
 
 -- what an activity does: a program with its attributes, the process that its name stands for, or a block of which the
 -- graph has this property
-pub data IsWork (P : GraphText → Graph → Type 0) (r : Reading) (g : GraphText) (a : ActivityTree) (made : Work) : Type 0 where
+pub data IsWork (P : GraphText → Graph → Type 0) (r : Reading) (g : GraphText) (a : ActivityTree)
+    (made : Work) : Type 0 where
   ProgramOf : a.work ≡ work.Program → made ≡ Program (program_by g.elements a.attrs) → IsWork P r g a made
-  ProcessOf : (name : NameAt) (place : ℕ) → a.work ≡ work.Process name → r.place g.process name.name ≡ Some place → made ≡ Process place → IsWork P r g a made
-  BlockOf : (inner : List ElementTree) → a.work ≡ work.Block inner → HasInside (P (block_text g.process a inner)) made → IsWork P r g a made
+  ProcessOf : (name : NameAt) (place : ℕ) → a.work ≡ work.Process name → r.place g.process name.name ≡ Some place
+      → made ≡ Process place → IsWork P r g a made
+  BlockOf : (inner : List ElementTree) → a.work ≡ work.Block inner → HasInside (P (block_text g.process a inner)) made
+      → IsWork P r g a made
 
 -- an activity: its name, work, leaves, join and exit condition, on its output
-pub record IsActivity (P : GraphText → Graph → Type 0) (r : Reading) (g : GraphText) (a : ActivityTree) (made : Activity) : Type 0 where
+pub record IsActivity (P : GraphText → Graph → Type 0) (r : Reading) (g : GraphText) (a : ActivityTree)
+    (made : Activity) : Type 0 where
   pub named : made.name ≡ a.name.name
   pub works : IsWork P r g a made.work
   pub input : r.leaves a.input.name ≡ Some made.input.leaves

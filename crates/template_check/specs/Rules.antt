@@ -1,8 +1,10 @@
--- The rules that a text may break, each a set of its places, in the order in which they are judged; and which of them is broken first.
+-- The rules that a text may break, each a set of its places, in the order in which they are judged; and which of them
+-- is broken first.
 use Rattle.std.specs.Prelude.{◌≡◌, ◌⊎◌, ℕ, ◌≤◌, Option, Some, None, Result, Ok, Err, List, [], ◌∷◌, ◌++◌}
 use Rattle.flow_model.specs.declared.graphs.Library.{Library}
 use Rattle.flow_model.specs.declared.trees.ItemTree.{ItemTree}
-use Rattle.connector_rules.specs.Connectors.{NamesNobody, IsDouble, IsOnCycle, IsEmptyGraph, IsOtherwiseWrong, IsUnreachableData}
+use Rattle.connector_rules.specs.Connectors.{NamesNobody, IsDouble, IsOnCycle, IsEmptyGraph, IsOtherwiseWrong}
+use Rattle.connector_rules.specs.Connectors.{IsUnreachableData}
 use Rattle.leaf_rules.specs.Counts.{HasTooManyLeaves}
 use Rattle.leaf_rules.specs.KindEdges.{IsInStructureCycle}
 use Rattle.leaf_rules.specs.LeafUses.{ReadsUnknownLeaf, MixesKinds}
@@ -48,7 +50,8 @@ rules_on_names items =
 
 -- a structure reaches itself, or has too many leaves
 abbrev pub rules_on_structures : List ItemTree → List Rule
-rules_on_structures items = (7, IsInStructureCycle (structures_in items)) ∷ (8, HasTooManyLeaves (structures_in items)) ∷ []
+rules_on_structures items = (7, IsInStructureCycle (structures_in items)) ∷
+    (8, HasTooManyLeaves (structures_in items)) ∷ []
 
 -- a line names no activity; a connector comes twice, or lies on a closed walk; a graph is empty
 abbrev pub rules_on_connectors : List ItemTree → List Rule
@@ -79,11 +82,13 @@ rules_on_callees library items =
 
 -- a person isn't there; a performer is none
 abbrev pub rules_on_people : Library → List ItemTree → List Rule
-rules_on_people library items = (19, InGraphs items (NamesNoPerson library (people_in items))) ∷ (20, InGraphs items NamesNoPerformer) ∷ []
+rules_on_people library items = (19, InGraphs items (NamesNoPerson library (people_in items))) ∷
+    (20, InGraphs items NamesNoPerformer) ∷ []
 
 -- a process nests too deep, or is too large
 abbrev pub rules_on_sizes : Library → List ItemTree → List Rule
-rules_on_sizes library items = (21, IsDeep library (processes_in items)) ∷ (22, IsLargeProcess library (processes_in items)) ∷ []
+rules_on_sizes library items = (21, IsDeep library (processes_in items)) ∷
+    (22, IsLargeProcess library (processes_in items)) ∷ []
 
 -- a number is out of range; there is too much of something
 abbrev pub rules_on_counts : List ItemTree → List Rule

@@ -21,7 +21,8 @@ IsEndBelow count Border = Unit {0}
 IsEndBelow count (At a) = a < count
 
 -- the ends of all lines are among so many activities
-pub record AreWithin (count : ℕ) (controls : List Control) (lines : List DataLine) (loops : List LoopLine) : Type 0 where
+pub record AreWithin (count : ℕ) (controls : List Control) (lines : List DataLine)
+    (loops : List LoopLine) : Type 0 where
   pub sources : All (λ c. c.from < count) controls
   pub targets : All (λ c. c.to < count) controls
   pub fed : All (λ line. IsEndBelow count line.to) lines
@@ -32,7 +33,8 @@ abbrev pub pairs_of : List Control → List (ℕ × ℕ)
 pairs_of controls = map (λ c. (c.from, c.to)) controls
 
 -- the rows of a wiring are those of its lists, and each connector leads forward in its order
-pub record AreWired (count : ℕ) (controls : List Control) (lines : List DataLine) (loops : List LoopLine) (wiring : Wiring) : Type 0 where
+pub record AreWired (count : ℕ) (controls : List Control) (lines : List DataLine) (loops : List LoopLine)
+    (wiring : Wiring) : Type 0 where
   pub ordered : IsOrder count (pairs_of controls) wiring.order
   pub incoming : AreRows (λ c a. c.to == a) controls wiring.incoming
   pub outgoing : AreRows (λ c a. c.from == a) controls wiring.outgoing

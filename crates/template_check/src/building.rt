@@ -3,16 +3,19 @@ ghost use Rattle.std.specs.Prelude.{◌≡◌, ℕ, ◌<◌, ◌^◌, Some, leng
 ghost use Rattle.std.specs.List.{All};
 ghost use Rattle.template_check.specs.Built.{end_in, IsDrawn, IsSound, IsSoundAlone, IsSoundInside, IsSoundWork};
 ghost use Rattle.conditions.specs.Resolving.{IsResolved};
-ghost use Rattle.text_graphs.specs.Attributes.{first_said, join_said, joined_by, expires_said, expires_by, exit_said, doer_said, done_by, program_by};
+ghost use Rattle.text_graphs.specs.Attributes.{first_said, join_said, joined_by, expires_said, expires_by, exit_said};
+ghost use Rattle.text_graphs.specs.Attributes.{doer_said, done_by, program_by};
 ghost use Rattle.process_rules.specs.Imports.{IsIndexed, next_version};
 ghost use Rattle.template_check.specs.Compiling.{declared_person};
 ghost use Rattle.template_check.specs.Numbered.{HasToldShape};
 ghost use Rattle.process_rules.specs.Calling.{place_behind, place_meant, IsCalling, IsCallingWork};
 ghost use Rattle.text_graphs.specs.GraphTexts.{text_of, process_text};
 ghost use Rattle.leaf_rules.specs.Leaves.{table_leaves, with_code, output_leaves, line_source, line_target};
-ghost use Rattle.template_check.specs.Meant.{AreParts, IsOne, IsMap, AreMaps, IsExit, IsWhen, IsControl, IsDataLine, IsLoopLine, IsWork, IsActivity, MeantTo, IsMeant, reading_of};
+ghost use Rattle.template_check.specs.Meant.{AreParts, IsOne, IsMap, AreMaps, IsExit, IsWhen, IsControl, IsDataLine};
+ghost use Rattle.template_check.specs.Meant.{IsLoopLine, IsWork, IsActivity, MeantTo, IsMeant, reading_of};
 ghost use Rattle.template_check.specs.declared.building.BuildFault.TheVariants.{NoMemory};
-ghost use Rattle.text_graphs.specs.Texts.{activities_in, controls_in, names_in, lines_in, edge_of, edges_in, IsLineAlong};
+ghost use Rattle.text_graphs.specs.Texts.{activities_in, controls_in, names_in, lines_in, edge_of, edges_in};
+ghost use Rattle.text_graphs.specs.Texts.{IsLineAlong};
 ghost use Rattle.template_check.specs.Wires.{pairs_of};
 
 use crate::wires::wiring;
@@ -154,7 +157,8 @@ fn exit_of(activity: &ActivityTree) -> Option<&CondAt>
 
 /// One map of a line, by the places of its leaves.
 fn leaf_map(map: &MapTree, from: &Leaves, to: &Leaves) -> Result<LeafMap, BuildFault>
-    ensures { length from.now.leaves < 2 ^ 32 → length to.now.leaves < 2 ^ 32 → IfOk result (IsMap from.now.leaves to.now.leaves map.now) }
+    ensures { length from.now.leaves < 2 ^ 32 → length to.now.leaves < 2 ^ 32
+        → IfOk result (IsMap from.now.leaves to.now.leaves map.now) }
 {
     match find_leaf(from, &map.from) {
         None => Err(BuildFault::Missing),
@@ -175,7 +179,8 @@ fn leaf_maps(
     from: &Leaves,
     to: &Leaves,
 ) -> Result<List<LeafMap>, BuildFault>
-    ensures { length from.now.leaves < 2 ^ 32 → length to.now.leaves < 2 ^ 32 → IfOk result (AreParts (IsOne (IsMap from.now.leaves to.now.leaves)) maps.now) }
+    ensures { length from.now.leaves < 2 ^ 32 → length to.now.leaves < 2 ^ 32
+        → IfOk result (AreParts (IsOne (IsMap from.now.leaves to.now.leaves)) maps.now) }
 {
     let mut places = List::new(alloc);
     for map in maps {
@@ -213,7 +218,8 @@ fn map_end<'a>(scope: &Scope<'a>, end: &'a EndTree) -> Option<MapEnd>
 impl<'a> Builder<'a> {
     /// The exit condition of an activity.
     fn exit(&self, activity: &'a ActivityTree) -> Result<Option<Expr>, BuildFault>
-        ensures { IfOk result (IsExit (with_code (table_leaves self.now.table activity.now.output.name)) (first_said exit_said activity.now.attrs)) }
+        ensures { IfOk result (IsExit (with_code (table_leaves self.now.table activity.now.output.name))
+            (first_said exit_said activity.now.attrs)) }
     {
         match exit_of(activity) {
             None => Ok(None),
@@ -285,7 +291,8 @@ impl<'a> Builder<'a> {
 
     /// The transition condition of a connector.
     fn when(&self, scope: &Scope<'a>, control: &'a ControlTree) -> Result<When, BuildFault>
-        ensures { IfOk result (IsWhen (output_leaves (table_leaves self.now.table) scope.now.elements.now control.now.from.name) control.now.when) }
+        ensures { IfOk result (IsWhen (output_leaves (table_leaves self.now.table) scope.now.elements.now
+            control.now.from.name) control.now.when) }
     {
         match &control.when {
             WhenTree::Always => Ok(When::Always),
@@ -317,7 +324,8 @@ impl<'a> Builder<'a> {
 
     fn controls(&self, scope: &Scope<'a>) -> Result<List<Control>, BuildFault>
         ensures ends { IfOk result (λ controls. pairs_of controls ≡ edges_in scope.now.elements.now) }
-        ensures meant { IfOk result (AreParts (IsOne (IsControl (table_leaves self.now.table) scope.now.elements.now)) (controls_in scope.now.elements.now)) }
+        ensures meant { IfOk result (AreParts (IsOne (IsControl (table_leaves self.now.table) scope.now.elements.now))
+            (controls_in scope.now.elements.now)) }
     {
         let mut controls = List::new(self.alloc);
         for control in &scope.controls {
@@ -328,7 +336,8 @@ impl<'a> Builder<'a> {
 
     /// The maps of a line, by the places of the leaves.
     fn maps(&self, scope: &Scope<'a>, line: &'a DataTree) -> Result<List<LeafMap>, BuildFault>
-        ensures { IfOk result (AreMaps (line_source (table_leaves self.now.table) (text_of scope.now) line.now.ends) (line_target (table_leaves self.now.table) (text_of scope.now) line.now.ends) line.now.maps) }
+        ensures { IfOk result (AreMaps (line_source (table_leaves self.now.table) (text_of scope.now) line.now.ends)
+            (line_target (table_leaves self.now.table) (text_of scope.now) line.now.ends) line.now.maps) }
     {
         match self.table.line_source(scope, &line.ends) {
             None => Err(BuildFault::Missing),
@@ -367,7 +376,8 @@ impl<'a> Builder<'a> {
     fn lines(&self, scope: &Scope<'a>) -> Result<List<DataLine>, BuildFault>
         requires { All (IsLineAlong scope.now.elements.now) (lines_in scope.now.elements.now) }
         ensures drawn { IfOk result (All (IsDrawn scope.now.elements.now)) }
-        ensures meant { IfOk result (AreParts (IsDataLine (table_leaves self.now.table) (text_of scope.now)) (lines_in scope.now.elements.now)) }
+        ensures meant { IfOk result (AreParts (IsDataLine (table_leaves self.now.table) (text_of scope.now))
+            (lines_in scope.now.elements.now)) }
     {
         let mut lines = List::new(self.alloc);
         for line in &scope.lines {
@@ -385,7 +395,8 @@ impl<'a> Builder<'a> {
         scope: &Scope<'a>,
         line: &'a DataTree,
     ) -> Result<Option<LoopLine>, BuildFault>
-        ensures within { IfOk result (λ made. IfSome made (λ l. l.activity < length (activities_in scope.now.elements.now))) }
+        ensures within { IfOk result (λ made. IfSome made
+            (λ l. l.activity < length (activities_in scope.now.elements.now))) }
         ensures meant { IfOk result (IsLoopLine (table_leaves self.now.table) (text_of scope.now) line.now) }
     {
         match &line.ends {
@@ -402,7 +413,8 @@ impl<'a> Builder<'a> {
 
     fn loops(&self, scope: &Scope<'a>) -> Result<List<LoopLine>, BuildFault>
         ensures within { IfOk result (All (λ l. l.activity < length (activities_in scope.now.elements.now))) }
-        ensures meant { IfOk result (AreParts (IsLoopLine (table_leaves self.now.table) (text_of scope.now)) (lines_in scope.now.elements.now)) }
+        ensures meant { IfOk result (AreParts (IsLoopLine (table_leaves self.now.table) (text_of scope.now))
+            (lines_in scope.now.elements.now)) }
     {
         let mut loops = List::new(self.alloc);
         for line in &scope.lines {
@@ -439,7 +451,9 @@ impl<'a> Builder<'a> {
         requires { IsSoundInside activity.now }
         ensures sound { IfOk result IsSoundWork }
         ensures calls { IfOk result (IsCallingWork (place_behind self.now.known.catalog.now scope.now.process)) }
-        ensures meant { IfOk result (λ made. (depth : ℕ) → IsWork (MeantTo (reading_of self.now) depth) (reading_of self.now) (text_of scope.now) activity.now made) }
+        ensures meant { IfOk result (λ made. (depth : ℕ)
+            → IsWork (MeantTo (reading_of self.now) depth) (reading_of self.now)
+            (text_of scope.now) activity.now made) }
     {
         match &activity.work {
             WorkTree::Program => Ok(Work::Program(self.program(scope, activity)?)),
@@ -462,8 +476,11 @@ impl<'a> Builder<'a> {
         requires { IsSoundInside activity.now }
         ensures named { IfOk result (λ built. built.name ≡ activity.now.name.name) }
         ensures sound { IfOk result (λ built. IsSoundWork built.work) }
-        ensures calls { IfOk result (λ built. IsCallingWork (place_behind self.now.known.catalog.now scope.now.process) built.work) }
-        ensures meant { IfOk result (λ built. (depth : ℕ) → IsActivity (MeantTo (reading_of self.now) depth) (reading_of self.now) (text_of scope.now) activity.now built) }
+        ensures calls { IfOk result (λ built. IsCallingWork
+            (place_behind self.now.known.catalog.now scope.now.process) built.work) }
+        ensures meant { IfOk result (λ built. (depth : ℕ)
+            → IsActivity (MeantTo (reading_of self.now) depth) (reading_of self.now)
+            (text_of scope.now) activity.now built) }
     {
         Ok(Activity {
             name: activity.name.name.copy(self.alloc)?,
@@ -484,8 +501,11 @@ impl<'a> Builder<'a> {
         requires { All IsSoundInside (activities_in elements.now) }
         ensures named { IfOk result (λ built. map (λ a. a.name) built ≡ names_in elements.now) }
         ensures sound { IfOk result (All (λ built. IsSoundWork built.work)) }
-        ensures calls { IfOk result (All (λ built. IsCallingWork (place_behind self.now.known.catalog.now scope.now.process) built.work)) }
-        ensures meant { IfOk result (λ built. (depth : ℕ) → AreParts (IsOne (IsActivity (MeantTo (reading_of self.now) depth) (reading_of self.now) (text_of scope.now))) (activities_in elements.now) built) }
+        ensures calls { IfOk result (All (λ built. IsCallingWork
+            (place_behind self.now.known.catalog.now scope.now.process) built.work)) }
+        ensures meant { IfOk result (λ built. (depth : ℕ)
+            → AreParts (IsOne (IsActivity (MeantTo (reading_of self.now) depth) (reading_of self.now)
+            (text_of scope.now))) (activities_in elements.now) built) }
     {
         let mut activities = List::new(self.alloc);
         for element in elements {
@@ -512,7 +532,8 @@ impl<'a> Builder<'a> {
         requires { IsSound elements.now }
         ensures sound { IfOk result IsSoundAlone }
         ensures calls { IfOk result (IsCalling (place_behind self.now.known.catalog.now process)) }
-        ensures meant { IfOk result (IsMeant (reading_of self.now) (record { process = process; input = input.now.name; output = output.now.name; elements = elements.now })) }
+        ensures meant { IfOk result (IsMeant (reading_of self.now)
+            (record { process = process; input = input.now.name; output = output.now.name; elements = elements.now })) }
     {
         let scope = Scope::new(self.alloc, process, place, input, output, elements)?;
         let activities = self.activities(&scope, elements)?;
@@ -547,10 +568,13 @@ impl<'a> Builder<'a> {
         requires { IsSound process.now.elements }
         ensures named { IfOk result (λ template. template.name ≡ process.now.name.name) }
         ensures sound { IfOk result (λ template. IsSoundAlone template.graph) }
-        ensures calls { IfOk result (λ template. IsCalling (place_behind self.now.known.catalog.now number) template.graph) }
-        ensures meant { IfOk result (λ template. IsMeant (reading_of self.now) (process_text number process.now) template.graph) }
+        ensures calls { IfOk result (λ template. IsCalling
+            (place_behind self.now.known.catalog.now number) template.graph) }
+        ensures meant { IfOk result (λ template. IsMeant (reading_of self.now)
+            (process_text number process.now) template.graph) }
         ensures version { IsIndexed self.now.known.catalog.now
-            → IfOk result (λ template. template.version ≡ next_version self.now.known.catalog.now.library process.now.name.name) }
+            → IfOk result (λ template. template.version ≡ next_version self.now.known.catalog.now.library
+            process.now.name.name) }
         ensures shape { IfOk result (λ template. HasToldShape template shape) }
     {
         let (input, output) = (&process.input, &process.output);

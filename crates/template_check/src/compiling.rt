@@ -13,7 +13,8 @@ ghost use Rattle.process_rules.specs.Shapes.{shape_at, shapes_of, told_shape};
 ghost use Rattle.template_check.specs.Built.{AreSoundBehind, AreSoundWithin, IsSound};
 ghost use Rattle.template_check.specs.Compiling.{AreBuilt, AreLeavesOf, HasPeopleOf, HasTree, IsNamedBy, IsMeantBy};
 ghost use Rattle.template_check.specs.Judged.{line_at, IsFault, IsEarlyFault, IsJudged};
-ghost use Rattle.template_check.specs.Rules.{fault_in, from_callees, from_connectors, from_leaves, from_sizes, later_rules, IsFirstBroken};
+ghost use Rattle.template_check.specs.Rules.{fault_in, from_callees, from_connectors, from_leaves, from_sizes};
+ghost use Rattle.template_check.specs.Rules.{later_rules, IsFirstBroken};
 ghost use Rattle.text_graphs.specs.Blocks.{lists_of, IsCovered};
 ghost use Rattle.text_graphs.specs.Graphs.{graph_at, graphs_in, AreGraphsOf, InGraphs};
 ghost use Rattle.text_graphs.specs.Texts.{processes_in, structures_in, AreNamesApart, IsConnected};
@@ -148,9 +149,12 @@ fn sized_and_built<'a>(
     requires structures { behind builder.now.table.structures.definitions.items ≡ structures_in tree.now.items }
     requires leaves { AreLeavesOf tree.now.items (table_leaves builder.now.table) }
     requires knowing { IsKnowing builder.now.known (processes_in tree.now.items) }
-    requires shapes { IsIndexed builder.now.known.catalog.now → shapes.now ≡ map told_shape (shapes_of builder.now.known.catalog.now.library (processes_in tree.now.items)) }
+    requires shapes { IsIndexed builder.now.known.catalog.now
+        → shapes.now ≡ map told_shape (shapes_of builder.now.known.catalog.now.library (processes_in tree.now.items)) }
     ensures built { IfOk result (λ judged. IfOk judged (AreBuilt builder.now.known.catalog.now tree.now.items)) }
-    ensures first { IsIndexed builder.now.known.catalog.now → IfOk result (λ judged. IsFirstBroken (from_sizes builder.now.known.catalog.now.library tree.now.items) (fault_in judged)) }
+    ensures first { IsIndexed builder.now.known.catalog.now
+        → IfOk result (λ judged. IsFirstBroken (from_sizes builder.now.known.catalog.now.library tree.now.items)
+        (fault_in judged)) }
 {
     let known = &builder.known;
     if let Some(fault) = first_of_sizes(known, tree, shapes) {
@@ -178,9 +182,11 @@ fn called_and_built<'a>(
     requires graphs { AreGraphsOf tree.now.items (graphs_in scopes.now) }
     requires sound { AreSoundWithin scopes.now (processes_in tree.now.items) }
     requires structures { behind table.structures.definitions.items ≡ structures_in tree.now.items }
-    requires leaves { All (λ s. HasContainers (leaves_in (structures_in tree.now.items)) (table_leaves table) (graph_at s)) scopes.now }
+    requires leaves { All (λ s. HasContainers (leaves_in (structures_in tree.now.items)) (table_leaves table)
+        (graph_at s)) scopes.now }
     ensures built { IfOk result (λ judged. IfOk judged (AreBuilt earlier.now tree.now.items)) }
-    ensures first { IsIndexed earlier.now → IfOk result (λ judged. IsFirstBroken (from_callees earlier.now.library tree.now.items) (fault_in judged)) }
+    ensures first { IsIndexed earlier.now → IfOk result
+        (λ judged. IsFirstBroken (from_callees earlier.now.library tree.now.items) (fault_in judged)) }
 {
     let known = Known::new(alloc, tree, earlier)?;
     if let Some(fault) = first_of_callees(&known, tree, &table, scopes) {
@@ -213,7 +219,8 @@ fn read_and_built<'a>(
     requires named { All (λ s. AreNamesApart s.elements.now) scopes.now }
     requires connected { All (λ s. IsConnected s.elements.now) scopes.now }
     ensures built { IfOk result (λ judged. IfOk judged (AreBuilt earlier.now tree.now.items)) }
-    ensures first { IsIndexed earlier.now → IfOk result (λ judged. IsFirstBroken (from_leaves earlier.now.library tree.now.items) (fault_in judged)) }
+    ensures first { IsIndexed earlier.now → IfOk result
+        (λ judged. IsFirstBroken (from_leaves earlier.now.library tree.now.items) (fault_in judged)) }
 {
     let table = LeafTable::new(alloc, structures)?;
     if let Some(fault) = first_of_leaves(tree, &table, scopes) {
@@ -239,7 +246,8 @@ fn connected_and_built<'a>(
     requires covered { All (λ p. IsCovered (lists_of scopes.now) p.elements) (processes_in tree.now.items) }
     requires named { All (λ s. AreNamesApart s.elements.now) scopes.now }
     ensures built { IfOk result (λ judged. IfOk judged (AreBuilt earlier.now tree.now.items)) }
-    ensures first { IsIndexed earlier.now → IfOk result (λ judged. IsFirstBroken (from_connectors earlier.now.library tree.now.items) (fault_in judged)) }
+    ensures first { IsIndexed earlier.now → IfOk result
+        (λ judged. IsFirstBroken (from_connectors earlier.now.library tree.now.items) (fault_in judged)) }
 {
     match first_of_connectors(alloc, tree, scopes)? {
         Some(fault) => Ok(Err(fault)),
@@ -250,7 +258,8 @@ fn connected_and_built<'a>(
 /// What a tree adds to the library, or the first rule from 4 on that it breaks.
 fn compile_tree(alloc: Global, tree: &Tree, earlier: &Catalog) -> Result<Judged, AllocError>
     ensures built { IfOk result (λ judged. IfOk judged (AreBuilt earlier.now tree.now.items)) }
-    ensures first { IsIndexed earlier.now → IfOk result (λ judged. IsFirstBroken (later_rules earlier.now.library tree.now.items) (fault_in judged)) }
+    ensures first { IsIndexed earlier.now → IfOk result
+        (λ judged. IsFirstBroken (later_rules earlier.now.library tree.now.items) (fault_in judged)) }
 {
     let scopes = text_scopes(alloc, tree)?;
     let mut structures = Structures::new(alloc, tree)?;

@@ -11,9 +11,12 @@ ghost use Rattle.process_rules.specs.Doers.{NamesNoPerformer};
 ghost use Rattle.process_rules.specs.Imports.{IsIndexed};
 ghost use Rattle.process_rules.specs.Knowing.{ArePeople, IsKnowing};
 ghost use Rattle.process_rules.specs.Shapes.{shapes_of, told_shape};
-ghost use Rattle.template_check.specs.Rules.{rules_on_names, rules_on_structures, rules_on_connectors, rules_on_leaves, rules_on_lines, rules_on_callees, rules_on_people, rules_on_sizes, rules_on_counts, IsFirstBroken};
+ghost use Rattle.template_check.specs.Rules.{rules_on_names, rules_on_structures, rules_on_connectors, rules_on_leaves};
+ghost use Rattle.template_check.specs.Rules.{rules_on_lines, rules_on_callees, rules_on_people, rules_on_sizes};
+ghost use Rattle.template_check.specs.Rules.{rules_on_counts, IsFirstBroken};
 ghost use Rattle.text_graphs.specs.Graphs.{graph_at, graphs_in, AreGraphsOf, InGraphs};
-ghost use Rattle.text_graphs.specs.Texts.{lines_in, people_in, processes_in, structures_in, AreNamesApart, IsConnected, IsLimited, IsLineAlong};
+ghost use Rattle.text_graphs.specs.Texts.{lines_in, people_in, processes_in, structures_in, AreNamesApart, IsConnected};
+ghost use Rattle.text_graphs.specs.Texts.{IsLimited, IsLineAlong};
 
 use connector_rules::{
     cycle, double_connector, empty_graph, otherwise, unknown_activity, unreachable_data,
@@ -63,8 +66,10 @@ pub fn first_of_structures<'a>(
 ) -> Result<Broken, AllocError>
     requires { behind structures.old.definitions.items ≡ structures_in tree.now.items }
     ensures kept { behind structures.new.definitions.items ≡ structures_in tree.now.items }
-    ensures counted { IfOk result (λ fault. fault ≡ None → AreCounted (behind structures.new.definitions.items) structures.new.counts.items) }
-    ensures ordered { IfOk result (λ fault. fault ≡ None → IsOrdered (behind structures.new.definitions.items) structures.new.order) }
+    ensures counted { IfOk result (λ fault. fault ≡ None
+        → AreCounted (behind structures.new.definitions.items) structures.new.counts.items) }
+    ensures ordered { IfOk result (λ fault. fault ≡ None
+        → IsOrdered (behind structures.new.definitions.items) structures.new.order) }
     ensures first { IfOk result (IsFirstBroken (rules_on_structures tree.now.items)) }
 {
     if let Some(place) = structures.cycle(alloc)? {
@@ -104,7 +109,8 @@ pub fn first_of_connectors(
 /// Rules 13 and 14.
 pub fn first_of_leaves<'a>(tree: &Tree, table: &LeafTable<'a>, scopes: &[Scope<'a>]) -> Broken
     requires graphs { AreGraphsOf tree.now.items (graphs_in scopes.now) }
-    requires leaves { All (λ s. HasContainers (leaves_in (structures_in tree.now.items)) (table_leaves table.now) (graph_at s)) scopes.now }
+    requires leaves { All (λ s. HasContainers (leaves_in (structures_in tree.now.items)) (table_leaves table.now)
+        (graph_at s)) scopes.now }
     ensures { IsFirstBroken (rules_on_leaves tree.now.items) result }
 {
     if let Some(place) = unknown_leaves(table, scopes) {
@@ -123,7 +129,8 @@ pub fn first_of_lines(
     scopes: &[Scope<'_>],
 ) -> Result<Broken, AllocError>
     requires { AreGraphsOf tree.now.items (graphs_in scopes.now) }
-    ensures along { IfOk result (λ fault. fault ≡ None → All (λ s. All (IsLineAlong s.elements.now) (lines_in s.elements.now)) scopes.now) }
+    ensures along { IfOk result (λ fault. fault ≡ None
+        → All (λ s. All (IsLineAlong s.elements.now) (lines_in s.elements.now)) scopes.now) }
     ensures first { IfOk result (IsFirstBroken (rules_on_lines tree.now.items)) }
 {
     if let Some(place) = otherwise(alloc, scopes)? {
@@ -143,9 +150,11 @@ pub fn first_of_callees<'a>(
     scopes: &[Scope<'a>],
 ) -> Broken
     requires graphs { AreGraphsOf tree.now.items (graphs_in scopes.now) }
-    requires leaves { All (λ s. HasContainers (leaves_in (structures_in tree.now.items)) (table_leaves table.now) (graph_at s)) scopes.now }
+    requires leaves { All (λ s. HasContainers (leaves_in (structures_in tree.now.items)) (table_leaves table.now)
+        (graph_at s)) scopes.now }
     requires knowing { IsKnowing known.now (processes_in tree.now.items) }
-    ensures { IsIndexed known.now.catalog.now → IsFirstBroken (rules_on_callees known.now.catalog.now.library tree.now.items) result }
+    ensures { IsIndexed known.now.catalog.now → IsFirstBroken
+        (rules_on_callees known.now.catalog.now.library tree.now.items) result }
 {
     if let Some(place) = unknown_processes(known, scopes) {
         return Some((17, place));
@@ -165,8 +174,10 @@ pub fn first_of_people<'a>(
 ) -> Result<Broken, AllocError>
     requires graphs { AreGraphsOf tree.now.items (graphs_in scopes.now) }
     requires people { ArePeople known.now (people_in tree.now.items) }
-    ensures performers { IfOk result (λ fault. fault ≡ None → (p : ℕ) → InGraphs tree.now.items NamesNoPerformer p → ⊥) }
-    ensures first { IsIndexed known.now.catalog.now → IfOk result (IsFirstBroken (rules_on_people known.now.catalog.now.library tree.now.items)) }
+    ensures performers { IfOk result (λ fault. fault ≡ None → (p : ℕ) → InGraphs tree.now.items NamesNoPerformer p
+        → ⊥) }
+    ensures first { IsIndexed known.now.catalog.now
+        → IfOk result (IsFirstBroken (rules_on_people known.now.catalog.now.library tree.now.items)) }
 {
     if let Some(place) = unknown_people(known, scopes) {
         return Ok(Some((19, place)));
@@ -180,8 +191,10 @@ pub fn first_of_people<'a>(
 /// Rules 21 and 22.
 pub fn first_of_sizes(known: &Known<'_>, tree: &Tree, shapes: &[Shape]) -> Broken
     requires knowing { IsKnowing known.now (processes_in tree.now.items) }
-    requires shapes { IsIndexed known.now.catalog.now → shapes.now ≡ map told_shape (shapes_of known.now.catalog.now.library (processes_in tree.now.items)) }
-    ensures { IsIndexed known.now.catalog.now → IsFirstBroken (rules_on_sizes known.now.catalog.now.library tree.now.items) result }
+    requires shapes { IsIndexed known.now.catalog.now
+        → shapes.now ≡ map told_shape (shapes_of known.now.catalog.now.library (processes_in tree.now.items)) }
+    ensures { IsIndexed known.now.catalog.now → IsFirstBroken
+        (rules_on_sizes known.now.catalog.now.library tree.now.items) result }
 {
     if let Some(place) = deep_processes(known, shapes) {
         return Some((21, place));

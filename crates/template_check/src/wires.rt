@@ -1,5 +1,6 @@
 //! Where the lines of a graph lead, by the places of its activities.
-ghost use Rattle.std.specs.Prelude.{◌≡◌, ◌<◌, ◌==◌, ◌++◌, ◌∷◌, [], length, replicate, slice_set, slice_index_or, IfOk, OnOk};
+ghost use Rattle.std.specs.Prelude.{◌≡◌, ◌<◌, ◌==◌, ◌++◌, ◌∷◌, [], length, replicate, slice_set, slice_index_or, IfOk};
+ghost use Rattle.std.specs.Prelude.{OnOk};
 ghost use Rattle.std.specs.List.{All};
 ghost use Rattle.flow_model.specs.ScopeContainers.{same_end};
 ghost use Rattle.flow_model.specs.Wiring.{places};
@@ -40,7 +41,8 @@ impl Rows {
     /// Adds a place to the row of an activity. A place of more than 32 bits has no room.
     fn add(&mut self, activity: u32, place: usize) -> Result<(), AllocError>
         requires { activity < length self.old }
-        ensures { OnOk result (self.new ≡ slice_set self.old activity (slice_index_or self.old activity [] ++ place ∷ [])) }
+        ensures { OnOk result (self.new ≡ slice_set self.old activity
+            (slice_index_or self.old activity [] ++ place ∷ [])) }
     {
         let place = narrow(place)?;
         let row = &mut self.rows[activity as usize];

@@ -1,5 +1,6 @@
 -- The library of the imports, and what an import adds to it.
-use Rattle.std.specs.Prelude.{◌≡◌, ℕ, ◌==◌, ◌^◌, ◌≤◌, ◌&&◌, Bool, true, false, Result, Ok, Err, Option, List, ◌++◌, length, position, bytes_eq}
+use Rattle.std.specs.Prelude.{◌≡◌, ℕ, ◌==◌, ◌^◌, ◌≤◌, ◌&&◌, Bool, true, false, Result, Ok, Err, Option, List, ◌++◌}
+use Rattle.std.specs.Prelude.{length, position, bytes_eq}
 use Rattle.flow_model.specs.declared.graphs.Library.{Library}
 use Rattle.template_check.specs.Compiling.{HasPeopleOf, IsNamedBy, IsMeantBy}
 use Rattle.process_rules.specs.Imports.{IsIndexed}
@@ -14,9 +15,14 @@ version_place library name version = position (λ t. t.version == version && byt
 
 -- the library with what a text compiled to behind it
 abbrev pub with_compiled : Library → Compiled → Library
-with_compiled library added = record { templates = library.templates ++ added.templates; people = library.people ++ added.people }
+with_compiled library added = record {
+  templates = library.templates ++ added.templates;
+  people = library.people
+      ++ added.people;
+}
 
--- A library gets what a text compiles to behind what it has: the templates of its processes, named as these, whose graphs
+-- A library gets what a text compiles to behind what it has: the templates of its processes, named as these, whose
+-- graphs
 -- are what the text means, where its names are looked up in it and then in the library before, with their versions,
 -- depths and sizes; and the persons that it declares.
 pub record AddsText (text : List ℕ) (old : Catalog) (new : Library) : Type 0 where

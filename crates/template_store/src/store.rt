@@ -1,5 +1,6 @@
 //! The imports so far.
-ghost use Rattle.std.specs.Prelude.{◌≡◌, ◌-◌, ◌^◌, ◌<◌, ◌≤◌, ◌+◌, [], ◌++◌, min, length, slice_get, option_copied, Some, OnOk, IfOk, IfSome, ◌==◌, ◌&&◌, position, bytes_eq, true};
+ghost use Rattle.std.specs.Prelude.{◌≡◌, ◌-◌, ◌^◌, ◌<◌, ◌≤◌, ◌+◌, [], ◌++◌, min, length, slice_get, option_copied};
+ghost use Rattle.std.specs.Prelude.{Some, OnOk, IfOk, IfSome, ◌==◌, ◌&&◌, position, bytes_eq, true};
 ghost use Rattle.template_check.specs.Built.{AreSound, AreSoundBehind};
 ghost use Rattle.template_check.specs.Compiling.{HasPeopleOf, IsNamedBy, IsMeantBy};
 ghost use Rattle.template_check.specs.Judged.{IsJudged};
@@ -31,7 +32,8 @@ impl TemplateStore {
 
     /// What a text would add; `Rule` exactly where it breaks one, which is the first and its least place. Nothing is changed.
     pub fn check(&self, alloc: Global, text: &[u8]) -> Result<Compiled, ImportFault>
-        ensures sound { IfOk result (λ compiled. AreSoundBehind (length self.now.catalog.library.templates) compiled.templates) }
+        ensures sound { IfOk result (λ compiled. AreSoundBehind
+            (length self.now.catalog.library.templates) compiled.templates) }
         ensures named { IfOk result (λ compiled. IsNamedBy text.now compiled.templates) }
         ensures meant { IfOk result (λ compiled. IsMeantBy text.now self.now.catalog compiled.templates) }
         ensures people { IfOk result (λ compiled. HasPeopleOf text.now compiled.people) }
@@ -44,12 +46,14 @@ impl TemplateStore {
     /// Without memory, or where the library gets more elements than 32 bits tell apart, a part of them may have
     /// been added, the last one with no name that leads to it.
     pub fn import(&mut self, alloc: Global, text: &[u8]) -> Result<u32, ImportFault>
-        ensures added { IfOk result (λ count. (added : Added) × (count ≡ min (length added.templates) (2 ^ 32 - 1)) × (self.new.catalog.library ≡ with_compiled self.old.catalog.library added)) }
+        ensures added { IfOk result (λ count. (added : Added) × (count ≡ min (length added.templates) (2 ^ 32 - 1))
+            × (self.new.catalog.library ≡ with_compiled self.old.catalog.library added)) }
         ensures of_text { OnOk result (AddsText text.now self.old.catalog self.new.catalog.library) }
         ensures indexed { OnOk result (IsIndexed self.old.catalog → IsIndexed self.new.catalog) }
         ensures refused { is_refusal result ≡ true → self.new ≡ self.old }
         ensures judged { IsIndexed self.old.catalog → IsJudged self.old.catalog.library text.now result }
-        ensures sound { OnOk result (AreSound self.old.catalog.library.templates → AreSound self.new.catalog.library.templates) }
+        ensures sound { OnOk result (AreSound self.old.catalog.library.templates
+            → AreSound self.new.catalog.library.templates) }
     {
         let compiled = self.check(alloc, text)?;
         let count = self.add(alloc, compiled)?;
@@ -72,7 +76,8 @@ impl TemplateStore {
     /// Adds what a text compiled to; answers the number of processes.
     fn add(&mut self, alloc: Global, compiled: Compiled) -> Result<u32, AllocError>
         ensures indexed { OnOk result (KeepsIndex self.old.catalog self.new.catalog) }
-        ensures added { IfOk result (λ count. (count ≡ min (length compiled.templates) (2 ^ 32 - 1)) × (self.new.catalog.library ≡ with_compiled self.old.catalog.library compiled)) }
+        ensures added { IfOk result (λ count. (count ≡ min (length compiled.templates) (2 ^ 32 - 1))
+            × (self.new.catalog.library ≡ with_compiled self.old.catalog.library compiled)) }
     {
         let Compiled { templates, people } = compiled;
         let count = u32::try_from(templates.len()).unwrap_or(u32::MAX);
@@ -83,7 +88,12 @@ impl TemplateStore {
 
     fn add_templates(&mut self, alloc: Global, templates: Vec<Template>) -> Result<(), AllocError>
         ensures indexed { OnOk result (KeepsIndex self.old.catalog self.new.catalog) }
-        ensures added { OnOk result (self.new.catalog.library ≡ record { templates = self.old.catalog.library.templates ++ templates.items; people = self.old.catalog.library.people }) }
+        ensures added { OnOk result (self.new.catalog.library
+            ≡ record {
+              templates = self.old.catalog.library.templates
+                  ++ templates.items;
+              people = self.old.catalog.library.people;
+            }) }
     {
         for template in templates {
             self.catalog.add_template(alloc, template)?;
@@ -93,7 +103,12 @@ impl TemplateStore {
 
     fn add_people(&mut self, alloc: Global, people: Vec<PersonDef>) -> Result<(), AllocError>
         ensures indexed { OnOk result (KeepsIndex self.old.catalog self.new.catalog) }
-        ensures added { OnOk result (self.new.catalog.library ≡ record { templates = self.old.catalog.library.templates; people = self.old.catalog.library.people ++ people.items }) }
+        ensures added { OnOk result (self.new.catalog.library
+            ≡ record {
+              templates = self.old.catalog.library.templates;
+              people = self.old.catalog.library.people
+                  ++ people.items;
+            }) }
     {
         for person in people {
             self.catalog.add_person(alloc, person)?;
@@ -124,7 +139,8 @@ impl TemplateStore {
 
     /// The place of this version of a name; None exactly where there is none.
     pub fn version(&self, name: &Name, version: u32) -> Option<u32>
-        ensures exact { length self.now.catalog.library.templates ≤ 2 ^ 32 → result ≡ version_place self.now.catalog.library name.now version }
+        ensures exact { length self.now.catalog.library.templates ≤ 2 ^ 32
+            → result ≡ version_place self.now.catalog.library name.now version }
         ensures there { IfSome result (λ place. version_place self.now.catalog.library name.now version ≡ Some place) }
     {
         let templates = self.catalog.library().templates.as_slice();

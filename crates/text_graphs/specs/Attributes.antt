@@ -1,5 +1,6 @@
 -- What the attributes of an activity say: the first of each kind counts.
-use Rattle.std.specs.Prelude.{ℕ, ◌^◌, ◌-◌, min, nat_lt, if◌then◌else◌, Bool, false, Option, Some, None, unwrap_or, List, [], ◌∷◌}
+use Rattle.std.specs.Prelude.{ℕ, ◌^◌, ◌-◌, min, nat_lt, if◌then◌else◌, Bool, false, Option, Some, None, unwrap_or, List}
+use Rattle.std.specs.Prelude.{[], ◌∷◌}
 use Rattle.std.specs.List.{list_any}
 use Rattle.std.specs.Option.{option_map, option_or, option_and_then}
 use Rattle.flow_model.specs.declared.graphs.DoneBy.{DoneBy}
@@ -99,4 +100,9 @@ is_start_manual (attr.Performer name) = false
 
 -- a program activity with these attributes
 abbrev pub program_by : List ElementTree → List AttrAt → Program
-program_by elements attrs = record { manual = list_any (λ a. is_start_manual a.what) attrs; by = done_by elements attrs; expires = expires_by attrs }
+program_by elements attrs = record {
+  manual = list_any (λ a. is_start_manual a.what) attrs;
+  by =
+      done_by elements attrs;
+  expires = expires_by attrs;
+}

@@ -18,11 +18,13 @@ lists_of scopes = map (λ s. s.elements.now) scopes
 -- the blocks among the elements of a graph are listed, and those inside them, to this depth
 abbrev pub HasBlocks : List (List ElementTree) → ℕ → List ElementTree → Type 0
 HasBlocks lists zero elements = Unit {0}
-HasBlocks lists (suc depth) elements = All (λ a. (inner : List ElementTree) → IsBlockOf a inner → Contains lists inner × HasBlocks lists depth inner) (activities_in elements)
+HasBlocks lists (suc depth) elements = All (λ a. (inner : List ElementTree) → IsBlockOf a inner
+    → Contains lists inner × HasBlocks lists depth inner) (activities_in elements)
 
 -- if an activity is a block, its graph is listed with those inside
 abbrev pub IsListed : List (List ElementTree) → ActivityTree → Type 0
-IsListed lists a = (depth : ℕ) (inner : List ElementTree) → IsBlockOf a inner → Contains lists inner × HasBlocks lists depth inner
+IsListed lists a = (depth : ℕ) (inner : List ElementTree) → IsBlockOf a inner
+    → Contains lists inner × HasBlocks lists depth inner
 
 -- a graph and those inside it are listed
 abbrev pub IsCovered : List (List ElementTree) → List ElementTree → Type 0
@@ -35,4 +37,5 @@ Grows old new = (elements : List ElementTree) → Contains old elements → Cont
 -- a graph is sound, and so are those inside it, to this depth
 abbrev pub JudgedTo : ℕ → List ElementTree → Type 0
 JudgedTo zero elements = IsJudged elements
-JudgedTo (suc depth) elements = IsJudged elements × All (λ a. (inner : List ElementTree) → IsBlockOf a inner → JudgedTo depth inner) (activities_in elements)
+JudgedTo (suc depth) elements = IsJudged elements
+    × All (λ a. (inner : List ElementTree) → IsBlockOf a inner → JudgedTo depth inner) (activities_in elements)

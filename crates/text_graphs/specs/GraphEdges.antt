@@ -14,4 +14,5 @@ pub record AreEdgesOf (elements : List ElementTree) (edges : Edges) : Type 0 whe
 
 -- for each node that is known, from which nodes walks lead to it
 abbrev pub AreKnown : {S : Type 0} → Edges → HashMap ℕ (Vec Bool) S → Type 0
-AreKnown edges known = (to : ℕ) (seen : Vec Bool) → get nat_eq known to ≡ Some seen → to < edges.nodes → AreReaching edges.nodes edges.pairs.items to seen.items
+AreKnown edges known = (to : ℕ) (seen : Vec Bool) → get nat_eq known to ≡ Some seen → to < edges.nodes
+    → AreReaching edges.nodes edges.pairs.items to seen.items

@@ -14,12 +14,30 @@ pub record GraphText : Type 0 where
 
 -- of the graph that a scope is
 abbrev pub text_of : Scope → GraphText
-text_of scope = record { process = scope.process; input = scope.input.now.name; output = scope.output.now.name; elements = scope.elements.now }
+text_of scope = record {
+  process = scope.process;
+  input = scope.input.now.name;
+  output =
+      scope.output.now.name;
+  elements = scope.elements.now;
+}
 
 -- of a process
 abbrev pub process_text : ℕ → ProcessTree → GraphText
-process_text number process = record { process = number; input = process.input.name; output = process.output.name; elements = process.elements }
+process_text number process = record {
+  process = number;
+  input = process.input.name;
+  output =
+      process.output.name;
+  elements = process.elements;
+}
 
 -- of a block with these elements
 abbrev pub block_text : ℕ → ActivityTree → List ElementTree → GraphText
-block_text number activity elements = record { process = number; input = activity.input.name; output = activity.output.name; elements = elements }
+block_text number activity elements = record {
+  process = number;
+  input = activity.input.name;
+  output =
+      activity.output.name;
+  elements = elements;
+}

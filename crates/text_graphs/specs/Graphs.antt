@@ -10,7 +10,8 @@ use Rattle.text_graphs.specs.Blocks.{IsBlockOf}
 use Rattle.text_graphs.specs.Texts.{activities_in, processes_in}
 use Rattle.text_graphs.specs.declared.scopes.Scope.{Scope}
 
--- a graph of a text: the number of its process, the place of its word PROCESS or BLOCK, the names of its structures, and its elements
+-- a graph of a text: the number of its process, the place of its word PROCESS or BLOCK, the names of its structures,
+-- and its elements
 pub record GraphAt : Type 0 where
   pub process : ℕ
   pub place : ℕ
@@ -20,22 +21,45 @@ pub record GraphAt : Type 0 where
 
 -- the graph that a scope is
 abbrev pub graph_at : Scope → GraphAt
-graph_at s = record { process = s.process; place = s.place; input = s.input.now; output = s.output.now; elements = s.elements.now }
+graph_at s = record {
+  process = s.process;
+  place = s.place;
+  input = s.input.now;
+  output = s.output.now;
+  elements =
+      s.elements.now;
+}
 
 -- ---- which graphs a text has
 
 -- the graph of a block with these elements, in the process of this number
 abbrev pub block_at : ℕ → ActivityTree → List ElementTree → GraphAt
-block_at number a elements = record { process = number; place = a.place; input = a.input; output = a.output; elements = elements }
+block_at number a elements = record {
+  process = number;
+  place = a.place;
+  input = a.input;
+  output = a.output;
+  elements =
+      elements;
+}
 
 -- the graph of the process of this number
 abbrev pub process_at : ℕ → ProcessTree → GraphAt
-process_at number p = record { process = number; place = p.place; input = p.input; output = p.output; elements = p.elements }
+process_at number p = record {
+  process = number;
+  place = p.place;
+  input = p.input;
+  output = p.output;
+  elements =
+      p.elements;
+}
 
 -- a graph is that of a block, or of one inside it
 pub data IsGraphIn (number : ℕ) (g : GraphAt) : ActivityTree → Type 0 where
-  Itself : {a : ActivityTree} (elements : List ElementTree) → IsBlockOf a elements → g ≡ block_at number a elements → IsGraphIn number g a
-  Deeper : {a : ActivityTree} (elements : List ElementTree) (b : ActivityTree) → IsBlockOf a elements → Contains (activities_in elements) b → IsGraphIn number g b → IsGraphIn number g a
+  Itself : {a : ActivityTree} (elements : List ElementTree) → IsBlockOf a elements → g ≡ block_at number a elements
+      → IsGraphIn number g a
+  Deeper : {a : ActivityTree} (elements : List ElementTree) (b : ActivityTree) → IsBlockOf a elements
+      → Contains (activities_in elements) b → IsGraphIn number g b → IsGraphIn number g a
 
 -- of a block among these elements, or inside one
 abbrev pub IsGraphInside : ℕ → List ElementTree → GraphAt → Type 0
@@ -47,7 +71,8 @@ IsGraphOfProcess number p g = (g ≡ process_at number p) ⊎ IsGraphInside numb
 
 -- of one of these processes, by its number
 abbrev pub IsGraphAmong : List ProcessTree → GraphAt → Type 0
-IsGraphAmong processes g = (number : ℕ) × (p : ProcessTree) × (slice_get processes number ≡ Some p) × IsGraphOfProcess number p g
+IsGraphAmong processes g = (number : ℕ) × (p : ProcessTree) × (slice_get processes number ≡ Some p)
+    × IsGraphOfProcess number p g
 
 -- a graph of a text
 abbrev pub IsGraphOf : List ItemTree → GraphAt → Type 0

@@ -11,5 +11,6 @@ IsAgainAt before name p = (before.name ≡ name.name) × (name.place ≡ p)
 
 -- these names were met, and the least place of one that came again is known
 pub record AreMet (repeats : Repeats) (names : List NameAt) : Type 0 where
-  pub known : (name : List ℕ) → list_any (λ k. bytes_eq name k.now) repeats.met.keys ≡ list_any (λ n. bytes_eq name n.name) names
+  pub known : (name : List ℕ) → list_any (λ k. bytes_eq name k.now) repeats.met.keys
+      ≡ list_any (λ n. bytes_eq name n.name) names
   pub least : IsLeastOf (PairAt IsAgainAt names) repeats.first

@@ -1,6 +1,8 @@
--- What the text of a graph says: its activities, connectors and data lines, the activities that names stand for, and which graphs stand in it.
+-- What the text of a graph says: its activities, connectors and data lines, the activities that names stand for, and
+-- which graphs stand in it.
 use Rattle.std.specs.Borrow.{Bor}
-use Rattle.std.specs.Prelude.{◌≡◌, ℕ, ◌+◌, ◌<◌, ◌≤◌, Bool, if◌then◌else◌, Option, Some, None, List, [], ◌∷◌, bytes_eq, length, map, slice_get}
+use Rattle.std.specs.Prelude.{◌≡◌, ℕ, ◌+◌, ◌<◌, ◌≤◌, Bool, if◌then◌else◌, Option, Some, None, List, [], ◌∷◌, bytes_eq}
+use Rattle.std.specs.Prelude.{length, map, slice_get}
 use Rattle.std.specs.List.{All, AllPairs, filter_map}
 use Rattle.std.specs.Option.{option_map, option_and_then}
 use Rattle.std.specs.HashMap as hash
@@ -24,7 +26,8 @@ use Rattle.text_graphs.specs.ClosedWalks.{IsAcyclic}
 
 -- the activity that an element is
 abbrev pub activity_of : ElementTree → Option ActivityTree
-activity_of (Activity' place work name input output attrs end) = Some (record { place = place; work = work; name = name; input = input; output = output; attrs = attrs; end = end })
+activity_of (Activity' place work name input output attrs end) = Some
+    (record { place = place; work = work; name = name; input = input; output = output; attrs = attrs; end = end })
 activity_of (Control c) = None
 activity_of (Line l) = None
 
@@ -93,7 +96,8 @@ first_place test (x ∷ xs) = if test x then Some 0 else option_map (λ place. p
 
 -- names lead to the first activity of each
 abbrev pub AreNumbered : {S : Type 0} → List ActivityTree → HashMap (Bor (List ℕ)) ℕ S → Type 0
-AreNumbered activities numbers = (key : List ℕ) → hash.get_by (λ k. bytes_eq key k.now) numbers ≡ first_place (λ a. bytes_eq a.name.name key) activities
+AreNumbered activities numbers = (key : List ℕ)
+    → hash.get_by (λ k. bytes_eq key k.now) numbers ≡ first_place (λ a. bytes_eq a.name.name key) activities
 
 -- the first activity of a name
 abbrev pub number_in : List ElementTree → List ℕ → Option ℕ
@@ -101,7 +105,8 @@ number_in elements name = first_place (λ a. bytes_eq a.name.name name) (activit
 
 -- the activity of a name
 abbrev pub activity_named : List ElementTree → List ℕ → Option ActivityTree
-activity_named elements name = option_and_then (λ place. slice_get (activities_in elements) place) (number_in elements name)
+activity_named elements name = option_and_then (λ place. slice_get (activities_in elements) place)
+    (number_in elements name)
 
 -- two numbers, where both are there
 abbrev pub pair_of : Option ℕ → Option ℕ → Option (ℕ × ℕ)

@@ -1,5 +1,6 @@
 //! The connectors of a graph as pairs of numbers.
-ghost use Rattle.std.specs.Prelude.{◌≡◌, ◌<◌, ◌++◌, ◌∷◌, [], IfOk, OnOk, MatchOption, slice_index_or, slice_set, length, replicate, false, true};
+ghost use Rattle.std.specs.Prelude.{◌≡◌, ◌<◌, ◌++◌, ◌∷◌, [], IfOk, OnOk, MatchOption, slice_index_or, slice_set};
+ghost use Rattle.std.specs.Prelude.{length, replicate, false, true};
 ghost use Rattle.graph_check.specs.Components.{AreComponents};
 ghost use Rattle.graph_check.specs.Spreading.{AreReaching};
 ghost use Rattle.graph_check.specs.Walks.{AreNodes, IsOrder};
@@ -52,7 +53,8 @@ impl Edges {
     /// Adds an edge, where both ends are nodes.
     pub fn add(&mut self, from: u32, to: u32) -> Result<(), AllocError>
         ensures nodes { self.new.nodes ≡ self.old.nodes }
-        ensures added { OnOk result (from < self.old.nodes → to < self.old.nodes → self.new.pairs.items ≡ self.old.pairs.items ++ (from, to) ∷ []) }
+        ensures added { OnOk result (from < self.old.nodes → to < self.old.nodes
+            → self.new.pairs.items ≡ self.old.pairs.items ++ (from, to) ∷ []) }
     {
         if from < self.nodes && to < self.nodes {
             self.pairs.push((from, to))?;
@@ -74,7 +76,8 @@ impl Edges {
 
     /// The nodes in an order in which each edge goes forward; None where a closed walk is there.
     pub fn order(&self, alloc: Global) -> Result<Option<List<u32>>, AllocError>
-        ensures { IfOk result (λ found. MatchOption found (IsCyclic self.now.pairs.items) (IsOrder self.now.nodes self.now.pairs.items)) }
+        ensures { IfOk result (λ found. MatchOption found (IsCyclic self.now.pairs.items)
+            (IsOrder self.now.nodes self.now.pairs.items)) }
     {
         match order(alloc, self.nodes, &self.pairs) {
             Ok(nodes) => Ok(Some(nodes)),
@@ -85,7 +88,8 @@ impl Edges {
 
     /// For each node, whether a walk of at least one edge leads from it to this one.
     pub fn reaching(&self, alloc: Global, to: u32) -> Result<Vec<bool>, AllocError>
-        ensures { IfOk result (λ seen. to < self.now.nodes → AreReaching self.now.nodes self.now.pairs.items to seen.items) }
+        ensures { IfOk result (λ seen. to < self.now.nodes
+            → AreReaching self.now.nodes self.now.pairs.items to seen.items) }
     {
         if to < self.nodes {
             reaching(alloc, self.nodes, &self.pairs, to)

@@ -39,7 +39,8 @@ impl<'a> Repeats<'a> {
 
     /// Meets a name.
     pub fn meet(&mut self, name: &'a NameAt) -> Result<(), AllocError>
-        ensures { OnOk result ((names : List NameAt) → AreMet self.old names → AreMet self.new (names ++ name.now ∷ [])) }
+        ensures { OnOk result ((names : List NameAt) → AreMet self.old names
+            → AreMet self.new (names ++ name.now ∷ [])) }
     {
         let (_place, is_new) = self.met.insert_full(name.name.as_slice())?;
         if !is_new {

@@ -1,6 +1,7 @@
 //! The graphs of a text: its processes, and the blocks in them.
 ghost use Rattle.std.specs.Prelude.{◌≡◌, ℕ, ◌<◌, ◌≤◌, map, bytes_eq, IfOk, OnOk, option_copied, length, slice_get};
-ghost use Rattle.text_graphs.specs.Texts.{activities_in, controls_in, lines_in, number_in, activity_named, pair_of, AreNumbered};
+ghost use Rattle.text_graphs.specs.Texts.{activities_in, controls_in, lines_in, number_in, activity_named, pair_of};
+ghost use Rattle.text_graphs.specs.Texts.{AreNumbered};
 ghost use Rattle.text_graphs.specs.GraphEdges.{AreEdgesOf};
 
 use crate::edges::Edges;
@@ -150,7 +151,8 @@ impl<'a> Scope<'a> {
 
     /// The numbers of the activities of two names, where both are known.
     pub fn ends(&self, from: &'a NameAt, to: &'a NameAt) -> Option<(u32, u32)>
-        ensures { result ≡ pair_of (number_in self.now.elements.now from.now.name) (number_in self.now.elements.now to.now.name) }
+        ensures { result ≡ pair_of (number_in self.now.elements.now from.now.name)
+            (number_in self.now.elements.now to.now.name) }
     {
         Some((self.number(from)?, self.number(to)?))
     }

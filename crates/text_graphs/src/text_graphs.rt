@@ -2,7 +2,8 @@
 ghost use Rattle.std.specs.Prelude.{◌≡◌, ℕ, map, IfOk, OnOk};
 ghost use Rattle.std.specs.List.{All};
 ghost use Rattle.text_graphs.specs.Blocks.{lists_of, HasBlocks, IsListed, IsCovered, Grows};
-ghost use Rattle.text_graphs.specs.Graphs.{graphs_in, AreAdded, AreGraphsOf, IsGraphIn, IsGraphInside, IsGraphOfProcess};
+ghost use Rattle.text_graphs.specs.Graphs.{graphs_in, AreAdded, AreGraphsOf, IsGraphIn, IsGraphInside};
+ghost use Rattle.text_graphs.specs.Graphs.{IsGraphOfProcess};
 ghost use Rattle.text_graphs.specs.Texts.{processes_in};
 
 use crate::scopes::{Scope, narrow};
@@ -19,7 +20,8 @@ fn add_block<'a>(
 ) -> Result<(), AllocError>
     ensures kept { OnOk result (Grows (lists_of scopes.old.items) (lists_of scopes.new.items)) }
     ensures listed { OnOk result (IsListed (lists_of scopes.new.items) activity.now) }
-    ensures added { OnOk result (AreAdded (graphs_in scopes.old.items) (graphs_in scopes.new.items) (λ g. IsGraphIn process g activity.now)) }
+    ensures added { OnOk result (AreAdded (graphs_in scopes.old.items) (graphs_in scopes.new.items)
+        (λ g. IsGraphIn process g activity.now)) }
 {
     match &activity.work {
         WorkTree::Program => Ok(()),
@@ -44,7 +46,8 @@ fn add_blocks<'a>(
 ) -> Result<(), AllocError>
     ensures kept { OnOk result (Grows (lists_of scopes.old.items) (lists_of scopes.new.items)) }
     ensures blocks { OnOk result ((depth : ℕ) → HasBlocks (lists_of scopes.new.items) depth elements.now) }
-    ensures added { OnOk result (AreAdded (graphs_in scopes.old.items) (graphs_in scopes.new.items) (IsGraphInside process elements.now)) }
+    ensures added { OnOk result (AreAdded (graphs_in scopes.old.items) (graphs_in scopes.new.items)
+        (IsGraphInside process elements.now)) }
 {
     for element in elements {
         match element {
@@ -80,7 +83,8 @@ fn add_process<'a>(
 ) -> Result<(), AllocError>
     ensures kept { OnOk result (Grows (lists_of scopes.old.items) (lists_of scopes.new.items)) }
     ensures covered { OnOk result (IsCovered (lists_of scopes.new.items) process.now.elements) }
-    ensures added { OnOk result (AreAdded (graphs_in scopes.old.items) (graphs_in scopes.new.items) (IsGraphOfProcess number process.now)) }
+    ensures added { OnOk result (AreAdded (graphs_in scopes.old.items) (graphs_in scopes.new.items)
+        (IsGraphOfProcess number process.now)) }
 {
     let number = narrow(number)?;
     let elements = process.elements.as_slice();
@@ -92,7 +96,8 @@ fn add_process<'a>(
 
 /// All graphs of a text, each before those inside it, in the order of the text.
 pub fn text_scopes<'a>(alloc: Global, tree: &'a Tree) -> Result<Vec<Scope<'a>>, AllocError>
-    ensures covered { IfOk result (λ scopes. All (λ p. IsCovered (lists_of scopes.items) p.elements) (processes_in tree.now.items)) }
+    ensures covered { IfOk result (λ scopes. All (λ p. IsCovered (lists_of scopes.items) p.elements)
+        (processes_in tree.now.items)) }
     ensures graphs { IfOk result (λ scopes. AreGraphsOf tree.now.items (graphs_in scopes.items)) }
 {
     let mut scopes = Vec::new(alloc);

@@ -1,5 +1,6 @@
 -- What the lines behind a text say in turn: completions of root 1, up to the first line that can't be accepted.
-use Rattle.std.specs.Prelude.{◌≡◌, ◌⊎◌, ℕ, ◌+◌, ◌-◌, ◌^◌, ◌≤◌, ◌<◌, min, Option, Some, None, Result, Ok, Err, List, [], ◌∷◌, ◌++◌, length, bytes_eq}
+use Rattle.std.specs.Prelude.{◌≡◌, ◌⊎◌, ℕ, ◌+◌, ◌-◌, ◌^◌, ◌≤◌, ◌<◌, min, Option, Some, None, Result, Ok, Err, List, []}
+use Rattle.std.specs.Prelude.{◌∷◌, ◌++◌, length, bytes_eq}
 use Rattle.std.specs.List.{All, find}
 use Rattle.std.specs.Option.{option_and_then}
 use Rattle.command_lang.specs.Reading.{AreLineTokens, SaysCompletion, IsOnlyCompletion, IsRefusal, RefusesFirst}
@@ -55,7 +56,8 @@ with_fault number fault s = record { facts = s.facts; lines = s.lines; fault = S
 
 -- ---- which item a line completes
 
--- the item that a target names: the attempt of an activity of the root scope that may be ready, or the path that is written
+-- the item that a target names: the attempt of an activity of the root scope that may be ready, or the path that is
+-- written
 abbrev pub NamesItem : List Fact → TargetOf → Option Path → Type 0
 NamesItem facts (target.Activity name) item = item ≡ Some (next_of name facts)
 NamesItem facts (target.Item token) item = WritesItem token item
@@ -90,17 +92,21 @@ program_at ts qs g = option_and_then (λ (a : Activity). if_program a a.work) (a
 abbrev pub AreSettings : Activity → Outcome → Result (List Setting) ℕ → Type 0
 AreSettings a o made = made ≡ outcome_by a.output o.rc o.settings
 
--- the item is completed with its settings; if a value is refused, the item counts with its first output, since only an item that is ready has its values judged
+-- the item is completed with its settings; if a value is refused, the item counts with its first output, since only an
+-- item that is ready has its values judged
 abbrev pub with_settings : ℕ → Path → Container → Result (List Setting) ℕ → Said → Said
-with_settings number item output (Ok settings) s = with_fact number (record { item = item; output = filled settings output }) s
+with_settings number item output (Ok settings) s = with_fact number
+    (record { item = item; output = filled settings output }) s
 with_settings number item output (Err place) s =
-    with_fact number (record { item = item; output = output }) (with_fault number (Value (min (place + 1) (2 ^ 32 - 1))) s)
+    with_fact number (record { item = item; output = output })
+    (with_fault number (Value (min (place + 1) (2 ^ 32 - 1))) s)
 
 -- what is said of an item, by the activity that it is of: it can't be ready where there is none
 abbrev pub SaysOf : ℕ → Outcome → Path → Option Activity → Said → Said → Type 0
 SaysOf number o item None old new = new ≡ with_fault number Target old
 SaysOf number o item (Some a) old new =
-    (made : Result (List Setting) ℕ) × AreSettings a o made × (new ≡ with_settings number item (fresh a.output) made old)
+    (made : Result (List Setting) ℕ) × AreSettings a o made
+    × (new ≡ with_settings number item (fresh a.output) made old)
 
 -- what is said of the item that a target names
 abbrev pub SaysItem : List Template → Graph → ℕ → Outcome → Option Path → Said → Said → Type 0
@@ -129,7 +135,8 @@ pub record IsCompletionLine (ts : List Template) (g : Graph) (line : Numbered) (
   pub one : IsOnlyCompletion line.line.items (Some completion)
   pub says : SaysIt ts g line.number completion old new
 
--- the line says no completion, and this is the place: of its first wrong byte, or of the first token that can't stand there
+-- the line says no completion, and this is the place: of its first wrong byte, or of the first token that can't stand
+-- there
 pub record IsWrongAt (line : List ℕ) (place : ℕ) : Type 0 where
   pub refused : IsRefusal line (WordAt place)
   pub none : IsOnlyCompletion line None

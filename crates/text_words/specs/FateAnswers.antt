@@ -1,5 +1,6 @@
 -- What the word `fate` answers.
-use Rattle.std.specs.Prelude.{◌≡◌, ℕ, ◌<◌, ◌-◌, ◌⊎◌, Option, Some, None, List, [], ◌∷◌, ◌++◌, bytes_eq, codes, length, slice_get, unwrap_or}
+use Rattle.std.specs.Prelude.{◌≡◌, ℕ, ◌<◌, ◌-◌, ◌⊎◌, Option, Some, None, List, [], ◌∷◌, ◌++◌, bytes_eq, codes, length}
+use Rattle.std.specs.Prelude.{slice_get, unwrap_or}
 use Rattle.std.specs.List.{flat_map}
 use Rattle.std.specs.Fmt.{decimal}
 use Rattle.flow_model.specs.Containers.{fresh}
@@ -49,13 +50,15 @@ output_text of (Some output) = complete_text of output
 
 -- the state and the number of rows, a line for each row, and the output of a root that is complete
 abbrev pub fates_text : Leaves → List FateRow → Option Container → List ℕ
-fates_text of rows output = codes "ok FATE " ++ state_word output ++ decimal (length rows) ++ 10 ∷ [] ++ flat_map row_text rows ++ output_text of output
+fates_text of rows output = codes "ok FATE " ++ state_word output ++ decimal (length rows) ++ 10 ∷ []
+    ++ flat_map row_text rows ++ output_text of output
 
 -- the fates of root 1 of a process by these completions
 abbrev pub fates_by : List Template → Graph → List Fact → List ℕ
 fates_by ts g facts =
     let input = fresh (out-Graph g).input in
-    fates_text (out-Graph g).output (fate_rows ts g 1 input (length facts) facts) (fate_output ts g input (length facts) facts)
+    fates_text (out-Graph g).output (fate_rows ts g 1 input (length facts) facts)
+    (fate_output ts g input (length facts) facts)
 
 -- the refusal of a line whose item could be ready
 abbrev pub RefusesLine : Answer → ℕ → LineFault → Type 0
@@ -77,7 +80,8 @@ pub record IsAccepted (answer : Answer) (ts : List Template) (g : Graph) (read :
 pub record IsNotReady (answer : Answer) (ts : List Template) (g : Graph) (read : Read) (n : ℕ) : Type 0 where
   pub within : n < length read.counted.facts.items
   pub before : AreReady ts g 1 (fresh (out-Graph g).input) read.counted.facts.items n
-  pub here : (f : Fact) → slice_get read.counted.facts.items n ≡ Some f → IsReadyBy ts g 1 (fresh (out-Graph g).input) read.counted.facts.items n f → ⊥
+  pub here : (f : Fact) → slice_get read.counted.facts.items n ≡ Some f
+      → IsReadyBy ts g 1 (fresh (out-Graph g).input) read.counted.facts.items n f → ⊥
   pub refuses : Refuses answer (codes "NOTREADY") (unwrap_or (slice_get read.lines.items n) 0 ∷ [])
 
 -- the answer to the completions that were read
@@ -89,23 +93,28 @@ pub record IsOfLast (answer : Answer) (ts : List Template) (last : Template) (re
   pub there : slice_get ts (length ts - 1) ≡ Some last
   pub answers : AnswersRead answer ts last.graph read
 
--- the answer over the processes of a text: there is none, or the last one is asked by exactly the completions that the lines behind it say
+-- the answer over the processes of a text: there is none, or the last one is asked by exactly the completions that the
+-- lines behind it say
 abbrev pub AnswersLibrary : Answer → List Template → List Numbered → Type 0
-AnswersLibrary answer ts behind = ((ts ≡ []) × Refuses answer (codes "PROCESS") []) ⊎ (last : Template) × (read : Read) × IsOfLast answer ts last read × IsRead ts last.graph behind read
+AnswersLibrary answer ts behind = ((ts ≡ []) × Refuses answer (codes "PROCESS") []) ⊎ (last : Template) × (read : Read)
+    × IsOfLast answer ts last read × IsRead ts last.graph behind read
 
 -- the number of the process that an activity in the process of this number runs by a name: it stands before in the text
 abbrev pub number_named : List ProcessTree → ℕ → List ℕ → Option ℕ
 number_named processes number name = before_this number (last_place (λ p. bytes_eq p.name.name name) processes)
 
--- the graphs of these templates are what a text means behind an empty library: there is one reading of its names, the same
--- for all its processes, by which each is meant; its leaves are those of the structures, and a process stands at the place of
+-- the graphs of these templates are what a text means behind an empty library: there is one reading of its names, the
+-- same
+-- for all its processes, by which each is meant; its leaves are those of the structures, and a process stands at the
+-- place of
 -- its number
 pub record IsMeantAlone (text : List ℕ) (ts : List Template) : Type 0 where
   pub tree : Tree
   pub has : HasTree text tree
   pub reading : Reading
   pub leaves : AreLeavesOf tree.items reading.leaves
-  pub places : (number : ℕ) (name : List ℕ) → reading.place number name ≡ number_named (processes_in tree.items) number name
+  pub places : (number : ℕ) (name : List ℕ) → reading.place number name
+      ≡ number_named (processes_in tree.items) number name
   pub meant : AreMeantFrom reading 0 (processes_in tree.items) ts
 
 -- the processes of a text, in order, by their names and with the graphs that the text means, each of them sound
@@ -115,7 +124,9 @@ pub record IsAnsweredBy (text : List ℕ) (answer : Answer) (ts : List Template)
   pub sound : AreSound ts
   pub answers : AnswersLibrary answer ts behind
 
--- the answer to a text that has an end: the refusal of the first rule that it breaks, or it breaks none, and this is the answer
+-- the answer to a text that has an end: the refusal of the first rule that it breaks, or it breaks none, and this is
+-- the answer
 -- over its processes
 abbrev pub AnswersText : List ℕ → Answer → List Numbered → Type 0
-AnswersText text answer behind = RefusesFirst text answer ⊎ (IsFaultless no_imports text × (ts : List Template) × IsAnsweredBy text answer ts behind)
+AnswersText text answer behind = RefusesFirst text answer
+    ⊎ (IsFaultless no_imports text × (ts : List Template) × IsAnsweredBy text answer ts behind)

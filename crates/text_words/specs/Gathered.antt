@@ -1,5 +1,6 @@
 -- What is gathered of the lines of an input.
-use Rattle.std.specs.Prelude.{◌≡◌, ℕ, ◌+◌, nat_le, Bool, true, false, ◌&&◌, ◌||◌, if◌then◌else◌, Option, Some, None, IfSome, List, [], ◌∷◌, ◌++◌, codes, length, map, bytes_eq}
+use Rattle.std.specs.Prelude.{◌≡◌, ℕ, ◌+◌, nat_le, Bool, true, false, ◌&&◌, ◌||◌, if◌then◌else◌, Option, Some, None}
+use Rattle.std.specs.Prelude.{IfSome, List, [], ◌∷◌, ◌++◌, codes, length, map, bytes_eq}
 use Rattle.std.specs.Global.{Vec}
 use Rattle.flow_io.specs.Inputs.{Input as LineInput, Served, PassedOver, AtEnd, inputs}
 use Rattle.flow_io.specs.declared.lines.Line.{Line}
@@ -7,7 +8,8 @@ use Rattle.flow_io.specs.declared.lines.Line.TheVariants.{Text, TooLong, Ended}
 use Rattle.text_words.specs.declared.input.Input.{Input}
 use Rattle.text_words.specs.declared.input.Numbered.{Numbered}
 
--- a text, whether its end came, the lines behind that with their numbers, and the number of the first line that is too long
+-- a text, whether its end came, the lines behind that with their numbers, and the number of the first line that is too
+-- long
 pub record Gathered : Type 0 where
   pub text : List ℕ
   pub is_ended : Bool
@@ -64,7 +66,13 @@ numbered line = (line.number, line.line.items)
 
 -- what an input keeps
 abbrev pub kept : Input → Gathered
-kept input = record { text = input.text.items; is_ended = input.is_ended; behind = map numbered input.behind.items; too_long = input.too_long }
+kept input = record {
+  text = input.text.items;
+  is_ended = input.is_ended;
+  behind =
+      map numbered input.behind.items;
+  too_long = input.too_long;
+}
 
 -- the input keeps what is gathered of the bytes of a source that tells them
 abbrev pub IsGathered : Bool → Option (List ℕ) → Input → Type 0

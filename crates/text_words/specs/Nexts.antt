@@ -19,7 +19,8 @@ AreSameNexts old new = (name : List ℕ) → next_in new name ≡ next_in old na
 
 -- one attempt more of a name, and the same of others
 abbrev pub CountsOne : {S : Type 0} → List ℕ → HashMap (Vec ℕ) ℕ S → HashMap (Vec ℕ) ℕ S → Type 0
-CountsOne name old new = (other : List ℕ) → next_in new other ≡ (if bytes_eq name other then min (next_in old name + 1) (2 ^ 64 - 1) else next_in old other)
+CountsOne name old new = (other : List ℕ) → next_in new other
+    ≡ (if bytes_eq name other then min (next_in old name + 1) (2 ^ 64 - 1) else next_in old other)
 
 -- one completion more
 abbrev pub CountsFact : {S : Type 0} → Fact → HashMap (Vec ℕ) ℕ S → HashMap (Vec ℕ) ℕ S → Type 0

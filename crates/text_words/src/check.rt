@@ -60,7 +60,8 @@ fn judged(alloc: Global, text: &[u8]) -> Result<Answer, AllocError>
 
 /// What `check` answers to an input.
 pub fn checked(alloc: Global, input: &Input) -> Result<Answer, AllocError>
-    ensures long { (line : ℕ) → input.now.too_long ≡ Some line → IfOk result (λ answer. Refuses answer (codes "LINE") (line ∷ [])) }
+    ensures long { (line : ℕ) → input.now.too_long ≡ Some line
+        → IfOk result (λ answer. Refuses answer (codes "LINE") (line ∷ [])) }
     ensures judged { input.now.too_long ≡ None → IfOk result (AnswersTree input.now.text.items) }
 {
     match input.too_long {

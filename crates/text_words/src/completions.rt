@@ -2,7 +2,9 @@
 ghost use Rattle.std.specs.Prelude.{◌≡◌, Some, IfOk, OnOk};
 ghost use Rattle.std.specs.Option.{option_copied};
 ghost use Rattle.text_words.specs.Attempts.{next_of};
-ghost use Rattle.text_words.specs.Completions.{said, unsaid, with_fact, with_fault, NamesItem, activity_of as named_in, activity_at as reached, program_at as program_reached, SaysOf, SaysItem, SaysIt, SaysLine, SaysBehind, IsRead};
+ghost use Rattle.text_words.specs.Completions.{said, unsaid, with_fact, with_fault, NamesItem, activity_of as named_in};
+ghost use Rattle.text_words.specs.Completions.{activity_at as reached, program_at as program_reached, SaysOf, SaysItem};
+ghost use Rattle.text_words.specs.Completions.{SaysIt, SaysLine, SaysBehind, IsRead};
 
 use crate::counted::Counted;
 use crate::input::Numbered;
@@ -157,7 +159,8 @@ impl Read {
         item: Option<Path>,
         outcome: &Outcome,
     ) -> Result<(), AllocError>
-        ensures { OnOk result (SaysItem library.now.templates graph.now line outcome.now item (said self.old) (said self.new)) }
+        ensures { OnOk result (SaysItem library.now.templates graph.now line outcome.now item (said self.old)
+            (said self.new)) }
     {
         let Some(item) = item else {
             self.stop(line, LineFault::Target);
@@ -181,7 +184,8 @@ impl Read {
         line: u64,
         completion: &Completion,
     ) -> Result<(), AllocError>
-        ensures { OnOk result (SaysIt library.now.templates graph.now line completion.now (said self.old) (said self.new)) }
+        ensures { OnOk result (SaysIt library.now.templates graph.now line completion.now (said self.old)
+            (said self.new)) }
     {
         let item = item_of(alloc, &self.counted, &completion.target)?;
         self.add_item(alloc, library, graph, line, item, &completion.outcome)
@@ -221,7 +225,8 @@ impl Read {
         graph: &Graph,
         numbered: &Numbered,
     ) -> Result<(), AllocError>
-        ensures { OnOk result (SaysBehind library.now.templates graph.now numbered.now self.old.fault (said self.old) (said self.new)) }
+        ensures { OnOk result (SaysBehind library.now.templates graph.now numbered.now self.old.fault (said self.old)
+            (said self.new)) }
     {
         match self.fault {
             Some(_) => Ok(()),

@@ -1,10 +1,12 @@
 //! The word `fate`: the fates of a root by the completions alone.
-ghost use Rattle.std.specs.Prelude.{◌≡◌, ◌-◌, ℕ, true, false, Some, None, [], ◌∷◌, ◌++◌, codes, length, slice_get, unwrap_or, IfOk, OnOk};
+ghost use Rattle.std.specs.Prelude.{◌≡◌, ◌-◌, ℕ, true, false, Some, None, [], ◌∷◌, ◌++◌, codes, length, slice_get};
+ghost use Rattle.std.specs.Prelude.{unwrap_or, IfOk, OnOk};
 ghost use Rattle.std.specs.List.{flat_map};
 ghost use Rattle.reply_text.specs.Replies.{row_text};
 ghost use Rattle.template_check.specs.Built.{AreSound};
 ghost use Rattle.text_words.specs.Answers.{Refuses, RefusesRule, Tells};
-ghost use Rattle.text_words.specs.FateAnswers.{state_word, counted, complete_text, output_text, fates_text, RefusesLine, TellsFates, IsOfLast, AnswersLibrary, AnswersText};
+ghost use Rattle.text_words.specs.FateAnswers.{state_word, counted, complete_text, output_text, fates_text};
+ghost use Rattle.text_words.specs.FateAnswers.{RefusesLine, TellsFates, IsOfLast, AnswersLibrary, AnswersText};
 ghost use Rattle.text_words.specs.Completions.{AreOfOne};
 
 use crate::check::{Answer, refusal, rule_refusal};
@@ -166,9 +168,12 @@ fn over_library(alloc: Global, library: &Library, input: &Input) -> Result<Answe
 
 /// What `fate` answers to an input.
 pub fn fated(alloc: Global, input: &Input) -> Result<Answer, AllocError>
-    ensures long { (line : ℕ) → input.now.too_long ≡ Some line → IfOk result (λ answer. Refuses answer (codes "LINE") (line ∷ [])) }
-    ensures unended { input.now.too_long ≡ None → input.now.is_ended ≡ false → IfOk result (λ answer. Refuses answer (codes "UNENDED") []) }
-    ensures judged { input.now.too_long ≡ None → input.now.is_ended ≡ true → IfOk result (λ answer. AnswersText input.now.text.items answer input.now.behind.items) }
+    ensures long { (line : ℕ) → input.now.too_long ≡ Some line
+        → IfOk result (λ answer. Refuses answer (codes "LINE") (line ∷ [])) }
+    ensures unended { input.now.too_long ≡ None → input.now.is_ended ≡ false
+        → IfOk result (λ answer. Refuses answer (codes "UNENDED") []) }
+    ensures judged { input.now.too_long ≡ None → input.now.is_ended ≡ true
+        → IfOk result (λ answer. AnswersText input.now.text.items answer input.now.behind.items) }
 {
     if let Some(line) = input.too_long {
         return refusal(alloc, b"LINE", &[line]);

@@ -1,7 +1,8 @@
 //! The inputs of `check` and `fate`, read to their end.
 ghost use Rattle.std.specs.Prelude.{◌≡◌, ◌≢◌, [], ◌∷◌, ◌++◌, map, IfOk, OnOk, MatchResult};
 ghost use Rattle.flow_io.specs.Told.{StopCause};
-ghost use Rattle.text_words.specs.Gathered.{kept, nothing, is_end, with_text, with_line, first_long, with_input, found_input, IsGathered, as_input, AreLines};
+ghost use Rattle.text_words.specs.Gathered.{kept, nothing, is_end, with_text, with_line, first_long, with_input};
+ghost use Rattle.text_words.specs.Gathered.{found_input, IsGathered, as_input, AreLines};
 ghost use Rattle.flow_io.specs.declared.lines.Line.TheVariants.{Ended as EndedLine};
 
 use flow_io::{IoStop, Line, Lines, Source};
@@ -51,7 +52,10 @@ impl Input {
 
     /// Adds a line to the text, as far as it is judged.
     fn add_text(&mut self, line: &[u8]) -> Result<(), AllocError>
-        ensures { OnOk result (kept self.new ≡ record (kept self.old) { text = with_text self.old.text.items line.now }) }
+        ensures { OnOk result (kept self.new ≡ record (kept self.old) {
+          text =
+              with_text self.old.text.items line.now;
+        }) }
     {
         if self.text.len() <= MOST_TEXT {
             self.text.extend_from_slice(line)?;
@@ -62,7 +66,10 @@ impl Input {
 
     /// Adds a line behind the end.
     fn add_behind(&mut self, alloc: Global, number: u64, line: &[u8]) -> Result<(), AllocError>
-        ensures { OnOk result (kept self.new ≡ record (kept self.old) { behind = (kept self.old).behind ++ (number, line.now) ∷ [] }) }
+        ensures { OnOk result (kept self.new ≡ record (kept self.old) {
+          behind = (kept self.old).behind
+              ++ (number, line.now) ∷ [];
+        }) }
     {
         self.behind.push(Numbered {
             number,
@@ -122,7 +129,8 @@ impl Input {
 
     /// Reads a source to its end. It stops as `Lines::next` does.
     pub fn read<S: Source>(alloc: Global, src: &mut S, has_end: bool) -> Result<Input, IoStop>
-        ensures cause { MatchResult result (λ _. S.faults src.new ≡ S.faults src.old) (StopCause (S.faults src.old) (S.faults src.new)) }
+        ensures cause { MatchResult result (λ _. S.faults src.new ≡ S.faults src.old)
+            (StopCause (S.faults src.old) (S.faults src.new)) }
         ensures gathered { IfOk result (IsGathered has_end (S.left src.old)) }
     {
         let mut input = Input::new(alloc);
@@ -144,7 +152,8 @@ type Kept = Vec<(Vec<u8>, bool)>;
 
 /// Keeps what was found as a line.
 fn keep(alloc: Global, kept: &mut Kept, found: Line, line: &[u8]) -> Result<(), AllocError>
-    ensures { OnOk result (found ≢ EndedLine → map as_input kept.new.items ≡ map as_input kept.old.items ++ found_input found line.now ∷ []) }
+    ensures { OnOk result (found ≢ EndedLine → map as_input kept.new.items
+        ≡ map as_input kept.old.items ++ found_input found line.now ∷ []) }
 {
     match found {
         Line::Text => kept.push((Vec::from_slice(alloc, line)?, false))?,
@@ -156,7 +165,8 @@ fn keep(alloc: Global, kept: &mut Kept, found: Line, line: &[u8]) -> Result<(), 
 
 /// The lines of a source to its end. It stops as `Lines::next` does.
 pub fn all_lines<S: Source>(alloc: Global, src: &mut S) -> Result<Kept, IoStop>
-    ensures cause { MatchResult result (λ _. S.faults src.new ≡ S.faults src.old) (StopCause (S.faults src.old) (S.faults src.new)) }
+    ensures cause { MatchResult result (λ _. S.faults src.new ≡ S.faults src.old)
+        (StopCause (S.faults src.old) (S.faults src.new)) }
     ensures lines { IfOk result (λ kept. AreLines (S.left src.old) kept.items) }
 {
     let mut kept = Vec::new(alloc);

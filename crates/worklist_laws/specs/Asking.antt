@@ -13,7 +13,8 @@ use Rattle.flow_model.specs.declared.graphs.Program.{Program}
 use Rattle.flow_model.specs.declared.graphs.Template.{Template}
 use Rattle.flow_model.specs.declared.instances.Mode.TheVariants as mode
 use Rattle.flow_model.specs.declared.transactions.Transaction.{Transaction}
-use Rattle.flow_model.specs.declared.transactions.Transaction.TheVariants.{Claim, Release, Transfer, Take, Restart, Delete}
+use Rattle.flow_model.specs.declared.transactions.Transaction.TheVariants.{Claim, Release, Transfer, Take, Restart}
+use Rattle.flow_model.specs.declared.transactions.Transaction.TheVariants.{Delete}
 use Rattle.navigator.specs.declared.instance.Instance.{Instance}
 
 -- a root, where it is live, is done or terminated

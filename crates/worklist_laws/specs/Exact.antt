@@ -19,7 +19,8 @@ use Rattle.worklist_laws.specs.Shelved.{open_line}
 
 -- a person holds the item of a line, or nobody does and the person is eligible
 abbrev pub may_see : PersonDef → ItemLine → Bool
-may_see person line = holds_it line.hold person.name || (is_free line.hold && is_eligible person line.program line.starter line.performer)
+may_see person line = holds_it line.hold person.name ||
+    (is_free line.hold && is_eligible person line.program line.starter line.performer)
 
 -- the item of a path is open and manual, the person may see it, and somebody holds it or not
 pub record IsForPerson (c : Core) (person : PersonDef) (path : Path) (held : Bool) : Type 0 where
@@ -30,7 +31,8 @@ pub record IsForPerson (c : Core) (person : PersonDef) (path : Path) (held : Boo
 
 -- these lines are exactly those items, by strictly rising rank
 pub record IsExact (c : Core) (person : PersonDef) (lines : List WorkLine) : Type 0 where
-  pub exactly : (path : Path) (held : Bool) → Contains lines (record { item = path; held = held }) ↔ IsForPerson c person path held
+  pub exactly : (path : Path) (held : Bool) → Contains lines (record { item = path; held = held })
+      ↔ IsForPerson c person path held
   pub ranks : List (List ℕ)
   pub ranked : map (λ line. rank_now c line.item) lines ≡ map Some ranks
   pub rising : IsStrictlySortedBy (slice_cmp nat_cmp) ranks
@@ -38,4 +40,5 @@ pub record IsExact (c : Core) (person : PersonDef) (lines : List WorkLine) : Typ
 -- a reply lists exactly those items of the person of a name, or refuses the name of nobody
 abbrev pub ListsExactly : Core → List ℕ → Option PersonDef → List ℕ → Type 0
 ListsExactly c name None text = text ≡ refusal_text (refused.Person name)
-ListsExactly c name (Some person) text = (lines : List WorkLine) × IsExact c person lines × (text ≡ worklist_text name lines)
+ListsExactly c name (Some person) text = (lines : List WorkLine) × IsExact c person lines
+    × (text ≡ worklist_text name lines)

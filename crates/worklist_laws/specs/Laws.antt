@@ -30,7 +30,8 @@ use Rattle.worklist_laws.specs.Shelved.{IsRightAndListed, IsShelved}
 abbrev pub RanksDiffer : Type 0
 RanksDiffer =
     (ts : List Template) (g : Graph) (s s' : ScopeState) (item item' : List Part) (e e' : Entry)
-    → entry_at ts item (stand g s) ≡ Some e → entry_at ts item' (stand g s') ≡ Some e' → rank_on ts item g ≡ rank_on ts item' g → item ≡ item'
+    → entry_at ts item (stand g s) ≡ Some e → entry_at ts item' (stand g s') ≡ Some e'
+    → rank_on ts item g ≡ rank_on ts item' g → item ≡ item'
 
 -- the worklists of a blank state hold exactly its open manual items: none
 abbrev pub BlankIsShelved : Type 0
@@ -39,12 +40,14 @@ BlankIsShelved = (c : Core) → IsBlank c → IsShelved c
 -- so they go on doing with each transaction that may be, where it does to the shelves what is said of it
 abbrev pub StaysShelved : Type 0
 StaysShelved =
-    (c c' : Core) (t : Transaction) (runs : ℕ → List Event) → IsRightState c runs → IsShelved c → Makes c t c' → Shelves c t c' → AsksOpen c t
+    (c c' : Core) (t : Transaction) (runs : ℕ → List Event) → IsRightState c runs → IsShelved c → Makes c t c'
+    → Shelves c t c' → AsksOpen c t
     → IsShelved c'
 
 -- a command that comes to a transaction has asked that its item is open
 abbrev pub VerdictsAskOpen : Type 0
-VerdictsAskOpen = (c : Core) (command : Command) (t : Transaction) → IsVerdict c command (Do t) → IsInOrder c → AsksOpen c t
+VerdictsAskOpen = (c : Core) (command : Command) (t : Transaction) → IsVerdict c command (Do t) → IsInOrder c
+    → AsksOpen c t
 
 -- and so has a record that is admitted
 abbrev pub AdmittedAskOpen : Type 0
@@ -59,14 +62,17 @@ pub record Lists (c : Core) (t : Transaction) (c' : Core) : Type 0 where
 -- the worklists hold exactly the open manual items along a history, after each of its transactions
 abbrev pub HistoriesStayShelved : Type 0
 HistoriesStayShelved =
-    (states : ℕ → Core) (made : ℕ → Transaction) (runs : ℕ → List Event) (count : ℕ) → IsRightState (states 0) runs → IsShelved (states 0)
+    (states : ℕ → Core) (made : ℕ → Transaction) (runs : ℕ → List Event) (count : ℕ) → IsRightState (states 0) runs
+    → IsShelved (states 0)
     → ((n : ℕ) → n < count → Lists (states n) (made n) (states (suc n)))
     → (n : ℕ) → n ≤ count → IsShelved (states n)
 
 -- then the worklist of a person is exact
 abbrev pub WorklistsAreExact : Type 0
-WorklistsAreExact = (c : Core) (person : PersonDef) (lines : List WorkLine) → IsShelved c → IsWorklist c.worklists.shelves person lines → IsExact c person lines
+WorklistsAreExact = (c : Core) (person : PersonDef) (lines : List WorkLine) → IsShelved c
+    → IsWorklist c.worklists.shelves person lines → IsExact c person lines
 
 -- and what WORKLIST replies is exact, in each state that is right and listed
 abbrev pub RepliesAreExact : Type 0
-RepliesAreExact = (c : Core) (name text : List ℕ) → IsRightAndListed c → IsAnswer c (ask.Worklist name) text → ListsExactly c name (latest_person c.store.catalog.library name) text
+RepliesAreExact = (c : Core) (name text : List ℕ) → IsRightAndListed c → IsAnswer c (ask.Worklist name) text
+    → ListsExactly c name (latest_person c.store.catalog.library name) text

@@ -46,7 +46,8 @@ pub record StandsAt (ranks : Path → Option (List ℕ)) (w : Standing) (path : 
   pub there : (name : List ℕ) → w name rank ≡ listed_at (shelf_for line) name (listed_as path line)
 
 -- what is listed is a path that has a line, at the rank of that path
-pub record IsOfLine (lines : Path → Option ItemLine) (ranks : Path → Option (List ℕ)) (rank : List ℕ) (listed : Listed) : Type 0 where
+pub record IsOfLine (lines : Path → Option ItemLine) (ranks : Path → Option (List ℕ)) (rank : List ℕ)
+    (listed : Listed) : Type 0 where
   pub line : ItemLine
   pub has : lines listed.item ≡ Some line
   pub ranked : ranks listed.item ≡ Some rank
