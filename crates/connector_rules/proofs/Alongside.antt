@@ -1,13 +1,13 @@
 -- Data lines that go along walks, and those that do not.
-use Rattle.std.proofs.Common.{◌≡◌, ℕ, ◌<◌, Bool, List, Option, Some, None, Result, Ok, Err, refl, sym, subst, ◌∙◌, arith}
+use Rattle.std.proofs.Common.{◌≡◌, ℕ, Bool, List, Option, Some, None, refl, sym, ◌∙◌, arith}
 use Rattle.std.proofs.lemmas.Bool.{false≢true}
-use Rattle.std.specs.Prelude.{◌↔◌, IsTrue, IfOk, MatchBool, true, false}
+use Rattle.std.specs.Prelude.{◌↔◌, IsTrue, MatchBool, true, false}
 use Rattle.flow_model.specs.declared.trees.DataTree.{DataTree}
 use Rattle.flow_model.specs.declared.trees.ElementTree.{ElementTree}
 use Rattle.graph_check.specs.Walks.{Reaches}
 use Rattle.connector_rules.specs.Connectors.{IsUnreachable}
-use Rattle.text_graphs.specs.GraphEdges.{AreEdgesOf}
-use Rattle.text_graphs.specs.declared.edges.Edges.{Edges}
+use Rattle.connector_rules.specs.Walking.{AreWalksOf, IsWalkTold}
+use Rattle.connector_rules.specs.declared.walks.Walks.{Walks}
 use Rattle.text_graphs.specs.Places.{IsLeastOf}
 use Rattle.text_graphs.specs.Texts.{edges_in, line_edge, IsLineAlong}
 use Rattle.text_graphs.proofs.Judging.{same_pair, line_below}
@@ -22,13 +22,11 @@ module _ (elements : List ElementTree) (line : DataTree) where
   along_told a b some true tells = λ x y edge. let same = same_pair a b x y (sym some ∙ edge) in rw (← same.0, ← same.1) (tells.0 refl)
   along_told a b some false tells = record { ends = (a, b); known = some; apart = λ reach. false≢true (tells.1 reach); at = refl }
 
-  pub along_if_told : {E : Type 0} (edges : Edges) (a b : ℕ) (r : Result Bool E) → AreEdgesOf elements edges → line_edge elements line.ends ≡ Some (a, b)
-      → IfOk r (λ yes. a < edges.nodes → b < edges.nodes → IsTrue yes ↔ Reaches edges.pairs.items a b) → IfOk r (λ yes. MatchBool yes (IsLineAlong elements line) (IsUnreachable elements line line.place))
-  along_if_told edges a b (Ok leads) are some h =
+  pub along_if_told : (walks : Walks) (a b : ℕ) (leads : Bool) → AreWalksOf elements walks → line_edge elements line.ends ≡ Some (a, b)
+      → ((known : List ElementTree) → AreWalksOf known walks → IsWalkTold known a b leads) → MatchBool leads (IsLineAlong elements line) (IsUnreachable elements line line.place)
+  along_if_told walks a b leads are some told =
       let below = line_below elements line.ends a b some in
-      let nodes = are.nodes in
-      along_told a b some leads (subst (λ (es : List (ℕ × ℕ)). IsTrue leads ↔ Reaches es a b) are.pairs (h (omega (arith, nodes, below.0)) (omega (arith, nodes, below.1))))
-  along_if_told edges a b (Err e) are some h = h
+      along_told a b some leads (told elements are below.0 below.1)
 
   pub least_along : IsLineAlong elements line → IsLeastOf (IsUnreachable elements line) None
   least_along along p h = h.apart (along h.ends.0 h.ends.1 h.known)

@@ -1,5 +1,5 @@
 -- Rules 9 to 12, 15 and 16: connectors and data lines of a graph.
-use Rattle.std.specs.Prelude.{◌≡◌, ℕ, Option, Some, None, List, [], ◌⊎◌}
+use Rattle.std.specs.Prelude.{◌≡◌, ℕ, Bool, Option, Some, None, List, [], ◌⊎◌, MatchBool}
 use Rattle.std.specs.List.{Contains}
 use Rattle.flow_model.specs.declared.trees.ControlTree.{ControlTree}
 use Rattle.flow_model.specs.declared.trees.DataTree.{DataTree}
@@ -14,7 +14,7 @@ use Rattle.flow_model.specs.declared.trees.WhenTree.TheVariants.{Always, Cond, O
 use Rattle.graph_check.specs.Walks.{Reaches}
 use Rattle.text_graphs.specs.Graphs.{GraphAt}
 use Rattle.text_graphs.specs.Places.{AnyAt, PairAt}
-use Rattle.text_graphs.specs.Texts.{activities_in, controls_in, lines_in, edges_in, number_in, edge_of, line_edge}
+use Rattle.text_graphs.specs.Texts.{activities_in, controls_in, lines_in, edges_in, number_in, edge_of, line_edge, IsLineAlong}
 
 -- ---- rule 9
 
@@ -115,3 +115,7 @@ pub record IsUnreachable (elements : List ElementTree) (line : DataTree) (p : �
 -- of a data line of the graph
 abbrev pub IsUnreachableData : GraphAt → ℕ → Type 0
 IsUnreachableData g = AnyAt (IsUnreachable g.elements) (lines_in g.elements)
+
+-- of a data line it is told whether it goes along a walk; true of lines that are not between two activities
+abbrev pub IsLineTold : List ElementTree → DataTree → Bool → Type 0
+IsLineTold elements line told = MatchBool told (IsLineAlong elements line) (IsUnreachable elements line line.place)

@@ -1,3 +1,4 @@
 pub mod Connectors
 pub mod EdgesMet
 pub mod EdgesGrouped
+pub mod Walking

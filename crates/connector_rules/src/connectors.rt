@@ -1,22 +1,22 @@
 //! Rules 9 to 12 and 16: connectors and data lines as edges of their graph.
-ghost use Rattle.std.specs.Prelude.{◌≡◌, ◌<◌, ◌↔◌, ℕ, List, [], ◌∷◌, ◌++◌, None, IsTrue, MatchBool, IfOk, OnOk, length};
+ghost use Rattle.std.specs.Prelude.{◌≡◌, ◌<◌, List, [], ◌∷◌, ◌++◌, None, IfOk, OnOk, length};
 ghost use Rattle.std.specs.List.{All, Contains};
 ghost use Rattle.flow_model.specs.declared.trees.ControlTree.{ControlTree};
 ghost use Rattle.text_graphs.specs.Graphs.{graph_at};
-ghost use Rattle.connector_rules.specs.Connectors.{IsNobody, IsLoose, IsEndNobody, AreEndsNobody, NamesNobody, IsDouble, IsClosing, IsOnCycle, IsEmptyGraph, IsUnreachable, IsUnreachableData};
+ghost use Rattle.connector_rules.specs.Connectors.{IsNobody, IsLoose, IsEndNobody, AreEndsNobody, NamesNobody, IsDouble, IsClosing, IsOnCycle, IsEmptyGraph, IsUnreachable, IsUnreachableData, IsLineTold};
 ghost use Rattle.connector_rules.specs.EdgesMet.{AreEdgesMet};
 ghost use Rattle.text_graphs.specs.Places.{IsLeastOf, AnyAt};
-ghost use Rattle.graph_check.specs.Walks.{Reaches};
 ghost use Rattle.text_graphs.specs.ClosedWalks.{IsAcyclic};
-ghost use Rattle.text_graphs.specs.GraphEdges.{AreEdgesOf, AreKnown};
 ghost use Rattle.graph_check.specs.Components.{same_number};
 ghost use Rattle.connector_rules.specs.EdgesGrouped.{AreGroupsOf};
+ghost use Rattle.connector_rules.specs.Walking.{AreWalksOf};
 ghost use Rattle.text_graphs.specs.Texts.{controls_in, lines_in, edges_in, line_edge, IsLineAlong};
 
+use crate::walks::{Walks, groups};
 use flow_model::{ControlTree, DataTree, EndTree, EndsTree, NameAt};
-use indexmap::{IndexMap, IndexSet};
+use indexmap::IndexSet;
 use std::alloc::{AllocError, Global};
-use text_graphs::{Edges, Scope, is_marked, lesser};
+use text_graphs::{Scope, lesser};
 
 /// The place of a name that is no activity's of the graph.
 fn unknown<'a>(scope: &Scope<'a>, name: &'a NameAt) -> Option<u32>
@@ -172,14 +172,6 @@ fn closing<'a>(scope: &Scope<'a>, groups: &[u32], control: &'a ControlTree) -> O
     }
 }
 
-fn groups(alloc: Global, scope: &Scope<'_>) -> Result<Vec<u32>, AllocError>
-    ensures { IfOk result (λ groups. AreGroupsOf scope.now.elements.now groups.items) }
-{
-    let edges = scope.edges(alloc)?;
-    let groups = edges.components(alloc)?;
-    Ok(groups)
-}
-
 fn cycle_in_graph(alloc: Global, scope: &Scope<'_>) -> Result<Option<u32>, AllocError>
     ensures { IfOk result (IsLeastOf (IsOnCycle (graph_at scope.now))) }
 {
@@ -240,99 +232,42 @@ fn line_ends<'a>(scope: &Scope<'a>, ends: &'a EndsTree) -> Option<(u32, u32)>
     }
 }
 
-/// From which activities of a graph walks lead to others, as far as was asked.
-#[derive(Drop)]
-struct Walks {
-    edges: Edges,
-    known: IndexMap<u32, Vec<bool>>,
-}
-
-impl Walks {
-    fn new(alloc: Global, edges: Edges) -> Walks
-        ensures edges { result.edges ≡ edges }
-        ensures known { AreKnown result.edges result.known }
-    {
-        Walks {
-            edges,
-            known: IndexMap::new(alloc),
-        }
-    }
-
-    /// Looks for the walks to an activity, and says whether one leads there from another.
-    fn learn(&mut self, alloc: Global, from: u32, to: u32) -> Result<bool, AllocError>
-        requires { AreKnown self.old.edges self.old.known }
-        ensures edges { self.new.edges ≡ self.old.edges }
-        ensures known { OnOk result (AreKnown self.new.edges self.new.known) }
-        ensures leads { IfOk result (λ yes. from < self.old.edges.nodes → to < self.old.edges.nodes → IsTrue yes ↔ Reaches self.old.edges.pairs.items from to) }
-    {
-        let seen = self.edges.reaching(alloc, to)?;
-        let leads = is_marked(&seen, from);
-        self.known.insert(to, seen)?;
-        Ok(leads)
-    }
-
-    /// Whether a walk leads from one activity to another.
-    fn lead(&mut self, alloc: Global, from: u32, to: u32) -> Result<bool, AllocError>
-        requires { AreKnown self.old.edges self.old.known }
-        ensures edges { self.new.edges ≡ self.old.edges }
-        ensures known { OnOk result (AreKnown self.new.edges self.new.known) }
-        ensures leads { IfOk result (λ yes. from < self.old.edges.nodes → to < self.old.edges.nodes → IsTrue yes ↔ Reaches self.old.edges.pairs.items from to) }
-    {
-        match self.known.get(&to) {
-            Some(seen) => Ok(is_marked(seen, from)),
-            None => self.learn(alloc, from, to),
-        }
-    }
-
-    /// Whether a DATA line between two activities goes along a walk; true of other lines.
-    fn has_line<'a>(
-        &mut self,
-        alloc: Global,
-        scope: &Scope<'a>,
-        line: &'a DataTree,
-    ) -> Result<bool, AllocError>
-        requires edges { AreEdgesOf scope.now.elements.now self.old.edges }
-        requires known { AreKnown self.old.edges self.old.known }
-        ensures edges { self.new.edges ≡ self.old.edges }
-        ensures known { OnOk result (AreKnown self.new.edges self.new.known) }
-        ensures along { IfOk result (λ yes. MatchBool yes (IsLineAlong scope.now.elements.now line.now) (IsUnreachable scope.now.elements.now line.now line.now.place)) }
-    {
-        match line_ends(scope, &line.ends) {
-            None => Ok(true),
-            Some((from, to)) => self.lead(alloc, from, to),
-        }
-    }
-
-    /// The place of a DATA line between two activities that goes along no walk.
-    fn apart<'a>(
-        &mut self,
-        alloc: Global,
-        scope: &Scope<'a>,
-        line: &'a DataTree,
-    ) -> Result<Option<u32>, AllocError>
-        requires edges { AreEdgesOf scope.now.elements.now self.old.edges }
-        requires known { AreKnown self.old.edges self.old.known }
-        ensures edges { self.new.edges ≡ self.old.edges }
-        ensures known { OnOk result (AreKnown self.new.edges self.new.known) }
-        ensures least { IfOk result (IsLeastOf (IsUnreachable scope.now.elements.now line.now)) }
-        ensures along { IfOk result (λ place. place ≡ None → IsLineAlong scope.now.elements.now line.now) }
-    {
-        if self.has_line(alloc, scope, line)? {
-            Ok(None)
-        } else {
-            Ok(Some(line.place))
-        }
+/// Whether a DATA line between two activities goes along a walk; true of other lines.
+fn has_line<'a>(scope: &Scope<'a>, walks: &Walks, line: &'a DataTree) -> bool
+    requires { AreWalksOf scope.now.elements.now walks.now }
+    ensures { IsLineTold scope.now.elements.now line.now result }
+{
+    match line_ends(scope, &line.ends) {
+        None => true,
+        Some((from, to)) => walks.lead(from, to),
     }
 }
 
+/// The place of a DATA line between two activities that goes along no walk.
+fn apart<'a>(scope: &Scope<'a>, walks: &Walks, line: &'a DataTree) -> Option<u32>
+    requires { AreWalksOf scope.now.elements.now walks.now }
+    ensures least { IsLeastOf (IsUnreachable scope.now.elements.now line.now) result }
+    ensures along { result ≡ None → IsLineAlong scope.now.elements.now line.now }
+{
+    if has_line(scope, walks, line) {
+        None
+    } else {
+        Some(line.place)
+    }
+}
+
+/// Walks are looked for only where there are DATA lines.
 fn unreachable_in_graph(alloc: Global, scope: &Scope<'_>) -> Result<Option<u32>, AllocError>
     ensures least { IfOk result (IsLeastOf (IsUnreachableData (graph_at scope.now))) }
     ensures along { IfOk result (λ place. place ≡ None → All (IsLineAlong scope.now.elements.now) (lines_in scope.now.elements.now)) }
 {
-    let mut walks = Walks::new(alloc, scope.edges(alloc)?);
+    if scope.lines.is_empty() {
+        return Ok(None);
+    }
+    let walks = Walks::new(alloc, scope)?;
     let mut least = None;
     for line in &scope.lines {
-        least = lesser(least, walks.apart(alloc, scope, line)?);
+        least = lesser(least, apart(scope, &walks, line));
     }
     Ok(least)
 }

@@ -5,6 +5,8 @@
 
 mod connectors;
 mod otherwises;
+mod walks;
 
 pub use connectors::{cycle, double_connector, empty_graph, unknown_activity, unreachable_data};
 pub use otherwises::otherwise;
+pub use walks::Walks;
