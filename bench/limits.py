@@ -236,6 +236,17 @@ def data_far():
     return in_process(unit, head=NUMBER, container="N", before=before)
 
 
+def walks():
+    """4,000 activities with connectors to the three after them, each for the performer of a far one, and far data lines."""
+    count = scaled(4_000)
+    by = lambda i: f"DONE_BY PERFORMER OF 'A{i * i % 997 % i}' " if i else ""
+    before = "".join(activity(f"A{i}", f"START MANUAL {by(i)}", "N") for i in range(count))
+    before += "".join(f"CONTROL FROM 'A{i}' TO 'A{i + d}'\n" for d in (1, 2, 3) for i in range(count - d))
+    half = count // 2
+    unit = lambda i: f"DATA FROM 'A{i % half}' TO 'A{count - 1 - i * 7 % half}' MAP 'n' TO 'n'\n"
+    return in_process(unit, head=NUMBER, container="N", before=before)
+
+
 def data_maps():
     """Data lines with very many maps between 512 leaves."""
     head = "STRUCTURE 'N' 'n' : LONG (512) ; END 'N'\n"
@@ -446,7 +457,7 @@ class Row:
 
 TEXTS = [structures, members, structure_chain, structure_chain_used, structure_fan, structure_wide, persons, roles,
          comments, comment, blanks, activities, processes, connector_chain, connectors, cycles, otherwises, performers,
-         first_performers, data_chain, data_far, data_maps, data_map, conditions, long_conditions, nested_conditions,
+         first_performers, data_chain, data_far, walks, data_maps, data_map, conditions, long_conditions, nested_conditions,
          blocks, flat_blocks, calls, calls_of_wide, calls_of_alike, attributes, texts]
 FATES = [fate_attempts, fate_items, fate_blocks, fate_inner, fate_wide, fate_refused]
 SERVED = ["try", "LIMIT", "10000000"]
