@@ -1,6 +1,6 @@
 -- Which names are those of manual activities that lead to another one.
-use Rattle.std.proofs.Common.{◌≡◌, ℕ, ◌<◌, Bool, true, false, List, [], ◌∷◌, length, Some, refl, sym, subst, ◌∙◌, ⊎_elim, arith}
-use Rattle.std.specs.Prelude.{slice_index_or}
+use Rattle.std.proofs.Common.{◌≡◌, ℕ, zero, suc, ◌<◌, Bool, true, false, List, [], ◌∷◌, length, map, Option, Some, None, Bor, refl, sym, subst, ◌∙◌, ⊎_elim}
+use Rattle.std.specs.Prelude.{◌||◌, slice_get}
 use Rattle.std.specs.Bool.{Decides}
 use Rattle.std.specs.List.{list_any}
 use Rattle.std.proofs.lemmas.Bool.{or_left, or_right, both_ways}
@@ -9,26 +9,25 @@ use Rattle.flow_model.specs.declared.trees.AttrAt.{AttrAt}
 use Rattle.flow_model.specs.declared.trees.AttrTree.{AttrTree}
 use Rattle.flow_model.specs.declared.trees.AttrTree.TheVariants as attr
 use Rattle.flow_model.specs.declared.trees.ElementTree.{ElementTree}
-use Rattle.graph_check.specs.Spreading.{AreReaching}
+use Rattle.connector_rules.specs.Walking.{IsWalkTold}
 use Rattle.graph_check.specs.Walks.{Reaches}
 use Rattle.text_graphs.specs.Attributes.{is_start_manual}
-use Rattle.text_graphs.specs.GraphEdges.{AreEdgesOf}
 use Rattle.text_graphs.specs.Places.{AnyAt}
-use Rattle.text_graphs.specs.declared.edges.Edges.{Edges}
 use Rattle.text_graphs.specs.Texts.{activities_in, activity_named, edges_in, number_in}
 use Rattle.text_graphs.proofs.Naming.{first_below}
 use Rattle.process_rules.specs.Doers.{Leads, IsManual, IsNoPerformer, is_performer}
+use Rattle.process_rules.specs.Numbering.{NumberedAt}
 
 some_same : {X : Type 0} (a b : X) → Some a ≡ Some b → a ≡ b
 some_same a b e = cc
 
-pub decides_leads : (elements : List ElementTree) (name : List ℕ) (number to : ℕ) (seen : List Bool) (b : Bool) → Some number ≡ number_in elements name → b ≡ slice_index_or seen number false
-    → AreReaching (length (activities_in elements)) (edges_in elements) to seen → Decides b (Leads elements name to)
-decides_leads elements name number to seen b is tells reaching = (
-  λ yes. (number, sym is, reaching.reached number below (sym tells ∙ yes)),
+pub decides_leads : (elements : List ElementTree) (name : List ℕ) (number to : ℕ) (b : Bool) → Some number ≡ number_in elements name → to < length (activities_in elements)
+    → IsWalkTold elements number to b → Decides b (Leads elements name to)
+decides_leads elements name number to b is within told = (
+  λ yes. (number, sym is, (told below within).0 yes),
   λ leads.
       let same : leads.0 ≡ number = some_same leads.0 number (sym leads.1 ∙ sym is) in
-      tells ∙ reaching.found number below (subst (λ (n : ℕ). Reaches (edges_in elements) n to) same leads.2),
+      (told below within).1 (subst (λ (n : ℕ). Reaches (edges_in elements) n to) same leads.2),
 )
   where
     below : number < length (activities_in elements)
@@ -41,14 +40,6 @@ decides_manual elements name a b is tells = (
       let same : manual.0 ≡ a = some_same manual.0 a (sym manual.1 ∙ sym is) in
       tells ∙ subst (λ (x : ActivityTree). list_any (λ y. is_start_manual y.what) x.attrs ≡ true) same manual.2,
 )
-
--- the walks that were looked for are those of the graph
-pub reaching_here : (elements : List ElementTree) (edges : Edges) (to : ℕ) (found seen : List Bool) → AreEdgesOf elements edges → to < length (activities_in elements) → seen ≡ found
-    → (to < edges.nodes → AreReaching edges.nodes edges.pairs.items to found) → AreReaching (length (activities_in elements)) (edges_in elements) to seen
-reaching_here elements edges to found seen of less same h =
-    let here : AreReaching edges.nodes edges.pairs.items to found = h (let n = of.nodes in omega arith) in
-    subst (AreReaching (length (activities_in elements)) (edges_in elements) to) (sym same)
-    (subst (λ (es : List (ℕ × ℕ)). AreReaching (length (activities_in elements)) es to found) of.pairs (subst (λ (n : ℕ). AreReaching n edges.pairs.items to found) of.nodes here))
 
 -- where PERFORMER OF isn't said, no name is wrong
 none_wrong : (elements : List ElementTree) (to : ℕ) (what : AttrTree) (p : ℕ) → IsNoPerformer elements to what p → is_performer what ≡ true
@@ -69,5 +60,20 @@ some_said elements to (a ∷ attrs) p h =
     (λ there. or_right (is_performer a.what) (list_any (λ x. is_performer x.what) attrs) (some_said elements to attrs p there))
     h
 
-pub none_said : (elements : List ElementTree) (to : ℕ) (attrs : List AttrAt) → list_any (λ x. is_performer x.what) attrs ≡ false → (p : ℕ) → AnyAt (λ x. IsNoPerformer elements to x.what) attrs p → ⊥
+none_said : (elements : List ElementTree) (to : ℕ) (attrs : List AttrAt) → list_any (λ x. is_performer x.what) attrs ≡ false → (p : ℕ) → AnyAt (λ x. IsNoPerformer elements to x.what) attrs p → ⊥
 none_said elements to attrs none p h = both_ways (list_any (λ x. is_performer x.what) attrs) none (some_said elements to attrs p h)
+
+-- nor in a graph where no activity says it
+pub none_asked : (elements : List ElementTree) (items : List (Bor ActivityTree)) → list_any (λ a. list_any (λ x. is_performer x.what) a.now.attrs) items ≡ false → (p : ℕ)
+    → NumberedAt (λ number a. AnyAt (λ x. IsNoPerformer elements number x.what) a.attrs) (map (λ a. a.now) items) p → ⊥
+none_asked elements items none p h = none_said elements h.0 h.1.attrs (unsaid items h.0 h.1 none h.2) p h.3
+  where
+    neither : (a b : Bool) → (a || b) ≡ false → (a ≡ false) × (b ≡ false)
+    neither true b e = cc
+    neither false b e = (refl, e)
+
+    unsaid : (items : List (Bor ActivityTree)) (n : ℕ) (a : ActivityTree) → list_any (λ x. list_any (λ y. is_performer y.what) x.now.attrs) items ≡ false → slice_get (map (λ x. x.now) items) n ≡ Some a
+        → list_any (λ y. is_performer y.what) a.attrs ≡ false
+    unsaid [] n a none is = let e : ◌≡◌ {A = Option ActivityTree} None (Some a) = is in cc
+    unsaid (x ∷ items) zero a none is = subst (λ (z : ActivityTree). list_any (λ y. is_performer y.what) z.attrs ≡ false) (some_same x.now a is) (neither _ _ none).0
+    unsaid (x ∷ items) (suc n) a none is = unsaid items n a (neither _ _ none).1 is

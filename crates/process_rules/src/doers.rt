@@ -1,22 +1,22 @@
 //! Rules 19 and 20: the people and the activities that DONE_BY and PERFORMER OF name.
-ghost use Rattle.std.specs.Prelude.{◌≡◌, ◌<◌, ℕ, List, IfOk, length};
+ghost use Rattle.std.specs.Prelude.{◌≡◌, ◌<◌, List, IfOk, length};
 ghost use Rattle.std.specs.Bool.{Decides};
 ghost use Rattle.std.specs.List.{list_any};
 ghost use Rattle.flow_model.specs.declared.trees.PersonTree.{PersonTree};
-ghost use Rattle.graph_check.specs.Spreading.{AreReaching};
+ghost use Rattle.connector_rules.specs.Walking.{AreWalksOf};
 ghost use Rattle.process_rules.specs.Doers.{IsNoPerson, NamesNoPerson, is_person, Leads, IsManual, IsPerformer, IsWrongName, IsNoPerformer, NamesNoPerformer, is_performer};
 ghost use Rattle.process_rules.specs.Imports.{IsIndexed};
 ghost use Rattle.process_rules.specs.Knowing.{ArePeople};
 ghost use Rattle.text_graphs.specs.Attributes.{is_start_manual};
-ghost use Rattle.text_graphs.specs.GraphEdges.{AreEdgesOf};
 ghost use Rattle.text_graphs.specs.Graphs.{graph_at};
 ghost use Rattle.text_graphs.specs.Places.{IsLeastOf, AnyAt};
-ghost use Rattle.text_graphs.specs.Texts.{activities_in, edges_in};
+ghost use Rattle.text_graphs.specs.Texts.{activities_in};
 
 use crate::people::Known;
+use connector_rules::Walks;
 use flow_model::{ActivityTree, AttrTree, NameAt};
 use std::alloc::{AllocError, Global};
-use text_graphs::{Edges, Scope, is_marked, lesser, narrow};
+use text_graphs::{Scope, lesser, narrow};
 
 /// The place of the name of somebody who isn't known.
 fn unknown_name<'a>(known: &Known<'a>, what: &'a AttrTree) -> Option<u32>
@@ -98,13 +98,15 @@ fn starts_manual(what: &AttrTree) -> bool
     }
 }
 
-/// Whether the activity of a name is one of those that are marked.
-fn leads<'a>(scope: &Scope<'a>, name: &'a NameAt, leads_here: &[bool]) -> bool
-    ensures { (to : ℕ) → AreReaching (length (activities_in scope.now.elements.now)) (edges_in scope.now.elements.now) to leads_here.now → Decides result (Leads scope.now.elements.now name.now.name to) }
+/// Whether a walk leads from the activity of a name to that of a number.
+fn leads<'a>(scope: &Scope<'a>, walks: &Walks, name: &'a NameAt, to: u32) -> bool
+    requires walks { AreWalksOf scope.now.elements.now walks.now }
+    requires within { to < length (activities_in scope.now.elements.now) }
+    ensures { Decides result (Leads scope.now.elements.now name.now.name to) }
 {
     match scope.number(name) {
         None => false,
-        Some(number) => is_marked(leads_here, number),
+        Some(number) => walks.lead(number, to),
     }
 }
 
@@ -118,26 +120,37 @@ fn names_manual<'a>(scope: &Scope<'a>, name: &'a NameAt) -> bool
     }
 }
 
-/// Whether a name is a manual activity's that is marked.
-fn performs<'a>(scope: &Scope<'a>, name: &'a NameAt, leads_here: &[bool]) -> bool
-    ensures { (to : ℕ) → AreReaching (length (activities_in scope.now.elements.now)) (edges_in scope.now.elements.now) to leads_here.now → Decides result (IsPerformer scope.now.elements.now name.now.name to) }
+/// Whether a name is a manual activity's that leads to the one of a number.
+fn performs<'a>(scope: &Scope<'a>, walks: &Walks, name: &'a NameAt, to: u32) -> bool
+    requires walks { AreWalksOf scope.now.elements.now walks.now }
+    requires within { to < length (activities_in scope.now.elements.now) }
+    ensures { Decides result (IsPerformer scope.now.elements.now name.now.name to) }
 {
-    leads(scope, name, leads_here) && names_manual(scope, name)
+    leads(scope, walks, name, to) && names_manual(scope, name)
 }
 
-/// The place of the name of no manual activity that is marked.
-fn wrong_name<'a>(scope: &Scope<'a>, name: &'a NameAt, leads_here: &[bool]) -> Option<u32>
-    ensures { (to : ℕ) → AreReaching (length (activities_in scope.now.elements.now)) (edges_in scope.now.elements.now) to leads_here.now → IsLeastOf (IsWrongName scope.now.elements.now to name.now) result }
+/// The place of the name of no such activity.
+fn wrong_name<'a>(scope: &Scope<'a>, walks: &Walks, name: &'a NameAt, to: u32) -> Option<u32>
+    requires walks { AreWalksOf scope.now.elements.now walks.now }
+    requires within { to < length (activities_in scope.now.elements.now) }
+    ensures { IsLeastOf (IsWrongName scope.now.elements.now to name.now) result }
 {
-    if performs(scope, name, leads_here) {
+    if performs(scope, walks, name, to) {
         None
     } else {
         Some(name.place)
     }
 }
 
-fn wrong_in_attribute<'a>(scope: &Scope<'a>, what: &'a AttrTree, leads_here: &[bool]) -> Option<u32>
-    ensures { (to : ℕ) → AreReaching (length (activities_in scope.now.elements.now)) (edges_in scope.now.elements.now) to leads_here.now → IsLeastOf (IsNoPerformer scope.now.elements.now to what.now) result }
+fn wrong_in_attribute<'a>(
+    scope: &Scope<'a>,
+    walks: &Walks,
+    what: &'a AttrTree,
+    to: u32,
+) -> Option<u32>
+    requires walks { AreWalksOf scope.now.elements.now walks.now }
+    requires within { to < length (activities_in scope.now.elements.now) }
+    ensures { IsLeastOf (IsNoPerformer scope.now.elements.now to what.now) result }
 {
     match what {
         AttrTree::When(_) => None,
@@ -147,23 +160,24 @@ fn wrong_in_attribute<'a>(scope: &Scope<'a>, what: &'a AttrTree, leads_here: &[b
         AttrTree::Role(_) => None,
         AttrTree::Person(_) => None,
         AttrTree::Starter => None,
-        AttrTree::Performer(name) => wrong_name(scope, name, leads_here),
+        AttrTree::Performer(name) => wrong_name(scope, walks, name, to),
     }
 }
 
+/// The wrong names of the activity of a number.
 fn wrong_in_activity<'a>(
     scope: &Scope<'a>,
+    walks: &Walks,
     activity: &'a ActivityTree,
-    leads_here: &[bool],
+    to: u32,
 ) -> Option<u32>
-    ensures { (to : ℕ) → AreReaching (length (activities_in scope.now.elements.now)) (edges_in scope.now.elements.now) to leads_here.now → IsLeastOf (AnyAt (λ x. IsNoPerformer scope.now.elements.now to x.what) activity.now.attrs) result }
+    requires walks { AreWalksOf scope.now.elements.now walks.now }
+    requires within { to < length (activities_in scope.now.elements.now) }
+    ensures { IsLeastOf (AnyAt (λ x. IsNoPerformer scope.now.elements.now to x.what) activity.now.attrs) result }
 {
     let mut least = None;
     for attribute in activity.attrs.as_slice() {
-        least = lesser(
-            least,
-            wrong_in_attribute(scope, &attribute.what, leads_here),
-        );
+        least = lesser(least, wrong_in_attribute(scope, walks, &attribute.what, to));
     }
     least
 }
@@ -194,36 +208,41 @@ fn names_performer(activity: &ActivityTree) -> bool
     false
 }
 
-/// The wrong names of the activity of a number; walks are looked for only where one is named.
-fn wrong_performer<'a>(
-    alloc: Global,
-    scope: &Scope<'a>,
-    edges: &Edges,
-    number: u32,
-    activity: &'a ActivityTree,
-) -> Result<Option<u32>, AllocError>
-    requires edges { AreEdgesOf scope.now.elements.now edges.now }
-    requires within { number < length (activities_in scope.now.elements.now) }
-    ensures { IfOk result (IsLeastOf (AnyAt (λ x. IsNoPerformer scope.now.elements.now number x.what) activity.now.attrs)) }
+fn asks_performer(scope: &Scope<'_>) -> bool
+    ensures { result ≡ list_any (λ a. list_any (λ x. is_performer x.what) a.now.attrs) scope.now.activities.items }
 {
-    if names_performer(activity) {
-        let leads_here = edges.reaching(alloc, number)?;
-        Ok(wrong_in_activity(scope, activity, &leads_here))
-    } else {
-        Ok(None)
+    for activity in &scope.activities {
+        if names_performer(activity) {
+            return true;
+        }
     }
+    false
 }
 
+/// The wrong names of a graph, by the walks in it.
+fn wrong_by_walks<'a>(alloc: Global, scope: &Scope<'a>) -> Result<Option<u32>, AllocError>
+    ensures { IfOk result (IsLeastOf (NamesNoPerformer (graph_at scope.now))) }
+{
+    let walks = Walks::new(alloc, scope)?;
+    let mut least = None;
+    for (i, activity) in scope.activities.iter().enumerate() {
+        least = lesser(
+            least,
+            wrong_in_activity(scope, &walks, activity, narrow(i)?),
+        );
+    }
+    Ok(least)
+}
+
+/// The wrong names of a graph; walks are looked for only where one is named.
 fn wrong_in_graph<'a>(alloc: Global, scope: &Scope<'a>) -> Result<Option<u32>, AllocError>
     ensures { IfOk result (IsLeastOf (NamesNoPerformer (graph_at scope.now))) }
 {
-    let edges = scope.edges(alloc)?;
-    let mut least = None;
-    for (i, activity) in scope.activities.iter().enumerate() {
-        let found = wrong_performer(alloc, scope, &edges, narrow(i)?, activity)?;
-        least = lesser(least, found);
+    if asks_performer(scope) {
+        wrong_by_walks(alloc, scope)
+    } else {
+        Ok(None)
     }
-    Ok(least)
 }
 
 /// Rule 20: PERFORMER OF names no manual program activity of the graph from which this one is reachable.

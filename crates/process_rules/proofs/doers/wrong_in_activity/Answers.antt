@@ -4,12 +4,12 @@ use Rattle.text_graphs.proofs.Finding.{least_more, least_all}
 use Rattle.process_rules.proofs.doers.wrong_in_activity.Goals as goal
 
 pub loop-attribute-preserved : goal.loop-attribute-preserved
-loop-attribute-preserved c = λ to reaching.
+loop-attribute-preserved c =
     let items = c.as_slice-attribute-items.result.now in
-    least_more (λ (x : AttrAt). IsNoPerformer c.args.scope.now.elements.now to x.what) items c.loop-attribute.attribute-index c.attribute-item.result c.loop-attribute.least c.wrong_in_attribute.result c.lesser-least.result c.loop-attribute-test.true c.attribute-item.is c.lesser-least.ensures.least (c.loop-attribute.invariant to reaching) (c.wrong_in_attribute.ensures to reaching)
+    least_more (λ (x : AttrAt). IsNoPerformer c.args.scope.now.elements.now c.args.to x.what) items c.loop-attribute.attribute-index c.attribute-item.result c.loop-attribute.least c.wrong_in_attribute.result c.lesser-least.result c.loop-attribute-test.true c.attribute-item.is c.lesser-least.ensures.least c.loop-attribute.invariant c.wrong_in_attribute.ensures
 
 pub returns : goal.returns
-returns c = λ to reaching.
+returns c =
     let items = c.as_slice-attribute-items.result.now in
     rw c.as_slice-attribute-items.ensures at
-    (least_all (λ (x : AttrAt). IsNoPerformer c.args.scope.now.elements.now to x.what) items c.loop-attribute.attribute-index c.loop-attribute.least c.loop-attribute-test.false (c.loop-attribute.invariant to reaching))
+    (least_all (λ (x : AttrAt). IsNoPerformer c.args.scope.now.elements.now c.args.to x.what) items c.loop-attribute.attribute-index c.loop-attribute.least c.loop-attribute-test.false c.loop-attribute.invariant)

@@ -1,30 +1,14 @@
-use Rattle.std.proofs.Common.{ℕ, subst}
+use Rattle.std.proofs.Common.{List, sym, subst, ◌∙◌}
 use Rattle.flow_model.specs.declared.trees.ActivityTree.{ActivityTree}
 use Rattle.process_rules.specs.Doers.{IsNoPerformer}
-use Rattle.text_graphs.specs.Places.{IsLeastOf, AnyAt}
-use Rattle.text_graphs.specs.Texts.{activities_in}
-use Rattle.process_rules.proofs.Numbering.{numbered_none, numbered_more, numbered_behind, at_behind}
+use Rattle.process_rules.specs.Numbering.{NumberedAt}
+use Rattle.text_graphs.specs.Places.{AnyAt}
+use Rattle.process_rules.proofs.Performing.{none_asked}
 use Rattle.process_rules.proofs.doers.wrong_in_graph.Goals as goal
 
-pub loop-i-init : goal.loop-i-init
-loop-i-init c =
-    let elements = c.args.scope.now.elements.now in
-    numbered_none (λ (n : ℕ) (a : ActivityTree). AnyAt (λ x. IsNoPerformer elements n x.what) a.attrs) (activities_in elements)
-
-pub loop-i-preserved : goal.loop-i-preserved
-loop-i-preserved c =
+pub returns-else-asks_performer : goal.returns-else-asks_performer
+returns-else-asks_performer c = λ p wrong.
     let scope = c.args.scope.now in
     let elements = scope.elements.now in
-    let a = c.activity-item.result in
-    let less = rw c.deref-activity-items.ensures.value at c.loop-i-test.true in
-    let is = rw c.deref-activity-items.ensures.value at c.activity-item.is in
-    let found = subst (λ (n : ℕ). IsLeastOf (AnyAt (λ x. IsNoPerformer elements n x.what) a.now.attrs) c.in_ok-found.found) c.in_ok-narrow.ensures c.in_ok-found.ensures in
-    numbered_more (λ (n : ℕ) (x : ActivityTree). AnyAt (λ y. IsNoPerformer elements n y.what) x.attrs) (activities_in elements) c.loop-i.i a.now c.loop-i.least c.in_ok-found.found c.lesser-least.result
-    (at_behind scope.activities.items (activities_in elements) c.loop-i.i a scope.with_activities less is) c.lesser-least.ensures.least c.loop-i.invariant found
-
-pub returns : goal.returns
-returns c =
-    let scope = c.args.scope.now in
-    let elements = scope.elements.now in
-    let past = rw c.deref-activity-items.ensures.value at c.loop-i-test.false in
-    numbered_behind (λ (n : ℕ) (a : ActivityTree). AnyAt (λ x. IsNoPerformer elements n x.what) a.attrs) scope.activities.items (activities_in elements) c.loop-i.i c.loop-i.least past scope.with_activities c.loop-i.invariant
+    none_asked elements scope.activities.items (sym c.asks_performer.ensures ∙ c.if-asks_performer.false) p
+    (subst (λ (activities : List ActivityTree). NumberedAt (λ number a. AnyAt (λ x. IsNoPerformer elements number x.what) a.attrs) activities p) (sym scope.with_activities) wrong)
