@@ -14,7 +14,8 @@ use Rattle.flow_model.specs.declared.trees.WhenTree.TheVariants.{Always, Cond, O
 use Rattle.graph_check.specs.Walks.{Reaches}
 use Rattle.text_graphs.specs.Graphs.{GraphAt}
 use Rattle.text_graphs.specs.Places.{AnyAt, PairAt}
-use Rattle.text_graphs.specs.Texts.{activities_in, controls_in, lines_in, edges_in, number_in, edge_of, line_edge, IsLineAlong}
+use Rattle.text_graphs.specs.Texts.{activities_in, controls_in, lines_in, edges_in, number_in, edge_of, line_edge}
+use Rattle.text_graphs.specs.Texts.{IsLineAlong}
 
 -- ---- rule 9
 
@@ -38,7 +39,8 @@ AreEndsNobody elements (ends.Loop name) p = IsNobody elements name p
 
 -- of a line of the graph
 abbrev pub NamesNobody : GraphAt → ℕ → Type 0
-NamesNobody g p = AnyAt (IsLoose g.elements) (controls_in g.elements) p ⊎ AnyAt (λ l. AreEndsNobody g.elements l.ends) (lines_in g.elements) p
+NamesNobody g p = AnyAt (IsLoose g.elements) (controls_in g.elements) p
+    ⊎ AnyAt (λ l. AreEndsNobody g.elements l.ends) (lines_in g.elements) p
 
 -- ---- rule 10
 
@@ -101,7 +103,8 @@ pub record IsUntested (elements : List ElementTree) (c : ControlTree) (p : ℕ) 
 
 -- of a second OTHERWISE from one activity, or of such a one
 abbrev pub IsOtherwiseWrong : GraphAt → ℕ → Type 0
-IsOtherwiseWrong g p = PairAt (IsSameAgain (otherwise_source g.elements)) (controls_in g.elements) p ⊎ AnyAt (IsUntested g.elements) (controls_in g.elements) p
+IsOtherwiseWrong g p = PairAt (IsSameAgain (otherwise_source g.elements)) (controls_in g.elements) p
+    ⊎ AnyAt (IsUntested g.elements) (controls_in g.elements) p
 
 -- ---- rule 16
 

@@ -24,7 +24,8 @@ pub record AreEdgesMet (elements : List ElementTree) (doubles : Doubles) (contro
   pub least : IsLeastOf (PairAt (IsSameAgain (edge_of elements)) controls) doubles.first
 
 -- these connectors were met, and the least place of a second OTHERWISE of one source is known
-pub record AreOtherwisesMet (elements : List ElementTree) (sources : Sources) (controls : List ControlTree) : Type 0 where
+pub record AreOtherwisesMet (elements : List ElementTree) (sources : Sources)
+    (controls : List ControlTree) : Type 0 where
   pub known : HaveSame nat_eq sources.met.keys (filter_map (otherwise_source elements) controls)
   pub least : IsLeastOf (PairAt (IsSameAgain (otherwise_source elements)) controls) sources.first
 

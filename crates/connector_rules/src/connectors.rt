@@ -3,7 +3,9 @@ ghost use Rattle.std.specs.Prelude.{◌≡◌, ◌<◌, List, [], ◌∷◌, ◌
 ghost use Rattle.std.specs.List.{All, Contains};
 ghost use Rattle.flow_model.specs.declared.trees.ControlTree.{ControlTree};
 ghost use Rattle.text_graphs.specs.Graphs.{graph_at};
-ghost use Rattle.connector_rules.specs.Connectors.{IsNobody, IsLoose, IsEndNobody, AreEndsNobody, NamesNobody, IsDouble, IsClosing, IsOnCycle, IsEmptyGraph, IsUnreachable, IsUnreachableData, IsLineTold};
+ghost use Rattle.connector_rules.specs.Connectors.{IsNobody, IsLoose, IsEndNobody, AreEndsNobody, NamesNobody};
+ghost use Rattle.connector_rules.specs.Connectors.{IsDouble, IsClosing, IsOnCycle, IsEmptyGraph, IsUnreachable};
+ghost use Rattle.connector_rules.specs.Connectors.{IsUnreachableData, IsLineTold};
 ghost use Rattle.connector_rules.specs.EdgesMet.{AreEdgesMet};
 ghost use Rattle.text_graphs.specs.Places.{IsLeastOf, AnyAt};
 ghost use Rattle.text_graphs.specs.ClosedWalks.{IsAcyclic};
@@ -63,7 +65,8 @@ fn unknown_in_controls(scope: &Scope<'_>) -> Option<u32>
 }
 
 fn unknown_in_lines(scope: &Scope<'_>) -> Option<u32>
-    ensures { IsLeastOf (AnyAt (λ l. AreEndsNobody scope.now.elements.now l.ends) (lines_in scope.now.elements.now)) result }
+    ensures { IsLeastOf (AnyAt (λ l. AreEndsNobody scope.now.elements.now l.ends) (lines_in scope.now.elements.now))
+        result }
 {
     let mut least = None;
     for line in &scope.lines {
@@ -108,7 +111,8 @@ impl Doubles {
 
     /// Meets a connector.
     fn meet<'a>(&mut self, scope: &Scope<'a>, control: &'a ControlTree) -> Result<(), AllocError>
-        ensures { OnOk result ((controls : List ControlTree) → AreEdgesMet scope.now.elements.now self.old controls → AreEdgesMet scope.now.elements.now self.new (controls ++ control.now ∷ [])) }
+        ensures { OnOk result ((controls : List ControlTree) → AreEdgesMet scope.now.elements.now self.old controls
+            → AreEdgesMet scope.now.elements.now self.new (controls ++ control.now ∷ [])) }
     {
         match scope.ends(&control.from, &control.to) {
             None => Ok(()),
@@ -259,7 +263,8 @@ fn apart<'a>(scope: &Scope<'a>, walks: &Walks, line: &'a DataTree) -> Option<u32
 /// Walks are looked for only where there are DATA lines.
 fn unreachable_in_graph(alloc: Global, scope: &Scope<'_>) -> Result<Option<u32>, AllocError>
     ensures least { IfOk result (IsLeastOf (IsUnreachableData (graph_at scope.now))) }
-    ensures along { IfOk result (λ place. place ≡ None → All (IsLineAlong scope.now.elements.now) (lines_in scope.now.elements.now)) }
+    ensures along { IfOk result (λ place. place ≡ None
+        → All (IsLineAlong scope.now.elements.now) (lines_in scope.now.elements.now)) }
 {
     if scope.lines.is_empty() {
         return Ok(None);
@@ -275,7 +280,8 @@ fn unreachable_in_graph(alloc: Global, scope: &Scope<'_>) -> Result<Option<u32>,
 /// Rule 16: a DATA line between two activities whose target isn't reachable from the source.
 pub fn unreachable_data(alloc: Global, scopes: &[Scope<'_>]) -> Result<Option<u32>, AllocError>
     ensures least { IfOk result (IsLeastOf (AnyAt (λ s. IsUnreachableData (graph_at s)) scopes.now)) }
-    ensures along { IfOk result (λ place. place ≡ None → All (λ s. All (IsLineAlong s.elements.now) (lines_in s.elements.now)) scopes.now) }
+    ensures along { IfOk result (λ place. place ≡ None
+        → All (λ s. All (IsLineAlong s.elements.now) (lines_in s.elements.now)) scopes.now) }
 {
     let mut least = None;
     for scope in scopes {

@@ -4,7 +4,8 @@ ghost use Rattle.flow_model.specs.declared.trees.ControlTree.{ControlTree};
 ghost use Rattle.text_graphs.specs.Graphs.{graph_at};
 ghost use Rattle.text_graphs.specs.Places.{IsLeastOf, AnyAt, PairAt};
 ghost use Rattle.text_graphs.specs.Texts.{controls_in};
-ghost use Rattle.connector_rules.specs.Connectors.{IsSameAgain, IsUntested, IsOtherwiseWrong, otherwise_source, tested_source};
+ghost use Rattle.connector_rules.specs.Connectors.{IsSameAgain, IsUntested, IsOtherwiseWrong, otherwise_source};
+ghost use Rattle.connector_rules.specs.Connectors.{tested_source};
 ghost use Rattle.connector_rules.specs.EdgesMet.{AreOtherwisesMet, AreTested};
 
 use flow_model::{ControlTree, WhenTree};
@@ -53,7 +54,8 @@ impl Sources {
 
     /// Meets a connector.
     fn meet<'a>(&mut self, scope: &Scope<'a>, control: &'a ControlTree) -> Result<(), AllocError>
-        ensures { OnOk result ((controls : List ControlTree) → AreOtherwisesMet scope.now.elements.now self.old controls → AreOtherwisesMet scope.now.elements.now self.new (controls ++ control.now ∷ [])) }
+        ensures { OnOk result ((controls : List ControlTree) → AreOtherwisesMet scope.now.elements.now self.old controls
+            → AreOtherwisesMet scope.now.elements.now self.new (controls ++ control.now ∷ [])) }
     {
         match otherwise_source(scope, control) {
             None => Ok(()),
@@ -70,7 +72,8 @@ impl Sources {
 }
 
 fn again_in_graph(alloc: Global, scope: &Scope<'_>) -> Result<Option<u32>, AllocError>
-    ensures { IfOk result (IsLeastOf (PairAt (IsSameAgain (otherwise_source scope.now.elements.now)) (controls_in scope.now.elements.now))) }
+    ensures { IfOk result (IsLeastOf (PairAt (IsSameAgain (otherwise_source scope.now.elements.now))
+        (controls_in scope.now.elements.now))) }
 {
     let mut sources = Sources::new(alloc, scope);
     for control in &scope.controls {
@@ -85,7 +88,8 @@ fn note<'a>(
     scope: &Scope<'a>,
     control: &'a ControlTree,
 ) -> Result<(), AllocError>
-    ensures { OnOk result ((controls : List ControlTree) → AreTested scope.now.elements.now tested.old controls → AreTested scope.now.elements.now tested.new (controls ++ control.now ∷ [])) }
+    ensures { OnOk result ((controls : List ControlTree) → AreTested scope.now.elements.now tested.old controls
+        → AreTested scope.now.elements.now tested.new (controls ++ control.now ∷ [])) }
 {
     match tested_source(scope, control) {
         None => Ok(()),

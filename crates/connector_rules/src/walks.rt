@@ -9,7 +9,8 @@ ghost use Rattle.flow_model.specs.declared.trees.ElementTree.{ElementTree};
 ghost use Rattle.graph_check.specs.Walks.{AreNodes};
 ghost use Rattle.text_graphs.specs.Texts.{edges_in};
 ghost use Rattle.connector_rules.specs.EdgesGrouped.{AreGroupsOf};
-ghost use Rattle.connector_rules.specs.Walking.{AreInOrder, AreSourcesAlong, AreBlocksAlong, AreWalksOf, IsSet, IsWalkTold};
+ghost use Rattle.connector_rules.specs.Walking.{AreInOrder, AreSourcesAlong, AreBlocksAlong, AreWalksOf, IsSet};
+ghost use Rattle.connector_rules.specs.Walking.{IsWalkTold};
 ghost use Rattle.connector_rules.specs.Walking.{bit_of, words_along, word_of};
 
 use std::alloc::{AllocError, Global};

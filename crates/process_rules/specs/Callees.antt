@@ -55,13 +55,17 @@ called calls number work = option_and_then (λ name. calls number name.name) (pr
 
 -- the leaves of the input of a process of the text or of the library
 abbrev pub callee_input : Leafing → Library → List ProcessTree → Callee → Option (List Leaf)
-callee_input leaves library processes (callee.Text number) = option_and_then (λ p. leaves p.input.name) (slice_get processes number)
-callee_input leaves library processes (callee.Library place) = option_map (λ t. (out-Graph t.graph).input.leaves) (slice_get library.templates place)
+callee_input leaves library processes (callee.Text number) = option_and_then (λ p. leaves p.input.name)
+    (slice_get processes number)
+callee_input leaves library processes (callee.Library place) = option_map (λ t. (out-Graph t.graph).input.leaves)
+    (slice_get library.templates place)
 
 -- of its output
 abbrev pub callee_output : Leafing → Library → List ProcessTree → Callee → Option (List Leaf)
-callee_output leaves library processes (callee.Text number) = option_and_then (λ p. leaves p.output.name) (slice_get processes number)
-callee_output leaves library processes (callee.Library place) = option_map (λ t. (out-Graph t.graph).output.leaves) (slice_get library.templates place)
+callee_output leaves library processes (callee.Text number) = option_and_then (λ p. leaves p.output.name)
+    (slice_get processes number)
+callee_output leaves library processes (callee.Library place) = option_map (λ t. (out-Graph t.graph).output.leaves)
+    (slice_get library.templates place)
 
 -- both are known, and they are the same
 abbrev pub AreAlike : Option (List Leaf) → Option (List Leaf) → Type 0
@@ -69,7 +73,9 @@ AreAlike ours theirs = (leaves : List Leaf) × (ours ≡ Some leaves) × (theirs
 
 -- the containers of an activity are like those of a process
 abbrev pub IsFitting : Leafing → Library → List ProcessTree → ActivityTree → Callee → Type 0
-IsFitting leaves library processes a callee = AreAlike (leaves a.input.name) (callee_input leaves library processes callee) × AreAlike (leaves a.output.name) (callee_output leaves library processes callee)
+IsFitting leaves library processes a callee = AreAlike (leaves a.input.name)
+    (callee_input leaves library processes callee)
+    × AreAlike (leaves a.output.name) (callee_output leaves library processes callee)
 
 -- the place of an activity whose containers aren't like those of the process that it runs
 abbrev pub IsMisfit : Leafing → Library → List ProcessTree → ActivityTree → Option Callee → ℕ → Type 0
@@ -78,7 +84,8 @@ IsMisfit leaves library processes a (Some callee) p = (IsFitting leaves library 
 
 -- in a graph, where names lead to processes so
 abbrev pub HasMisfitBy : Calls → Leafing → Library → List ProcessTree → GraphAt → ℕ → Type 0
-HasMisfitBy calls leaves library processes g = AnyAt (λ a. IsMisfit leaves library processes a (called calls g.process a.work)) (activities_in g.elements)
+HasMisfitBy calls leaves library processes g = AnyAt
+    (λ a. IsMisfit leaves library processes a (called calls g.process a.work)) (activities_in g.elements)
 
 -- in a graph of a text
 abbrev pub HasMisfit : Leafing → Library → List ProcessTree → GraphAt → ℕ → Type 0

@@ -1,5 +1,6 @@
 -- Which processes the activities of a template run: those that stand before it in the library, so that nesting ends.
-use Rattle.std.specs.Prelude.{◌≡◌, ℕ, zero, suc, ◌+◌, ◌<◌, nat_lt, if◌then◌else◌, Option, Some, None, List, [], bytes_eq, length, slice_get}
+use Rattle.std.specs.Prelude.{◌≡◌, ℕ, zero, suc, ◌+◌, ◌<◌, nat_lt, if◌then◌else◌, Option, Some, None, List, []}
+use Rattle.std.specs.Prelude.{bytes_eq, length, slice_get}
 use Rattle.std.specs.Option.{option_map, option_and_then}
 use Rattle.std.specs.HashMap as hash
 use Rattle.process_rules.specs.Imports.{newest_listed}
@@ -62,7 +63,8 @@ earlier_meant known process name = before_this process (hash.get_by (λ key. byt
 
 -- the newest template of a name, where it is in the library
 abbrev pub stored_meant : Catalog → List ℕ → Option Callee
-stored_meant c name = option_and_then (λ place. option_map (λ t. callee.Library place) (slice_get c.library.templates place)) (newest_listed c name)
+stored_meant c name = option_and_then (λ place. option_map (λ t. callee.Library place)
+    (slice_get c.library.templates place)) (newest_listed c name)
 
 -- a process of the text where there is one, else what is in the library
 abbrev pub text_or : Option ℕ → Option Callee → Option Callee

@@ -17,7 +17,8 @@ IsLarge c p = ((64 < operands_of c.cond) ⊎ (256 < nodes_of c.cond)) × (c.plac
 
 -- of an activity or a line behind those that a graph may have
 abbrev pub IsLineExtra : GraphAt → ℕ → Type 0
-IsLineExtra g p = IsExtra (λ a. a.place) 1024 (activities_in g.elements) p ⊎ (IsExtra (λ c. c.place) 4096 (controls_in g.elements) p ⊎ IsExtra (λ l. l.place) 4096 (lines_in g.elements) p)
+IsLineExtra g p = IsExtra (λ a. a.place) 1024 (activities_in g.elements) p
+    ⊎ (IsExtra (λ c. c.place) 4096 (controls_in g.elements) p ⊎ IsExtra (λ l. l.place) 4096 (lines_in g.elements) p)
 
 -- of what is too much in a graph
 abbrev pub IsTooMuch : GraphAt → ℕ → Type 0

@@ -19,7 +19,8 @@ use Rattle.process_rules.specs.Numbering.{NumberedAt}
 
 -- a person of the text or of the library has this name
 abbrev pub is_person : Library → List PersonTree → List ℕ → Bool
-is_person library people name = list_any (λ n. bytes_eq name n.name) (map (λ q. q.name) people) || list_any (λ q. bytes_eq q.name name) library.people
+is_person library people name = list_any (λ n. bytes_eq name n.name) (map (λ q. q.name) people) || list_any
+    (λ q. bytes_eq q.name name) library.people
 
 -- the place of the name of somebody who is none of these
 abbrev pub IsNoPerson : (List ℕ → Bool) → AttrTree → ℕ → Type 0
@@ -48,7 +49,8 @@ Leads elements name to = (from : ℕ) × (number_in elements name ≡ Some from)
 
 -- the activity of a name is manual
 abbrev pub IsManual : List ElementTree → List ℕ → Type 0
-IsManual elements name = (a : ActivityTree) × (activity_named elements name ≡ Some a) × (list_any (λ x. is_start_manual x.what) a.attrs ≡ true)
+IsManual elements name = (a : ActivityTree) × (activity_named elements name ≡ Some a)
+    × (list_any (λ x. is_start_manual x.what) a.attrs ≡ true)
 
 -- the activity of a name is manual, and leads to that of a number
 abbrev pub IsPerformer : List ElementTree → List ℕ → ℕ → Type 0
@@ -82,4 +84,5 @@ is_performer (attr.Performer name) = true
 
 -- in an attribute of an activity of a graph
 abbrev pub NamesNoPerformer : GraphAt → ℕ → Type 0
-NamesNoPerformer g = NumberedAt (λ number a. AnyAt (λ x. IsNoPerformer g.elements number x.what) a.attrs) (activities_in g.elements)
+NamesNoPerformer g = NumberedAt (λ number a. AnyAt (λ x. IsNoPerformer g.elements number x.what) a.attrs)
+    (activities_in g.elements)

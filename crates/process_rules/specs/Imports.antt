@@ -1,5 +1,6 @@
 -- The library of the imports so far, and where the newest of each name stands in it.
-use Rattle.std.specs.Prelude.{◌≡◌, ℕ, ◌+◌, ◌-◌, ◌^◌, min, Bool, if◌then◌else◌, Option, Some, None, option_map, List, [], ◌∷◌, bytes_eq, slice_get}
+use Rattle.std.specs.Prelude.{◌≡◌, ℕ, ◌+◌, ◌-◌, ◌^◌, min, Bool, if◌then◌else◌, Option, Some, None, option_map, List, []}
+use Rattle.std.specs.Prelude.{◌∷◌, bytes_eq, slice_get}
 use Rattle.std.specs.Option.{option_or, option_and_then}
 use Rattle.std.specs.HashMap as hash
 use Rattle.std.specs.HashMap.{HashMap}
@@ -12,7 +13,8 @@ use Rattle.process_rules.specs.declared.catalog.Catalog.{Catalog}
 -- the place of the last element that passes
 abbrev pub last_place : {X : Type 0} → (X → Bool) → List X → Option ℕ
 last_place test [] = None
-last_place test (x ∷ xs) = option_or (option_map (λ place. place + 1) (last_place test xs)) (if test x then Some 0 else None)
+last_place test (x ∷ xs) = option_or (option_map (λ place. place + 1) (last_place test xs))
+    (if test x then Some 0 else None)
 
 -- the place of the newest template of a name
 abbrev pub newest_place : Library → List ℕ → Option ℕ
@@ -38,11 +40,13 @@ latest_person library name = option_and_then (λ place. slice_get library.people
 
 -- an index has, for each name, the place of the last element of that name
 abbrev pub AreIndexed : {X S : Type 0} → (X → List ℕ) → List X → HashMap (Vec ℕ) ℕ S → Type 0
-AreIndexed name_of items index = (key : List ℕ) → hash.get_by (λ k. bytes_eq key k.items) index ≡ last_place (λ x. bytes_eq (name_of x) key) items
+AreIndexed name_of items index = (key : List ℕ)
+    → hash.get_by (λ k. bytes_eq key k.items) index ≡ last_place (λ x. bytes_eq (name_of x) key) items
 
 -- the names of a catalog lead to the newest templates and the latest people
 abbrev pub IsIndexed : Catalog → Type 0
-IsIndexed c = AreIndexed (λ t. t.name) c.library.templates c.templates × AreIndexed (λ q. q.name) c.library.people c.people
+IsIndexed c = AreIndexed (λ t. t.name) c.library.templates c.templates
+    × AreIndexed (λ q. q.name) c.library.people c.people
 
 -- the place to which the index of a catalog leads from a name
 abbrev pub newest_listed : Catalog → List ℕ → Option ℕ

@@ -17,7 +17,8 @@ use Rattle.process_rules.specs.declared.people.Known.{Known}
 
 -- names lead to the last process of each
 abbrev pub AreLast : {S : Type 0} → List ProcessTree → HashMap (Bor (List ℕ)) ℕ S → Type 0
-AreLast processes numbers = (key : List ℕ) → hash.get_by (λ k. bytes_eq key k.now) numbers ≡ last_place (λ p. bytes_eq p.name.name key) processes
+AreLast processes numbers = (key : List ℕ) → hash.get_by (λ k. bytes_eq key k.now) numbers
+    ≡ last_place (λ p. bytes_eq p.name.name key) processes
 
 -- these are the processes that are known
 pub record IsKnowing (known : Known) (processes : List ProcessTree) : Type 0 where
@@ -27,16 +28,20 @@ pub record IsKnowing (known : Known) (processes : List ProcessTree) : Type 0 whe
 
 -- the people of a text are known by their names
 abbrev pub ArePeople : Known → List PersonTree → Type 0
-ArePeople known people = (name : List ℕ) → list_any (λ k. bytes_eq name k.now) known.people.keys ≡ list_any (λ n. bytes_eq name n.name) (map (λ q. q.name) people)
+ArePeople known people = (name : List ℕ) → list_any (λ k. bytes_eq name k.now) known.people.keys
+    ≡ list_any (λ n. bytes_eq name n.name) (map (λ q. q.name) people)
 
 -- the newest template of a name in the library
 abbrev pub stored_named : Library → List ℕ → Option Callee
-stored_named library name = option_and_then (λ place. option_map (λ t. callee.Library place) (slice_get library.templates place)) (newest_place library name)
+stored_named library name = option_and_then (λ place. option_map (λ t. callee.Library place)
+    (slice_get library.templates place)) (newest_place library name)
 
 -- what an activity in the process of this number runs by a name: the process of the text, where it stands before
 abbrev pub callee_named : Library → List ProcessTree → ℕ → List ℕ → Option Callee
-callee_named library processes number name = text_or (before_this number (last_place (λ p. bytes_eq p.name.name name) processes)) (stored_named library name)
+callee_named library processes number name = text_or
+    (before_this number (last_place (λ p. bytes_eq p.name.name name) processes)) (stored_named library name)
 
 -- its place in the library, once the text is added
 abbrev pub place_named : Catalog → List ProcessTree → ℕ → List ℕ → Option ℕ
-place_named earlier processes number name = option_map (place_among earlier) (callee_named earlier.library processes number name)
+place_named earlier processes number name = option_map (place_among earlier)
+    (callee_named earlier.library processes number name)

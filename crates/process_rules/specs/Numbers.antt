@@ -60,7 +60,8 @@ connectors_to elements number = count_by (is_to elements number) (controls_in el
 
 -- of a number in an attribute of the activities of a graph
 abbrev pub AreSaidOutside : GraphAt → ℕ → Type 0
-AreSaidOutside g = NumberedAt (λ number a. AnyAt (λ x. IsSaidOutside (connectors_to g.elements number) x.what) a.attrs) (activities_in g.elements)
+AreSaidOutside g = NumberedAt (λ number a. AnyAt (λ x. IsSaidOutside (connectors_to g.elements number) x.what) a.attrs)
+    (activities_in g.elements)
 
 -- ---- both
 

@@ -1,5 +1,6 @@
 -- Rules 21 and 22: how deep the processes of a text nest, and how large they are with all that they run.
-use Rattle.std.specs.Prelude.{◌≡◌, ◌<◌, ◌+◌, ◌-◌, ◌^◌, ℕ, zero, suc, min, max, Option, Some, None, List, [], ◌++◌, map, fold, length, slice_get, unwrap_or}
+use Rattle.std.specs.Prelude.{◌≡◌, ◌<◌, ◌+◌, ◌-◌, ◌^◌, ℕ, zero, suc, min, max, Option, Some, None, List, [], ◌++◌, map}
+use Rattle.std.specs.Prelude.{fold, length, slice_get, unwrap_or}
 use Rattle.std.specs.List.{sum_by, cons_option}
 use Rattle.std.specs.Option.{option_map}
 use Rattle.flow_model.specs.declared.graphs.Library.{Library}
@@ -67,7 +68,8 @@ shape_at shapes number = unwrap_or (slice_get shapes number) nothing
 abbrev pub callee_shape : Library → List Shape → Option Callee → Shape
 callee_shape library before None = nothing
 callee_shape library before (Some (callee.Text number)) = shape_at before number
-callee_shape library before (Some (callee.Library place)) = unwrap_or (option_map (λ t. record { depth = t.depth; size = t.size }) (slice_get library.templates place)) nothing
+callee_shape library before (Some (callee.Library place)) = unwrap_or
+    (option_map (λ t. record { depth = t.depth; size = t.size }) (slice_get library.templates place)) nothing
 
 -- of what a name in the process of a number leads to
 abbrev pub named_shape : Calls → Library → List Shape → ℕ → List ℕ → Shape
@@ -78,7 +80,8 @@ abbrev pub shapes_to : Calls → Library → List ProcessTree → ℕ → List S
 shapes_to calls library processes zero = []
 shapes_to calls library processes (suc n) =
     let before = shapes_to calls library processes n in
-    before ++ cons_option (option_map (λ p. graph_shape (named_shape calls library before n) p.elements) (slice_get processes n)) []
+    before ++ cons_option (option_map (λ p. graph_shape (named_shape calls library before n) p.elements)
+    (slice_get processes n)) []
 
 -- of all processes
 abbrev pub shapes_by : Calls → Library → List ProcessTree → List Shape
@@ -96,7 +99,8 @@ told_shape shape = record { depth = min shape.depth (2 ^ 32 - 1); size = min sha
 
 -- the place of a process that nests deeper than 16
 abbrev pub NestsDeep : List Shape → List ProcessTree → ℕ → Type 0
-NestsDeep shapes processes = NumberedAt (λ number p place. (16 < (shape_at shapes number).depth) × (p.place ≡ place)) processes
+NestsDeep shapes processes = NumberedAt (λ number p place. (16 < (shape_at shapes number).depth) × (p.place ≡ place))
+    processes
 
 -- in a text
 abbrev pub IsDeep : Library → List ProcessTree → ℕ → Type 0
@@ -106,7 +110,8 @@ IsDeep library processes = NestsDeep (shapes_of library processes) processes
 
 -- the place of a process whose size is above 65,536
 abbrev pub HasLargeSize : List Shape → List ProcessTree → ℕ → Type 0
-HasLargeSize shapes processes = NumberedAt (λ number p place. (65536 < (shape_at shapes number).size) × (p.place ≡ place)) processes
+HasLargeSize shapes processes = NumberedAt (λ number p place. (65536 < (shape_at shapes number).size)
+    × (p.place ≡ place)) processes
 
 -- in a text
 abbrev pub IsLargeProcess : Library → List ProcessTree → ℕ → Type 0

@@ -98,7 +98,8 @@ fn same_leaves(first: &Leaves, second: &Leaves) -> bool
 
 /// Whether the leaves of two containers are known, and the same in the same order.
 pub fn are_alike(ours: Option<&Leaves>, theirs: Option<&Leaves>) -> bool
-    ensures { Decides result (AreAlike (option_map (λ l. l.now.leaves) ours.entry) (option_map (λ l. l.now.leaves) theirs.entry)) }
+    ensures { Decides result (AreAlike (option_map (λ l. l.now.leaves) ours.entry)
+        (option_map (λ l. l.now.leaves) theirs.entry)) }
 {
     match ours {
         None => false,

@@ -4,7 +4,8 @@ ghost use Rattle.std.specs.Bool.{Decides};
 ghost use Rattle.std.specs.Option.{option_map};
 ghost use Rattle.flow_model.specs.declared.trees.ProcessTree.{ProcessTree};
 ghost use Rattle.leaf_rules.specs.Leaves.{table_leaves};
-ghost use Rattle.process_rules.specs.Callees.{process_named, IsNoProcess, NamesNone, NamesNoProcess, called, callee_input, callee_output, IsFitting, IsMisfit, HasMisfitBy, HasMisfit};
+ghost use Rattle.process_rules.specs.Callees.{process_named, IsNoProcess, NamesNone, NamesNoProcess, called};
+ghost use Rattle.process_rules.specs.Callees.{callee_input, callee_output, IsFitting, IsMisfit, HasMisfitBy, HasMisfit};
 ghost use Rattle.process_rules.specs.Calling.{callee_meant};
 ghost use Rattle.process_rules.specs.Imports.{IsIndexed};
 ghost use Rattle.process_rules.specs.Knowing.{IsKnowing};
@@ -63,7 +64,9 @@ fn unknown_in_graphs<'a>(known: &Known<'a>, scopes: &[Scope<'a>]) -> Option<u32>
 
 /// Rule 17: a PROCESS_ACTIVITY names a process that isn't there yet.
 pub fn unknown_processes<'a>(known: &Known<'a>, scopes: &[Scope<'a>]) -> Option<u32>
-    ensures { (processes : List ProcessTree) → IsKnowing known.now processes → IsIndexed known.now.catalog.now → IsLeastOf (AnyAt (λ s. NamesNoProcess known.now.catalog.now.library processes (graph_at s)) scopes.now) result }
+    ensures { (processes : List ProcessTree) → IsKnowing known.now processes → IsIndexed known.now.catalog.now
+        → IsLeastOf (AnyAt (λ s. NamesNoProcess known.now.catalog.now.library processes (graph_at s)) scopes.now)
+        result }
 {
     unknown_in_graphs(known, scopes)
 }
@@ -84,7 +87,9 @@ fn callee_input<'t, 'a>(
     table: &'t LeafTable<'a>,
     callee: Callee,
 ) -> Option<&'t Leaves>
-    ensures { option_map (λ l. l.now.leaves) result ≡ callee_input (table_leaves table.now) known.now.catalog.now.library (map (λ p. p.now) known.now.processes.items) callee }
+    ensures { option_map (λ l. l.now.leaves) result
+        ≡ callee_input (table_leaves table.now) known.now.catalog.now.library
+        (map (λ p. p.now) known.now.processes.items) callee }
 {
     match callee {
         Callee::Text(number) => match known.process(number) {
@@ -104,7 +109,9 @@ fn callee_output<'t, 'a>(
     table: &'t LeafTable<'a>,
     callee: Callee,
 ) -> Option<&'t Leaves>
-    ensures { option_map (λ l. l.now.leaves) result ≡ callee_output (table_leaves table.now) known.now.catalog.now.library (map (λ p. p.now) known.now.processes.items) callee }
+    ensures { option_map (λ l. l.now.leaves) result
+        ≡ callee_output (table_leaves table.now) known.now.catalog.now.library
+        (map (λ p. p.now) known.now.processes.items) callee }
 {
     match callee {
         Callee::Text(number) => match known.process(number) {
@@ -125,7 +132,8 @@ fn fits<'a>(
     activity: &'a ActivityTree,
     callee: Callee,
 ) -> bool
-    ensures { Decides result (IsFitting (table_leaves table.now) known.now.catalog.now.library (map (λ p. p.now) known.now.processes.items) activity.now callee) }
+    ensures { Decides result (IsFitting (table_leaves table.now) known.now.catalog.now.library
+        (map (λ p. p.now) known.now.processes.items) activity.now callee) }
 {
     let input = table.plain(&activity.input);
     let output = table.plain(&activity.output);
@@ -140,7 +148,9 @@ fn misfit<'a>(
     process: u32,
     activity: &'a ActivityTree,
 ) -> Option<u32>
-    ensures { IsLeastOf (IsMisfit (table_leaves table.now) known.now.catalog.now.library (map (λ p. p.now) known.now.processes.items) activity.now (called (callee_meant known.now) process activity.now.work)) result }
+    ensures { IsLeastOf (IsMisfit (table_leaves table.now) known.now.catalog.now.library
+        (map (λ p. p.now) known.now.processes.items) activity.now
+        (called (callee_meant known.now) process activity.now.work)) result }
 {
     match called(known, process, &activity.work) {
         None => None,
@@ -155,7 +165,8 @@ fn misfit<'a>(
 }
 
 fn misfit_in_graph<'a>(known: &Known<'a>, table: &LeafTable<'a>, scope: &Scope<'a>) -> Option<u32>
-    ensures { IsLeastOf (HasMisfitBy (callee_meant known.now) (table_leaves table.now) known.now.catalog.now.library (map (λ p. p.now) known.now.processes.items) (graph_at scope.now)) result }
+    ensures { IsLeastOf (HasMisfitBy (callee_meant known.now) (table_leaves table.now) known.now.catalog.now.library
+        (map (λ p. p.now) known.now.processes.items) (graph_at scope.now)) result }
 {
     let mut least = None;
     for activity in &scope.activities {
@@ -169,7 +180,9 @@ fn misfit_in_graphs<'a>(
     table: &LeafTable<'a>,
     scopes: &[Scope<'a>],
 ) -> Option<u32>
-    ensures { IsLeastOf (AnyAt (λ s. HasMisfitBy (callee_meant known.now) (table_leaves table.now) known.now.catalog.now.library (map (λ p. p.now) known.now.processes.items) (graph_at s)) scopes.now) result }
+    ensures { IsLeastOf (AnyAt (λ s. HasMisfitBy (callee_meant known.now)
+        (table_leaves table.now) known.now.catalog.now.library (map (λ p. p.now) known.now.processes.items)
+        (graph_at s)) scopes.now) result }
 {
     let mut least = None;
     for scope in scopes {
@@ -184,7 +197,9 @@ pub fn mismatched_containers<'a>(
     table: &LeafTable<'a>,
     scopes: &[Scope<'a>],
 ) -> Option<u32>
-    ensures { (processes : List ProcessTree) → IsKnowing known.now processes → IsIndexed known.now.catalog.now → IsLeastOf (AnyAt (λ s. HasMisfit (table_leaves table.now) known.now.catalog.now.library processes (graph_at s)) scopes.now) result }
+    ensures { (processes : List ProcessTree) → IsKnowing known.now processes → IsIndexed known.now.catalog.now
+        → IsLeastOf (AnyAt (λ s. HasMisfit (table_leaves table.now) known.now.catalog.now.library processes
+        (graph_at s)) scopes.now) result }
 {
     misfit_in_graphs(known, table, scopes)
 }

@@ -1,6 +1,8 @@
 //! The library of the imports so far, with its names.
-ghost use Rattle.std.specs.Prelude.{◌≡◌, ◌≤◌, ◌<◌, ◌-◌, ◌^◌, ◌++◌, ◌∷◌, [], min, length, slice_get, option_copied, OnOk};
-ghost use Rattle.process_rules.specs.Imports.{IsIndexed, newest_place, next_version, newest_listed, latest_place, latest_person};
+ghost use Rattle.std.specs.Prelude.{◌≡◌, ◌≤◌, ◌<◌, ◌-◌, ◌^◌, ◌++◌, ◌∷◌, [], min, length, slice_get, option_copied};
+ghost use Rattle.std.specs.Prelude.{OnOk};
+ghost use Rattle.process_rules.specs.Imports.{IsIndexed, newest_place, next_version, newest_listed, latest_place};
+ghost use Rattle.process_rules.specs.Imports.{latest_person};
 
 use flow_model::{Library, List, Name, PersonDef, Template};
 use indexmap::IndexMap;
@@ -99,8 +101,13 @@ impl Catalog {
     /// Adds a template, which is the newest of its name from now on. Without memory it may have been added with
     /// no name that leads to it.
     pub fn add_template(&mut self, alloc: Global, template: Template) -> Result<(), AllocError>
-        ensures added { OnOk result (self.new.library ≡ record { templates = self.old.library.templates ++ template ∷ []; people = self.old.library.people }) }
-        ensures indexed { OnOk result (length self.old.library.templates < 2 ^ 32 → IsIndexed self.old → IsIndexed self.new) }
+        ensures added { OnOk result (self.new.library ≡ record {
+          templates = self.old.library.templates
+              ++ template ∷ [];
+          people = self.old.library.people;
+        }) }
+        ensures indexed { OnOk result (length self.old.library.templates < 2 ^ 32 → IsIndexed self.old
+            → IsIndexed self.new) }
     {
         let place = next_place(self.library.templates.len());
         let name = Vec::from_slice(alloc, template.name.as_slice())?;
@@ -112,8 +119,13 @@ impl Catalog {
     /// Adds a person, whose roles count from now on. Without memory it may have been added with no name that
     /// leads to it.
     pub fn add_person(&mut self, alloc: Global, person: PersonDef) -> Result<(), AllocError>
-        ensures added { OnOk result (self.new.library ≡ record { templates = self.old.library.templates; people = self.old.library.people ++ person ∷ [] }) }
-        ensures indexed { OnOk result (length self.old.library.people < 2 ^ 32 → IsIndexed self.old → IsIndexed self.new) }
+        ensures added { OnOk result (self.new.library ≡ record {
+          templates = self.old.library.templates;
+          people =
+              self.old.library.people ++ person ∷ [];
+        }) }
+        ensures indexed { OnOk result (length self.old.library.people < 2 ^ 32 → IsIndexed self.old
+            → IsIndexed self.new) }
     {
         let place = next_place(self.library.people.len());
         let name = Vec::from_slice(alloc, person.name.as_slice())?;

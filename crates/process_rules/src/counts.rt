@@ -115,7 +115,8 @@ fn too_much_in_graphs(scopes: &[Scope<'_>]) -> Option<u32>
 
 /// Rule 24: more than is allowed of processes, of a graph's activities or lines, or of a condition's parts.
 pub fn count_limit(known: &Known<'_>, scopes: &[Scope<'_>]) -> Option<u32>
-    ensures found { (processes : List ProcessTree) → IsKnowing known.now processes → IsLeastOf (IsTooMuchOf processes (AnyAt (λ s. IsTooMuch (graph_at s)) scopes.now)) result }
+    ensures found { (processes : List ProcessTree) → IsKnowing known.now processes
+        → IsLeastOf (IsTooMuchOf processes (AnyAt (λ s. IsTooMuch (graph_at s)) scopes.now)) result }
     ensures limited { result ≡ None → All (λ s. IsLimited s.elements.now) scopes.now }
 {
     lesser(extra_process(known.processes()), too_much_in_graphs(scopes))

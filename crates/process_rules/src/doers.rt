@@ -4,7 +4,8 @@ ghost use Rattle.std.specs.Bool.{Decides};
 ghost use Rattle.std.specs.List.{list_any};
 ghost use Rattle.flow_model.specs.declared.trees.PersonTree.{PersonTree};
 ghost use Rattle.connector_rules.specs.Walking.{AreWalksOf};
-ghost use Rattle.process_rules.specs.Doers.{IsNoPerson, NamesNoPerson, is_person, Leads, IsManual, IsPerformer, IsWrongName, IsNoPerformer, NamesNoPerformer, is_performer};
+ghost use Rattle.process_rules.specs.Doers.{IsNoPerson, NamesNoPerson, is_person, Leads, IsManual, IsPerformer};
+ghost use Rattle.process_rules.specs.Doers.{IsWrongName, IsNoPerformer, NamesNoPerformer, is_performer};
 ghost use Rattle.process_rules.specs.Imports.{IsIndexed};
 ghost use Rattle.process_rules.specs.Knowing.{ArePeople};
 ghost use Rattle.text_graphs.specs.Attributes.{is_start_manual};
@@ -20,7 +21,8 @@ use text_graphs::{Scope, lesser, narrow};
 
 /// The place of the name of somebody who isn't known.
 fn unknown_name<'a>(known: &Known<'a>, what: &'a AttrTree) -> Option<u32>
-    ensures { (people : List PersonTree) → ArePeople known.now people → IsIndexed known.now.catalog.now → IsLeastOf (IsNoPerson (is_person known.now.catalog.now.library people) what.now) result }
+    ensures { (people : List PersonTree) → ArePeople known.now people → IsIndexed known.now.catalog.now
+        → IsLeastOf (IsNoPerson (is_person known.now.catalog.now.library people) what.now) result }
 {
     match what {
         AttrTree::When(_) => None,
@@ -41,7 +43,9 @@ fn unknown_name<'a>(known: &Known<'a>, what: &'a AttrTree) -> Option<u32>
 }
 
 fn unknown_in_activity<'a>(known: &Known<'a>, activity: &'a ActivityTree) -> Option<u32>
-    ensures { (people : List PersonTree) → ArePeople known.now people → IsIndexed known.now.catalog.now → IsLeastOf (AnyAt (λ x. IsNoPerson (is_person known.now.catalog.now.library people) x.what) activity.now.attrs) result }
+    ensures { (people : List PersonTree) → ArePeople known.now people → IsIndexed known.now.catalog.now
+        → IsLeastOf (AnyAt (λ x. IsNoPerson (is_person known.now.catalog.now.library people) x.what) activity.now.attrs)
+        result }
 {
     let mut least = None;
     for attribute in activity.attrs.as_slice() {
@@ -51,7 +55,8 @@ fn unknown_in_activity<'a>(known: &Known<'a>, activity: &'a ActivityTree) -> Opt
 }
 
 fn unknown_in_graph<'a>(known: &Known<'a>, scope: &Scope<'a>) -> Option<u32>
-    ensures { (people : List PersonTree) → ArePeople known.now people → IsIndexed known.now.catalog.now → IsLeastOf (NamesNoPerson known.now.catalog.now.library people (graph_at scope.now)) result }
+    ensures { (people : List PersonTree) → ArePeople known.now people → IsIndexed known.now.catalog.now
+        → IsLeastOf (NamesNoPerson known.now.catalog.now.library people (graph_at scope.now)) result }
 {
     let mut least = None;
     for activity in &scope.activities {
@@ -62,7 +67,8 @@ fn unknown_in_graph<'a>(known: &Known<'a>, scope: &Scope<'a>) -> Option<u32>
 
 /// Rule 19: DONE_BY PERSON names no person.
 pub fn unknown_people<'a>(known: &Known<'a>, scopes: &[Scope<'a>]) -> Option<u32>
-    ensures { (people : List PersonTree) → ArePeople known.now people → IsIndexed known.now.catalog.now → IsLeastOf (AnyAt (λ s. NamesNoPerson known.now.catalog.now.library people (graph_at s)) scopes.now) result }
+    ensures { (people : List PersonTree) → ArePeople known.now people → IsIndexed known.now.catalog.now
+        → IsLeastOf (AnyAt (λ s. NamesNoPerson known.now.catalog.now.library people (graph_at s)) scopes.now) result }
 {
     let mut least = None;
     for scope in scopes {

@@ -1,6 +1,7 @@
 //! Rule 23: numbers that are out of range.
 ghost use Rattle.std.specs.Prelude.{◌≡◌, ◌<◌, ◌==◌, ◌+◌, ◌-◌, ◌^◌, ℕ, IfOk, if◌then◌else◌, length, slice_index};
-ghost use Rattle.process_rules.specs.Numbers.{IsOutside, IsJoinOutside, IsSaidOutside, AreSaidOutside, IsNumberWrong, connectors_to, is_to};
+ghost use Rattle.process_rules.specs.Numbers.{IsOutside, IsJoinOutside, IsSaidOutside, AreSaidOutside, IsNumberWrong};
+ghost use Rattle.process_rules.specs.Numbers.{connectors_to, is_to};
 ghost use Rattle.text_graphs.specs.Graphs.{graph_at};
 ghost use Rattle.text_graphs.specs.Places.{IsLeastOf, AnyAt};
 ghost use Rattle.text_graphs.specs.Texts.{activities_in};
@@ -63,7 +64,8 @@ fn count_one(counts: &mut Vec<u64>, node: u32)
     requires within { node < length counts.old.items }
     requires room { slice_index counts.old.items node < 2 ^ 64 - 1 }
     ensures len { length counts.new.items ≡ length counts.old.items }
-    ensures counted { (n : ℕ) → slice_index counts.new.items n ≡ slice_index counts.old.items n + (if node == n then 1 else 0) }
+    ensures counted { (n : ℕ) → slice_index counts.new.items n
+        ≡ slice_index counts.old.items n + (if node == n then 1 else 0) }
 {
     let place = node as usize;
     counts[place] += 1;
@@ -74,7 +76,8 @@ fn count_connector<'a>(scope: &Scope<'a>, counts: &mut Vec<u64>, control: &'a Co
     requires wide { length counts.old.items ≡ length (activities_in scope.now.elements.now) }
     requires room { (n : ℕ) → slice_index counts.old.items n < 2 ^ 64 - 1 }
     ensures len { length counts.new.items ≡ length counts.old.items }
-    ensures counted { (n : ℕ) → slice_index counts.new.items n ≡ slice_index counts.old.items n + (if is_to scope.now.elements.now n control.now then 1 else 0) }
+    ensures counted { (n : ℕ) → slice_index counts.new.items n
+        ≡ slice_index counts.old.items n + (if is_to scope.now.elements.now n control.now then 1 else 0) }
 {
     match scope.number(&control.to) {
         None => {}

@@ -1,5 +1,6 @@
 //! What the names of processes and people stand for in a text.
-ghost use Rattle.std.specs.Prelude.{◌≡◌, ℕ, ◌<◌, List, [], ◌∷◌, ◌++◌, IfOk, OnOk, IfSome, map, slice_get, option_copied};
+ghost use Rattle.std.specs.Prelude.{◌≡◌, ℕ, ◌<◌, List, [], ◌∷◌, ◌++◌, IfOk, OnOk, IfSome, map, slice_get};
+ghost use Rattle.std.specs.Prelude.{option_copied};
 ghost use Rattle.std.specs.List.{cons_option};
 ghost use Rattle.flow_model.specs.declared.trees.PersonTree.{PersonTree};
 ghost use Rattle.flow_model.specs.declared.trees.ProcessTree.{ProcessTree};
@@ -53,8 +54,10 @@ impl<'a> Known<'a> {
 
     fn add(&mut self, item: &'a ItemTree) -> Result<(), AllocError>
         ensures catalog { self.new.catalog ≡ self.old.catalog }
-        ensures knowing { OnOk result ((processes : List ProcessTree) → IsKnowing self.old processes → IsKnowing self.new (processes ++ cons_option (process_of item.now) [])) }
-        ensures people { OnOk result ((people : List PersonTree) → ArePeople self.old people → ArePeople self.new (people ++ cons_option (person_of item.now) [])) }
+        ensures knowing { OnOk result ((processes : List ProcessTree) → IsKnowing self.old processes
+            → IsKnowing self.new (processes ++ cons_option (process_of item.now) [])) }
+        ensures people { OnOk result ((people : List PersonTree) → ArePeople self.old people
+            → ArePeople self.new (people ++ cons_option (person_of item.now) [])) }
     {
         match item {
             ItemTree::Structure(_) => Ok(()),
@@ -66,7 +69,8 @@ impl<'a> Known<'a> {
     fn add_person(&mut self, person: &'a PersonTree) -> Result<(), AllocError>
         ensures catalog { self.new.catalog ≡ self.old.catalog }
         ensures knowing { (processes : List ProcessTree) → IsKnowing self.old processes → IsKnowing self.new processes }
-        ensures people { OnOk result ((people : List PersonTree) → ArePeople self.old people → ArePeople self.new (people ++ person.now ∷ [])) }
+        ensures people { OnOk result ((people : List PersonTree) → ArePeople self.old people
+            → ArePeople self.new (people ++ person.now ∷ [])) }
     {
         self.people.insert_full(person.name.name.as_slice())?;
         Ok(())
@@ -74,7 +78,8 @@ impl<'a> Known<'a> {
 
     fn add_process(&mut self, process: &'a ProcessTree) -> Result<(), AllocError>
         ensures catalog { self.new.catalog ≡ self.old.catalog }
-        ensures knowing { OnOk result ((processes : List ProcessTree) → IsKnowing self.old processes → IsKnowing self.new (processes ++ process.now ∷ [])) }
+        ensures knowing { OnOk result ((processes : List ProcessTree) → IsKnowing self.old processes
+            → IsKnowing self.new (processes ++ process.now ∷ [])) }
         ensures people { (people : List PersonTree) → ArePeople self.old people → ArePeople self.new people }
     {
         let number = narrow(self.processes.len())?;
@@ -143,7 +148,8 @@ impl<'a> Known<'a> {
 
     /// Whether a name is a person's of the text or of an earlier import.
     pub fn is_person(&self, name: &'a NameAt) -> bool
-        ensures { (people : List PersonTree) → ArePeople self.now people → IsIndexed self.now.catalog.now → result ≡ is_person self.now.catalog.now.library people name.now.name }
+        ensures { (people : List PersonTree) → ArePeople self.now people → IsIndexed self.now.catalog.now
+            → result ≡ is_person self.now.catalog.now.library people name.now.name }
     {
         self.people.contains(&name.name.as_slice()) || self.catalog.person(&name.name).is_some()
     }

@@ -4,7 +4,9 @@ ghost use Rattle.flow_model.specs.declared.trees.ProcessTree.{ProcessTree};
 ghost use Rattle.process_rules.specs.Calling.{callee_meant};
 ghost use Rattle.process_rules.specs.Imports.{IsIndexed};
 ghost use Rattle.process_rules.specs.Knowing.{IsKnowing};
-ghost use Rattle.process_rules.specs.Shapes.{nothing, callee_shape, named_shape, element_adds, work_adds, graph_shape, shape_at, shapes_by, shapes_of, told_shape, IsDeep, IsLargeProcess, NestsDeep, HasLargeSize};
+ghost use Rattle.process_rules.specs.Shapes.{nothing, callee_shape, named_shape, element_adds, work_adds, graph_shape};
+ghost use Rattle.process_rules.specs.Shapes.{shape_at, shapes_by, shapes_of, told_shape, IsDeep, IsLargeProcess};
+ghost use Rattle.process_rules.specs.Shapes.{NestsDeep, HasLargeSize};
 ghost use Rattle.process_rules.specs.declared.people.Callee.TheVariants as callee;
 ghost use Rattle.process_rules.specs.declared.sizes.Shape.{Shape};
 ghost use Rattle.text_graphs.specs.Places.{IsLeastOf};
@@ -45,7 +47,11 @@ impl Shape {
 
     /// The shape of a graph, with what one more element adds.
     fn with(self, added: Shape) -> Shape
-        ensures { result ≡ record { depth = max self.depth added.depth; size = min (self.size + added.size) (2 ^ 64 - 1) } }
+        ensures { result ≡ record {
+          depth = max self.depth added.depth;
+          size = min (self.size + added.size)
+              (2 ^ 64 - 1);
+        } }
     {
         Shape {
             depth: self.depth.max(added.depth),
@@ -76,7 +82,8 @@ fn written_shape(depth: u32, size: u32) -> Shape
 
 /// The shape of the template at a place of the library; of nothing where there is none.
 fn stored_shape(known: &Known<'_>, place: u32) -> Shape
-    ensures { (before : List Shape) → result ≡ told_shape (callee_shape known.now.catalog.now.library before (Some (callee.Library place))) }
+    ensures { (before : List Shape) → result ≡ told_shape
+        (callee_shape known.now.catalog.now.library before (Some (callee.Library place))) }
 {
     match known.catalog().template(place) {
         None => Shape::nothing(),
@@ -86,7 +93,9 @@ fn stored_shape(known: &Known<'_>, place: u32) -> Shape
 
 /// The shape of what a name leads to, where those of the processes before are known.
 fn named_shape<'a>(known: &Known<'a>, shapes: &[Shape], process: u32, name: &'a NameAt) -> Shape
-    ensures { (before : List Shape) → shapes.now ≡ map told_shape before → result ≡ told_shape (named_shape (callee_meant known.now) known.now.catalog.now.library before process name.now.name) }
+    ensures { (before : List Shape) → shapes.now ≡ map told_shape before
+        → result ≡ told_shape (named_shape (callee_meant known.now) known.now.catalog.now.library before process
+        name.now.name) }
 {
     match known.callee(process, name) {
         None => Shape::nothing(),
@@ -98,7 +107,9 @@ fn named_shape<'a>(known: &Known<'a>, shapes: &[Shape], process: u32, name: &'a 
 /// What an activity adds to its graph.
 #[cycle(shape)]
 fn work_adds<'a>(known: &Known<'a>, shapes: &[Shape], process: u32, work: &'a WorkTree) -> Shape
-    ensures { (before : List Shape) → shapes.now ≡ map told_shape before → result ≡ told_shape (work_adds (named_shape (callee_meant known.now) known.now.catalog.now.library before process) work.now) }
+    ensures { (before : List Shape) → shapes.now ≡ map told_shape before
+        → result ≡ told_shape (work_adds (named_shape (callee_meant known.now) known.now.catalog.now.library before
+        process) work.now) }
 {
     match work {
         WorkTree::Program => Shape::nothing(),
@@ -115,7 +126,9 @@ fn element_adds<'a>(
     process: u32,
     element: &'a ElementTree,
 ) -> Shape
-    ensures { (before : List Shape) → shapes.now ≡ map told_shape before → result ≡ told_shape (element_adds (named_shape (callee_meant known.now) known.now.catalog.now.library before process) element.now) }
+    ensures { (before : List Shape) → shapes.now ≡ map told_shape before
+        → result ≡ told_shape (element_adds (named_shape
+        (callee_meant known.now) known.now.catalog.now.library before process) element.now) }
 {
     match element {
         ElementTree::Activity(activity) => work_adds(known, shapes, process, &activity.work),
@@ -132,7 +145,9 @@ fn graph_shape<'a>(
     process: u32,
     elements: &'a [ElementTree],
 ) -> Shape
-    ensures { (before : List Shape) → shapes.now ≡ map told_shape before → result ≡ told_shape (graph_shape (named_shape (callee_meant known.now) known.now.catalog.now.library before process) elements.now) }
+    ensures { (before : List Shape) → shapes.now ≡ map told_shape before
+        → result ≡ told_shape (graph_shape (named_shape
+        (callee_meant known.now) known.now.catalog.now.library before process) elements.now) }
 {
     let mut shape = Shape { depth: 0, size: 2 };
     for element in elements {
@@ -142,7 +157,9 @@ fn graph_shape<'a>(
 }
 
 fn shapes_meant(alloc: Global, known: &Known<'_>) -> Result<Vec<Shape>, AllocError>
-    ensures { IfOk result (λ shapes. shapes.items ≡ map told_shape (shapes_by (callee_meant known.now) known.now.catalog.now.library (map (λ p. p.now) known.now.processes.items))) }
+    ensures { IfOk result (λ shapes. shapes.items ≡ map told_shape
+        (shapes_by (callee_meant known.now) known.now.catalog.now.library
+        (map (λ p. p.now) known.now.processes.items))) }
 {
     let mut shapes = Vec::new(alloc);
     for (i, process) in known.processes().iter().enumerate() {
@@ -154,14 +171,17 @@ fn shapes_meant(alloc: Global, known: &Known<'_>) -> Result<Vec<Shape>, AllocErr
 
 /// The shapes of the processes of a text; a depth is told as far as 32 bits do, a size as far as 64 bits.
 pub fn shapes(alloc: Global, known: &Known<'_>) -> Result<Vec<Shape>, AllocError>
-    ensures { IfOk result (λ shapes. (processes : List ProcessTree) → IsKnowing known.now processes → IsIndexed known.now.catalog.now → shapes.items ≡ map told_shape (shapes_of known.now.catalog.now.library processes)) }
+    ensures { IfOk result (λ shapes. (processes : List ProcessTree) → IsKnowing known.now processes
+        → IsIndexed known.now.catalog.now → shapes.items
+        ≡ map told_shape (shapes_of known.now.catalog.now.library processes)) }
 {
     shapes_meant(alloc, known)
 }
 
 /// The place of a process that nests deeper than 16.
 fn deep_place(process: &ProcessTree, shape: Shape) -> Option<u32>
-    ensures { (exact : Shape) → shape ≡ told_shape exact → IsLeastOf (λ place. (16 < exact.depth) × (process.now.place ≡ place)) result }
+    ensures { (exact : Shape) → shape ≡ told_shape exact
+        → IsLeastOf (λ place. (16 < exact.depth) × (process.now.place ≡ place)) result }
 {
     if shape.depth > MOST_DEPTH {
         Some(process.place)
@@ -172,7 +192,8 @@ fn deep_place(process: &ProcessTree, shape: Shape) -> Option<u32>
 
 /// The place of a process whose size is above 65,536.
 fn large_place(process: &ProcessTree, shape: Shape) -> Option<u32>
-    ensures { (exact : Shape) → shape ≡ told_shape exact → IsLeastOf (λ place. (65536 < exact.size) × (process.now.place ≡ place)) result }
+    ensures { (exact : Shape) → shape ≡ told_shape exact
+        → IsLeastOf (λ place. (65536 < exact.size) × (process.now.place ≡ place)) result }
 {
     if shape.size > MOST_SIZE {
         Some(process.place)
@@ -182,7 +203,8 @@ fn large_place(process: &ProcessTree, shape: Shape) -> Option<u32>
 }
 
 fn deep_among(processes: &[&ProcessTree], shapes: &[Shape]) -> Option<u32>
-    ensures { (exact : List Shape) → shapes.now ≡ map told_shape exact → IsLeastOf (NestsDeep exact (map (λ p. p.now) processes.now)) result }
+    ensures { (exact : List Shape) → shapes.now ≡ map told_shape exact
+        → IsLeastOf (NestsDeep exact (map (λ p. p.now) processes.now)) result }
 {
     let mut least = None;
     for (i, process) in processes.iter().enumerate() {
@@ -192,7 +214,8 @@ fn deep_among(processes: &[&ProcessTree], shapes: &[Shape]) -> Option<u32>
 }
 
 fn large_among(processes: &[&ProcessTree], shapes: &[Shape]) -> Option<u32>
-    ensures { (exact : List Shape) → shapes.now ≡ map told_shape exact → IsLeastOf (HasLargeSize exact (map (λ p. p.now) processes.now)) result }
+    ensures { (exact : List Shape) → shapes.now ≡ map told_shape exact
+        → IsLeastOf (HasLargeSize exact (map (λ p. p.now) processes.now)) result }
 {
     let mut least = None;
     for (i, process) in processes.iter().enumerate() {
@@ -203,14 +226,18 @@ fn large_among(processes: &[&ProcessTree], shapes: &[Shape]) -> Option<u32>
 
 /// Rule 21: a process nests deeper than 16.
 pub fn deep_processes(known: &Known<'_>, shapes: &[Shape]) -> Option<u32>
-    ensures { (processes : List ProcessTree) → IsKnowing known.now processes → shapes.now ≡ map told_shape (shapes_of known.now.catalog.now.library processes) → IsLeastOf (IsDeep known.now.catalog.now.library processes) result }
+    ensures { (processes : List ProcessTree) → IsKnowing known.now processes
+        → shapes.now ≡ map told_shape (shapes_of known.now.catalog.now.library processes)
+        → IsLeastOf (IsDeep known.now.catalog.now.library processes) result }
 {
     deep_among(known.processes(), shapes)
 }
 
 /// Rule 22: the expanded size of a process is above 65,536.
 pub fn large_processes(known: &Known<'_>, shapes: &[Shape]) -> Option<u32>
-    ensures { (processes : List ProcessTree) → IsKnowing known.now processes → shapes.now ≡ map told_shape (shapes_of known.now.catalog.now.library processes) → IsLeastOf (IsLargeProcess known.now.catalog.now.library processes) result }
+    ensures { (processes : List ProcessTree) → IsKnowing known.now processes
+        → shapes.now ≡ map told_shape (shapes_of known.now.catalog.now.library processes)
+        → IsLeastOf (IsLargeProcess known.now.catalog.now.library processes) result }
 {
     large_among(known.processes(), shapes)
 }
