@@ -1,4 +1,4 @@
--- What a program activity has come to: its completions in the order of the attempts, and who holds the next attempt.
+-- A program activity: its completions in the order of the attempts, and who holds the next attempt.
 -- A step has no effect where the activity isn't as the step needs it.
 use Rattle.std.specs.Prelude.{ℕ, zero, suc, ◌+◌, ◌-◌, ◌^◌, min, ◌==◌, ◌&&◌, Bool, true, false, Option, Some, None, List}
 use Rattle.std.specs.Prelude.{[], ◌∷◌, ◌++◌, length, slice_get}
@@ -13,7 +13,7 @@ use Rattle.activity_states.specs.declared.states.Stage.{Stage}
 use Rattle.activity_states.specs.declared.states.Stage.TheVariants as stages
 
 -- An open activity has its completions, who holds the next attempt, how often agents took that attempt, and the
--- clock when it came to be.
+-- clock when it became ready.
 pub data State : Type 0 where
   waiting : State
   dead : State
@@ -60,7 +60,7 @@ hold_of dead = Nobody
 hold_of (opened cs hold takes since) = hold
 hold_of (finished cs) = Nobody
 
--- the clock when that attempt came to be; 0 where there is none
+-- the clock when that attempt became ready; 0 where there is none
 abbrev pub since_of : State → ℕ
 since_of waiting = 0
 since_of dead = 0

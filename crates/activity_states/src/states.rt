@@ -36,7 +36,7 @@ pub struct ProgramState {
     hold: Hold,
     /// How often agents took the next attempt.
     takes: u64,
-    /// The clock when the next attempt came to be.
+    /// The clock when the next attempt became ready.
     since: u64,
 }
 
@@ -183,7 +183,7 @@ impl ProgramState {
         &self.hold
     }
 
-    /// The clock when the next attempt came to be; 0 where there is none.
+    /// The clock when the next attempt became ready; 0 where there is none.
     pub fn since(&self) -> u64
         ensures { result ≡ since_of self.now }
     {

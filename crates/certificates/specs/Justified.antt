@@ -31,7 +31,7 @@ abbrev pub StopsAt : Basis → List CertLine → AcceptFault → Type 0
 StopsAt b lines (Line place) = IsFirstUnjustified b lines place
 StopsAt b lines NoMemory = Unit {0}
 
--- the line that isn't justified is one of so many
+-- the line that isn't justified is one of this many
 abbrev pub IsWithin : ℕ → AcceptFault → Type 0
 IsWithin count (Line place) = place < count
 IsWithin count NoMemory = Unit {0}

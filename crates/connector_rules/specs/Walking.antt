@@ -76,7 +76,7 @@ IsHandedOn groups block words pair =
     (a : ℕ) → a / 64 ≡ block → (a ≡ pair.0) ⊎ IsSet (word_of groups words pair.0) (a % 64)
     → IsSet (word_of groups words pair.1) (a % 64)
 
--- so many of the connectors were gone along
+-- this many of the connectors were gone along
 pub record IsFilled (elements : List ElementTree) (groups : List ℕ) (block : ℕ) (pairs : List (ℕ × ℕ)) (done : ℕ)
     (words : List ℕ) : Type 0 where
   pub reached : (a b : ℕ) → a < length (activities_in elements) → b < length (activities_in elements) → a / 64 ≡ block

@@ -36,7 +36,7 @@ idle_completed ts item settings given None before after is none = (is.0 ∙ none
 idle_completed ts item settings given (Some e) before after is none = idle_live _ given before after is none
 
 module _ (c c' : Core) (counted : AreCounted c) where
-  -- all numbers, by what becomes of the one that a transaction is about
+  -- all numbers, by what happens to the one that a transaction is about
   by_root : (about : ℕ) (given : List Message) (qs : List (List Message)) (becomes : Option Instance → Option Instance → Type 0) → ChangesRoot about becomes c c'
       → c'.queues ≡ put_in (queue_now c') given qs → length qs ≡ length c.queues → 1 ≤ length c.queues → Agrees (templates c) (templates c') → KeepsStarts c c' → AreOf about given
       → ((other : ℕ) → (other ≡ about → ⊥) → (n : ℕ) → messages_in qs other n ≡ messages_in c.queues other n)

@@ -1,4 +1,4 @@
--- A transaction that may be meets what the proofs ask of it, and so each state that transactions come to is right.
+-- A transaction that may be meets what the proofs ask of it, and so each state to which transactions lead is right.
 use Rattle.std.proofs.Common.{◌≡◌, ℕ, zero, suc, ◌-◌, ◌<◌, ◌≤◌, false, List, [], ◌∷◌, ◌++◌, drop, length, Option, Some, None, refl, ap, sym, subst, ◌∙◌, arith}
 use Rattle.std.proofs.lemmas.List.{length-set}
 use Rattle.std.proofs.lemmas.Option.{none-some}

@@ -112,7 +112,7 @@ run_after c (Clock minutes) h = h
 abbrev pub runs_after : Core → Transaction → (ℕ → List Event) → ℕ → List Event
 runs_after c t runs root = if is_root root (root_about t) then run_after c t (runs root) else runs root
 
--- the runs after so many transactions of a history of states
+-- the runs after this many transactions of a history of states
 abbrev pub runs_at : (ℕ → Core) → (ℕ → Transaction) → (ℕ → List Event) → ℕ → ℕ → List Event
 runs_at states made runs zero = runs
 runs_at states made runs (suc n) = runs_after (states n) (made n) (runs_at states made runs n)
@@ -176,7 +176,7 @@ pub record AreTold (c : Core) (runs : ℕ → List Event) : Type 0 where
 abbrev pub known_now : Core → ℕ → Known
 known_now c root = by_facts (length (accepted c root)) (accepted c root)
 
--- ---- states that transactions come to
+-- ---- states to which transactions lead
 
 -- a state is right: its roots are after these runs, which complete what the live transactions do, free numbers are
 -- unused, there is a queue, the library is sound, and names lead to the newest of it

@@ -28,7 +28,7 @@ IsNotice late = (0 < late.minutes) × (0 < length late.notify)
 abbrev pub minutes_beyond : ℕ → ℕ → Option ℕ
 minutes_beyond clock time = if nat_lt time clock then Some (clock - time) else None
 
--- by how many minutes an item is late that came to be at a time and expires after so many minutes, if it ever does
+-- by how many minutes an item is late that became ready at a time and expires after this many minutes, if it ever does
 abbrev pub minutes_late : ℕ → ℕ → Option ℕ → Option ℕ
 minutes_late clock since expires = option_and_then (λ minutes. minutes_beyond clock (since + minutes)) expires
 

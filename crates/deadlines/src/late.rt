@@ -124,7 +124,7 @@ fn notice(
 }
 
 /// The late items of a state, by root and then in show order. An item is late where the clock is more than
-/// the clock when it came to be and the minutes after which it expires.
+/// the clock when it became ready and the minutes after which it expires.
 pub fn overdue(alloc: Global, core: &Core) -> Result<Vec<Late>, AllocError>
     ensures notices { IfOk result (λ found. All IsNotice found.items) }
     ensures exact { IfOk result (λ found. AreOverdue core.now found.items) }

@@ -1,6 +1,6 @@
 //! Which open items are late, by how many minutes, and who is to be notified of each?
 //!
-//! Knows the open items of a state, its clock and its people; never how an item came to be open, nor any
+//! Knows the open items of a state, its clock and its people; never how an item became open, nor any
 //! byte of a store. Begin with [`overdue`].
 #![tactic(auto)]
 

@@ -33,12 +33,12 @@ line_printed line = line_text line ++ 10 ∷ []
 abbrev pub certificate_printed : List CertLine → List ℕ
 certificate_printed lines = codes "ok EXPLAIN " ++ decimal (length lines) ++ 10 ∷ [] ++ flat_map line_printed lines
 
--- what is printed where so many of the lines, from the first on, are justified
+-- what is printed where this many of the lines, from the first on, are justified
 abbrev pub verdict_printed : ℕ → ℕ → List ℕ
 verdict_printed good total = if good == total then codes "ok VERIFY " ++ decimal good ++ 10 ∷ [] else codes "no STEP "
     ++ decimal (good + 1) ++ 10 ∷ []
 
--- a verdict on so many lines, of which so many are justified from the first on: its text, and whether it is a refusal
+-- a verdict on this many lines, of which this many are justified from the first on: its text, and whether it is a refusal
 pub record IsVerdict (good total : ℕ) (text : List ℕ) (refused : Bool) : Type 0 where
   pub within : good ≤ total
   pub printed : text ≡ verdict_printed good total

@@ -28,7 +28,7 @@ basis_in c f = record {
       f.facts;
 }
 
--- so many of the lines, from the first on, are justified, and the next one, if there is one, isn't
+-- this many of the lines, from the first on, are justified, and the next one, if there is one, isn't
 abbrev pub AreGood : Basis → List CertLine → ℕ → Type 0
 AreGood b lines good = ((good ≡ length lines) × AreJustified b lines good) ⊎ IsFirstUnjustified b lines good
 

@@ -38,7 +38,7 @@ pub fn justified(
 /// These lines, which are all justified.
 ///
 /// One that isn't is answered as want of memory: nothing that the accepted completions don't prove leaves the
-/// engine. It never comes to that; this is tested, and not proved.
+/// engine. That never happens; this is tested, and not proved.
 pub fn checked(
     alloc: Global,
     core: &Core,

@@ -117,7 +117,7 @@ fn good_lines(alloc: Global, core: &Core, lines: &[CertLine]) -> Result<u64, All
     }
 }
 
-/// What `verify` prints where so many of the lines, from the first on, are justified.
+/// What `verify` prints where this many of the lines, from the first on, are justified.
 fn verdict(alloc: Global, good: u64, total: u64) -> Result<(Vec<u8>, bool), AllocError>
     requires { good ≤ total }
     ensures { IfOk result (λ answer. IsVerdict good total answer.0.items answer.1) }

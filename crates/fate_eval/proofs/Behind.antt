@@ -47,7 +47,7 @@ pub one_below : (es : List Entry) (e e' : Entry) (q : Part) (p : List Part) → 
     → dated_in (es ++ e' ∷ []) p ≡ option_or (dated_in es p) (dated_in (e ∷ []) (q ∷ p))
 one_below es e e' q p is same = output_append es (e' ∷ []) p ∙ ap (option_or (dated_in es p)) (below_one e e' q p is same)
 
--- the first so many, and one more
+-- the first n, and one more
 pub output_more : (es : List Entry) (i : ℕ) (e : Entry) (p : List Part) → i < length es → e ≡ get_or es i e
     → option_or (dated_in (take i es) p) (dated_in (e ∷ []) p) ≡ dated_in (take (i + 1) es) p
 output_more es i e p less is =
@@ -72,7 +72,7 @@ fact_more es fs i e f p less is parts out after before =
     let long : 0 + length (take i fs) ≡ i = omega arith in
     output_append es (e ∷ []) p ∙ rw (before, parts, out, after, ← more) (sym (rw long at (facts_append 0 (take i fs) (f ∷ []) p)))
 
--- ---- the completions of a root, of which the first so many came
+-- ---- the completions of a root, of which the first n came
 
 pub outputs_from : (fs : List Fact) (p : List Part) (m : ℕ) → option_map (λ d. d.output) (dated_from m fs p) ≡ output_of fs p
 outputs_from [] p m = refl

@@ -1,4 +1,4 @@
--- An attempt, by the first so many completions, from what is found of the scope that it runs.
+-- An attempt, by the first n completions, from what is found of the scope that it runs.
 use Rattle.std.proofs.Common.{◌≡◌, ℕ, suc, ◌≤◌, List, [], ◌∷◌, Option, Some, None, refl, ap, sym, subst, ◌∙◌, inl, inr, arith, get_or, append_assoc}
 use Rattle.std.specs.List.{Contains}
 use Rattle.std.specs.Option.{option_map}

@@ -1,4 +1,4 @@
--- A pass over a scope in the order of its graph, by the first so many completions.
+-- A pass over a scope in the order of its graph, by the first n completions.
 use Rattle.std.proofs.Common.{◌≡◌, ◌⊎◌, ℕ, zero, suc, ◌+◌, ◌≤◌, ◌<◌, Bool, true, false, List, [], ◌∷◌, ◌++◌, length, set, get_or, replicate, Option, Some, None, refl, ap, sym, ◌∙◌, arith, inl, inr, length-set}
 use Rattle.std.proofs.Math.Path.{fun_ext}
 use Rattle.std.proofs.lemmas.Bool.{cases_lt}

@@ -1,4 +1,4 @@
--- An activity, by how the others have ended after so many completions.
+-- An activity, by how the others have ended after this many completions.
 use Rattle.std.proofs.Common.{◌≡◌, ℕ, suc, ◌+◌, ◌≤◌, ◌==◌, ◌&&◌, Bool, true, false, List, [], ◌∷◌, length, map, get_or, Option, Some, None, cond, refl, ap, sym, subst, ◌∙◌, inl, inr, arith}
 use Rattle.std.specs.Prelude.{if◌then◌else◌, is_none}
 use Rattle.std.specs.List.{All, filter, list_any, last_or}
@@ -95,7 +95,7 @@ module _ (ts : List Template) (depth most : ℕ) (es : List Entry) (g : Graph) (
       go false is = is
       go true is = let n : None ≡ Some v = rw is at h in let m : ⊥ = cc in absurd m
 
-  -- a join that is known after so many completions is the same for whoever knows the ends after no fewer
+  -- a join that is known after this many completions is the same for whoever knows the ends after no fewer
   pub joined_at : (v : Bool) (after n : ℕ) (e : Ends) → joined activity.join (values (ends_of ends)) ≡ Some v → AfterControls (out-Graph g).controls afters a after → after ≤ n → Knows n ends afters e
       → joined activity.join (values_at (known n) (out-Graph g).controls e a) ≡ Some v
   joined_at v after n e is controls less knows =

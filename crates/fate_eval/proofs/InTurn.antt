@@ -1,4 +1,4 @@
--- The attempts of an activity, one after the other, by the first so many completions.
+-- The attempts of an activity, one after the other, by the first n completions.
 use Rattle.std.proofs.Common.{◌≡◌, ℕ, zero, suc, ◌+◌, ◌≤◌, true, false, List, [], ◌∷◌, ◌++◌, length, Option, Some, None, refl, ap, sym, subst, ◌∙◌, ◌⊎◌, inl, inr, arith}
 use Rattle.std.specs.List.{All, Contains, last_or}
 use Rattle.std.proofs.lemmas.List.{get_or_default}
@@ -62,7 +62,7 @@ module _ (ts : List Template) (depth most : ℕ) (es : List Entry) (g : Graph) (
   abbrev rows_of : ℕ → List Start → List FateRow
   rows_of n xs = rows_below (rows_inside ts depth) (k n) activity (graph_in ts activity.work) xs s
 
-  -- after so many completions attempt j is next, on this input
+  -- after this many completions attempt j is next, on this input
   pub record InTurn (since after j : ℕ) (input : Container) (ready : List ℕ) : Type 0 where
     pub later : since ≤ after
     pub goes : (n : ℕ) → after ≤ n → (rows : List FateRow) × Goes ts depth (k n) g s a activity base j input rows

@@ -1,4 +1,4 @@
--- Read first: Behind, Groups and Seen (the completions, seen from a scope), Turns (attempts), InOrder (a pass). Then what is so after so many completions:
+-- Read first: Behind, Groups and Seen (the completions, seen from a scope), Turns (attempts), InOrder (a pass). Then what is so after this many completions:
 -- Sources, InTurn, InTime, Below and InPass (what is found is so in time), RowScopes, WholeTurn, WholeTime, WholeBelow and WholePass (all is found), Marks (a root).
 pub mod Behind
 pub mod Groups

@@ -142,7 +142,7 @@ module _ (ts : List Template) (depth : ℕ) (k : Known) (g : Graph) (s : Path) (
       go true is = (cc, cc, cc)
       go false is = let e : looped (out-Graph g).loops a out base ≡ next = cc in (ap nf e, ap ne e, ap ns e)
 
-  -- what all attempts come to
+  -- the result of all attempts
   come_to : (f : Fate) (e : SourceEnd) (rows : List FateRow)
       → fate_from k.most give t activity.work 1 base ≡ f → end_from k.most give t 1 base ≡ e → rows ≡ rows_of (starts (suc k.most) give t 1 base)
       → AreAttempts ts depth k g s a activity base f e rows

@@ -1,4 +1,4 @@
--- An attempt: all that is so after so many completions is found of the scope that it runs.
+-- An attempt: all that is so after this many completions is found of the scope that it runs.
 use Rattle.std.proofs.Common.{◌≡◌, ℕ, suc, ◌≤◌, List, [], ◌∷◌, ◌++◌, Option, Some, None, refl, ap, sym, subst, ◌∙◌, ◌⊎◌, inl, inr, append-nil, append_assoc}
 use Rattle.std.specs.Option.{option_map}
 use Rattle.flow_model.specs.Containers.{with_return_code}

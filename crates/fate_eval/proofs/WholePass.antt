@@ -1,4 +1,4 @@
--- A pass over a scope in the order of its graph: all that is so after so many completions is found.
+-- A pass over a scope in the order of its graph: all that is so after this many completions is found.
 use Rattle.std.proofs.Common.{◌≡◌, ◌≢◌, ◌⊎◌, ℕ, zero, suc, ◌+◌, ◌≤◌, ◌<◌, Bool, true, false, List, [], ◌∷◌, ◌++◌, length, set, get_or, Option, Some, None, refl, ap, sym, subst, ◌∙◌, arith, inl, inr}
 use Rattle.std.proofs.Math.Path.{fun_ext}
 use Rattle.std.proofs.lemmas.Bool.{cases_lt}
@@ -66,7 +66,7 @@ module _ (ts : List Template) (depth most : ℕ) (es : List Entry) (g : Graph) (
   abbrev count : ℕ
   count = length (out-Graph g).activities
 
-  -- all that is so of the activities that the pass has come to
+  -- all that is so of the activities that the pass has reached
   pub record IsToldTo (since i : ℕ) (ends : List SourceEnd) (afters ready : List ℕ) : Type 0 where
     pub tells : (n j : ℕ) → since ≤ n → j < i → Tells n ends afters (e_at n) (slice_index order j)
     pub inside : (n j : ℕ) → since ≤ n → j < i → IsShownReady es s (row_list n (slice_index order j)) n → Contains ready n

@@ -1,4 +1,4 @@
--- An activity, by how the others have ended: all that is so after so many completions is found.
+-- An activity, by how the others have ended: all that is so after this many completions is found.
 use Rattle.std.proofs.Common.{◌≡◌, ℕ, suc, ◌≤◌, ◌==◌, ◌&&◌, Bool, true, false, List, [], ◌∷◌, ◌++◌, length, map, Option, Some, None, refl, ap, sym, subst, ◌∙◌, ◌⊎◌, inl, inr, arith}
 use Rattle.std.specs.Prelude.{if◌then◌else◌, is_none}
 use Rattle.std.specs.List.{All, filter, list_any, last_or}

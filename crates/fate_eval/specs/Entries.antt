@@ -21,7 +21,7 @@ abbrev pub dated_in : List Entry → List Part → Option Dated
 dated_in [] p = None
 dated_in (e ∷ es) p = if same_parts e.parts.now p then Some (dated e) else dated_in es p
 
--- the same of the completions of a root, of which so many came before
+-- the same of the completions of a root, of which this many came before
 abbrev pub dated_from : ℕ → List Fact → List Part → Option Dated
 dated_from n [] p = None
 dated_from n (f ∷ fs) p = if same_parts f.item.parts p then Some
@@ -31,7 +31,7 @@ dated_from n (f ∷ fs) p = if same_parts f.item.parts p then Some
 abbrev pub output_in : List Entry → List Part → Option Container
 output_in es p = option_map (λ d. d.output) (dated_in es p)
 
--- an output that is known after so many completions
+-- an output that is known after this many completions
 abbrev pub by_then : ℕ → Option Dated → Option Container
 by_then n None = None
 by_then n (Some d) = if nat_le d.after n then Some d.output else None

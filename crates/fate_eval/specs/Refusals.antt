@@ -32,7 +32,7 @@ AreMarked marks n = (i : ℕ) → i < n → slice_get marks i ≡ Some true
 
 -- ---- faults
 
--- the completion that isn't ready is one of so many
+-- the completion that isn't ready is one of this many
 abbrev pub IsWithin : ℕ → FateFault → Type 0
 IsWithin n (NotReady i) = i < n
 IsWithin n NoMemory = Unit {0}

@@ -82,7 +82,7 @@ pub record IsTimelyProgram (known : Option Dated) (since : ℕ) (out : Option Co
   pub gave : (n : ℕ) (o : Container) → out ≡ Some o → after ≤ n → by_then n known ≡ Some o
   pub each : All (λ i. (since ≤ i) × ((o : Container) × (known ≡ Some (record { after = i + 1; output = o })))) ready
 
--- attempt j, which may begin after so many completions
+-- attempt j, which may begin after this many completions
 pub record IsTimelyAttempt (ts : List Template) (depth most : ℕ) (es : List Entry) (s : Path) (activity : Activity)
     (j : ℕ) (input : Container) (since : ℕ)
     (out : Option Container) (after : ℕ) (ready : List ℕ) : Type 0 where
@@ -124,7 +124,7 @@ tried_rows ts depth most es s activity n outs xs =
     record { scope = s; name = activity.name; fate = tried activity (length outs) (last_or None outs) }
     ∷ rows_below (rows_inside ts depth) (known_after most es n) activity (graph_in ts activity.work) xs s
 
--- the attempts of an activity, of which the first may begin after so many completions
+-- the attempts of an activity, of which the first may begin after this many completions
 pub record AreTimely (ts : List Template) (depth most : ℕ) (es : List Entry) (g : Graph) (s : Path) (a : ℕ)
     (activity : Activity) (base : Container) (since : ℕ)
     (end : SourceEnd) (after : ℕ) (ready : List ℕ) : Type 0 where
@@ -138,7 +138,7 @@ pub record AreTimely (ts : List Template) (depth most : ℕ) (es : List Entry) (
       (starts (suc most) (gives ts (known_after most es i) (output_of_scope ts depth) activity.name activity.work)
       (trial g a activity base) 1 base)) i) ready
 
--- the attempts of an activity whose join is true after so many completions, by how the others have ended
+-- the attempts of an activity whose join is true after this many completions, by how the others have ended
 pub record IsTimelyOpen (ts : List Template) (depth most : ℕ) (es : List Entry) (g : Graph) (input : Container)
     (s : Path) (ends : List SourceEnd) (afters : List ℕ) (a : ℕ)
     (activity : Activity) (since : ℕ) (end : SourceEnd) (after : ℕ) (ready : List ℕ) : Type 0 where

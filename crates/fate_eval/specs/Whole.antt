@@ -1,4 +1,4 @@
--- All that is so after so many completions is found by a pass, with a number of completions that is no greater.
+-- All that is so after this many completions is found by a pass, with a number of completions that is no greater.
 use Rattle.std.specs.Prelude.{◌≡◌, ℕ, suc, ◌+◌, ◌≤◌, ◌==◌, true, false, map, is_none, if◌then◌else◌, Option, Some, None}
 use Rattle.std.specs.Prelude.{List, [], ◌∷◌, length}
 use Rattle.std.specs.List.{All, Contains, filter, list_any, last_or}

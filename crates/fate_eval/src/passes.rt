@@ -57,7 +57,7 @@ struct Shown {
     ready: Vec<u64>,
 }
 
-/// What the attempts of an activity come to, after how many completions, and what an [`Attempt`] has of each.
+/// The result of the attempts of an activity, after how many completions, and what an [`Attempt`] has of each.
 #[derive(Drop)]
 struct Attempts {
     fate: Fate,
@@ -129,7 +129,7 @@ enum Turn {
     GoesOn(Container),
 }
 
-/// The number of a completion, counted from 0, if its item could be completed after so many.
+/// The number of a completion, counted from 0, if its item could be completed after this many.
 fn ready_since(alloc: Global, after: u64, since: u64) -> Result<Vec<u64>, AllocError>
     ensures sound { IfOk result (λ v. All (λ i. (since ≤ i) × (i + 1 ≡ after)) v.items) }
     ensures whole { IfOk result (λ v. (i : ℕ) → since ≤ i → i + 1 ≡ after → Contains v.items i) }
@@ -747,7 +747,7 @@ fn mark(marks: &mut Vec<bool>, number: u64)
     }
 }
 
-/// Which of so many completions were ready in their turn.
+/// Which of this many completions were ready in their turn.
 fn marked(alloc: Global, ready: &[u64], count: usize) -> Result<Vec<bool>, AllocError>
     ensures long { IfOk result (λ v. length v.items ≡ count) }
     ensures ready { IfOk result (λ v. (i : ℕ) → slice_get v.items i ≡ Some true → Contains ready.now i) }

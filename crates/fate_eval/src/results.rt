@@ -1,4 +1,4 @@
-//! What the completions come to.
+//! The results of the completions.
 ghost use Rattle.std.specs.Prelude.{◌≡◌};
 ghost use Rattle.fate_eval.specs.declared.results.FateFault.TheVariants.{NoMemory};
 

@@ -1,4 +1,4 @@
-//! Two programs, one after the other: which completions are taken, and what they come to.
+//! Two programs, one after the other: which completions are taken, and what results.
 use crate::{FateFault, Fates, fates};
 use flow_model::{
     Activity, Container, Control, DoneBy, Fact, Fate, Graph, Join, LeafRows, Leaves, Library, List,

@@ -1,4 +1,4 @@
--- Attempts that have come to an end stay as they are.
+-- Attempts that have ended stay as they are.
 use Rattle.flow_model.specs.Conditions.{holds}
 use Rattle.flow_model.specs.Fates.{ended}
 use Rattle.flow_model.specs.Scopes.{Gives, Trial, tries, and_then, gives}

@@ -105,7 +105,7 @@ base_kept g activity a input e e' kept h =
     (λ i d less to b from. kept i d less to b from (fed_true (out-Graph g).lines a e h i d less to b from))
 
 module _ (ts : List Template) (k k' : Known) (runs runs' : Runs) (g : Graph) (input : Container) (e e' : Ends) where
-  -- attempts that have come to an end stay
+  -- attempts that have ended stay
   pub attempts_kept : (a : ℕ) (activity : Activity) → k.most ≤ k'.most → LinesKept (out-Graph g).lines a e e'
       → (is_fed (out-Graph g).lines a e ≡ true
       → Along (Keeps (gives ts k runs activity.name activity.work) (gives ts k' runs' activity.name activity.work)) (gives ts k runs activity.name activity.work)

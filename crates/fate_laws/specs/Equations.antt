@@ -1,4 +1,4 @@
--- The plain equations of the fates: what a connector is worth, what a join asks, and what becomes of an activity, by
+-- The plain equations of the fates: what a connector is worth, what a join asks, and what happens to an activity, by
 -- how the others have ended.
 use Rattle.std.specs.Prelude.{◌≡◌, ◌≢◌, ◌↔◌, ◌⊎◌, ℕ, ◌+◌, ◌≤◌, ◌<◌, ◌==◌, Bool, true, false, Option, Some, None, List}
 use Rattle.std.specs.Prelude.{[], map, length, slice_get, count_by, IsTrue}

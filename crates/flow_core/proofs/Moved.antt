@@ -44,7 +44,7 @@ changes_between root becomes a b c d before changes after = record {
   others = λ other no_. same_roots c d after other ∙ changes.others other no_ ∙ same_roots a b before other;
 }
 
--- what becomes of a root may be told by more that is so
+-- what happens to a root may be told by more that is so
 pub changes_as : (root : ℕ) (becomes becomes' : Option Instance → Option Instance → Type 0) (a b : Core)
     → ((before after : Option Instance) → becomes before after → becomes' before after) → ChangesRoot root becomes a b → ChangesRoot root becomes' a b
 changes_as root becomes becomes' a b more changes = record { here = more _ _ changes.here; others = changes.others }

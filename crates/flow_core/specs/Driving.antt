@@ -41,7 +41,7 @@ use Rattle.flow_core.specs.declared.state.Core.{Core}
 abbrev pub templates : Core → List Template
 templates c = c.store.catalog.library.templates
 
--- ---- what becomes of one root
+-- ---- what happens to one root
 
 -- the template at a place is this version of a process
 pub record IsVersionAt (ts : List Template) (process : Name) (version place : ℕ) : Type 0 where
@@ -114,7 +114,7 @@ program_entry (Some e) = entry_with e (program_in e.activity.work)
 abbrev pub item_of : Core → Path → Option Entry
 item_of c item = program_entry (option_and_then (entry_in (templates c) item) (instance_of c item.root))
 
--- ---- what becomes of the root of a transaction
+-- ---- what happens to the root of a transaction
 
 -- where a root is live, this becomes of it; where it isn't, nothing is given
 abbrev pub IfLive : (Instance → Instance → Type 0) → List Message → Option Instance → Option Instance → Type 0
@@ -152,7 +152,7 @@ IsSuspended suspended i i' = i' ≡ record i { suspended = suspended }
 abbrev pub IsTerminated : Instance → Instance → Type 0
 IsTerminated i i' = i' ≡ record i { terminated = true }
 
--- what becomes of the root that a transaction is about, and what it gives, by the templates and the items that are
+-- what happens to the root that a transaction is about, and what it gives, by the templates and the items that are
 -- there
 abbrev pub Becomes : List Template → (Path → Option Entry) → Transaction → List Message → Option Instance
     → Option Instance → Type 0

@@ -1,4 +1,4 @@
--- What becomes of a command that may make a transaction.
+-- The verdict on a command that may make a transaction.
 use Rattle.std.specs.Prelude.{◌≡◌, ◌<◌, Some, None}
 use Rattle.flow_model.specs.declared.commands.Command.{Command}
 use Rattle.flow_core.specs.Allowing.{IsAllowed}
@@ -8,7 +8,7 @@ use Rattle.flow_core.specs.declared.judging.Verdict.{Verdict}
 use Rattle.flow_core.specs.declared.judging.Verdict.TheVariants.{Do, Same, Refused}
 use Rattle.flow_core.specs.declared.state.Core.{Core}
 
--- it is the START of a live root, by its key; else it has a first refusal; else it comes to its transaction, below the
+-- it is the START of a live root, by its key; else it has a first refusal; else it gives its transaction, below the
 -- limit, where it may be
 abbrev pub IsVerdict : Core → Command → Verdict → Type 0
 IsVerdict c command (Do t) =

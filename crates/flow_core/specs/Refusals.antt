@@ -126,7 +126,7 @@ input_test written (Some t) = value_test (out-Graph t.graph).input None written
 abbrev pub outcome_test : Outcome → Subject → Option Refusal
 outcome_test outcome s = value_test s.item.activity.output outcome.rc outcome.settings
 
--- a clock has so many minutes at most, else VALUE
+-- a clock has this many minutes at most, else VALUE
 abbrev pub minutes_test : NumberAt → Option Refusal
 minutes_test number = unless (nat_le number.size 2147483647) (value_at number.place)
 

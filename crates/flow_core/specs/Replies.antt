@@ -26,7 +26,7 @@ note_text (Moded mode) = mode_text mode
 note_text Deleted = codes "DELETED"
 note_text (Clocked minutes) = codes "CLOCK " ++ decimal minutes
 
--- the reply of a transaction: its number, and what it came to
+-- the reply of a transaction: its number, and its result
 abbrev pub applied_text : Applied → List ℕ
 applied_text applied = codes "ok " ++ decimal applied.number ++ 32 ∷ [] ++ note_text applied.note ++ 10 ∷ []
 

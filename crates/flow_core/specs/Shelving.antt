@@ -121,14 +121,14 @@ unlisted c path w = unlisted_at (rank_now c path) w
 
 -- ---- which items a transaction makes ready
 
--- a root takes a message: these items came to be ready; a root that is terminated stays as it is
+-- a root takes a message: these items became ready; a root that is terminated stays as it is
 pub record MakesReady (ts : List Template) (clock : ℕ) (message : Message) (items : List Path)
     (i i' : Instance) : Type 0 where
   pub idle : i.terminated ≡ true → (i' ≡ i) × (items ≡ [])
   pub takes : i.terminated ≡ false → (given : List Message)
       × ((g : Graph) → graph_of ts i.template ≡ Some g → Takes ts clock message g i.scope i'.scope given items)
 
--- an item of it is completed so: these items came to be ready
+-- an item of it is completed so: these items became ready
 pub record CompletesReady (ts : List Template) (clock : ℕ) (item : Path) (completed : Completed) (items : List Path)
     (i i' : Instance) : Type 0 where
   pub given : List Message
@@ -146,16 +146,16 @@ IfRootLive becomes items (Some i) (Some i') = becomes items i i'
 
 -- ---- what a turn and a completion do, with one list of the messages that follow
 --
--- Driving says what a turn puts on the queues, and the clauses above say which items came to be ready, each with a list
+-- Driving says what a turn puts on the queues, and the clauses above say which items became ready, each with a list
 -- of its own. Here both speak of the same messages and the same items, so that they determine the next state.
 
--- a root that isn't terminated takes a message: these messages follow, and these items come to be ready
+-- a root that isn't terminated takes a message: these messages follow, and these items become ready
 pub record TakesGiving (ts : List Template) (clock : ℕ) (message : Message) (given : List Message) (items : List Path)
     (i i' : Instance) : Type 0 where
   pub takes : i.terminated ≡ false → (g : Graph) → graph_of ts i.template ≡ Some g
       → Takes ts clock message g i.scope i'.scope given items
 
--- an item of a root is completed: these messages follow, and these items come to be ready
+-- an item of a root is completed: these messages follow, and these items become ready
 pub record CompletesGiving (ts : List Template) (clock : ℕ) (item : Path) (completed : Completed)
     (given : List Message) (items : List Path) (i i' : Instance) : Type 0 where
   pub completes : (g : Graph) → graph_of ts i.template ≡ Some g
@@ -218,7 +218,7 @@ abbrev pub performer_named : Who → Option Name
 performer_named (who.Person name) = Some name
 performer_named (who.Agent take) = None
 
--- what becomes of the shelves by a transaction
+-- what happens to the shelves by a transaction
 abbrev pub Shelves : Core → Transaction → Core → Type 0
 Shelves c (Turn number message) c' = TurnShelves c message c'
 Shelves c (Claim item who) c' = HoldShelves c item c'

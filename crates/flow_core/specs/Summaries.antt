@@ -1,4 +1,4 @@
--- What a history comes to, as far as a store keeps it: its counts, and its live transactions under their numbers.
+-- The summary of a history, as far as a store keeps it: its counts, and its live transactions under their numbers.
 use Rattle.std.specs.Prelude.{◌≡◌, ◌⊎◌, ℕ, ◌+◌, ◌<◌, ◌≤◌, ◌==◌, max, nat_le, Bool, false, not, if◌then◌else◌, Option}
 use Rattle.std.specs.Prelude.{Some, None, List, [], ◌∷◌, ◌++◌, length, unwrap_or}
 use Rattle.std.specs.List.{filter}
@@ -71,7 +71,7 @@ without root s = with_live (without_root root s.live) s
 abbrev pub kept_by : ℕ → Transaction → Summary → Summary
 kept_by number t s = with_live (live_after number t s.live) s
 
--- a summary with one transaction more under this number, where so many are there then
+-- a summary with one transaction more under this number, and this count of transactions
 abbrev pub with_transaction : ℕ → ℕ → Transaction → Summary → Summary
 with_transaction transactions number t s = record {
   queues = s.queues;

@@ -1,4 +1,4 @@
--- What becomes of a command.
+-- The verdict on a command.
 use Rattle.std.specs.Prelude.{◌≡◌, ℕ, ◌+◌, ◌-◌, ◌^◌, min, Ok, Some, None, List, length}
 use Rattle.std.specs.Option.{option_map_or}
 use Rattle.activity_states.specs.States.{next_take, fate_of}

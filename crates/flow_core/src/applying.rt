@@ -75,7 +75,7 @@ fn copy_program(alloc: Global, program: &Program) -> Result<Program, AllocError>
 }
 
 impl Root {
-    /// The root takes a message: the messages that it gives, and the items that came to be ready.
+    /// The root takes a message: the messages that it gives, and the items that became ready.
     fn take_message(
         &mut self,
         alloc: Global,
@@ -337,7 +337,7 @@ impl Core {
         Ok(())
     }
 
-    /// Puts messages, and lists the items that came to be ready.
+    /// Puts messages, and lists the items that became ready.
     fn follow(&mut self, messages: List<Message>, ready: Vec<Path>) -> Result<(), AllocError>
         ensures kept { noted self.new ≡ noted self.old }
         ensures rest { self.new ≡ record self.old { queues = self.new.queues; worklists = self.new.worklists } }
@@ -350,7 +350,7 @@ impl Core {
     }
 
     /// What a message does to its root, where that is live: the messages that it gives, and the items that
-    /// came to be ready.
+    /// became ready.
     fn take_in_root(&mut self, message: &Message) -> Result<(List<Message>, Vec<Path>), AllocError>
         ensures rest { self.new ≡ record self.old { live_roots = self.new.live_roots } }
         ensures roots { IfOk result (λ given. ChangesRoot (root_of_message message.now)

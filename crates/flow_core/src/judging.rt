@@ -29,10 +29,10 @@ use flow_model::{
 use std::alloc::AllocError;
 use template_check::ImportFault;
 
-/// The clock is at most so many minutes.
+/// The clock is at most this many minutes.
 pub(crate) const MOST_MINUTES: u64 = 2_147_483_647;
 
-/// What becomes of a command.
+/// The verdict on a command.
 #[derive(Drop)]
 pub enum Verdict {
     /// It is allowed, and makes this transaction.
@@ -446,7 +446,7 @@ impl Core {
         }
     }
 
-    /// What becomes of a command that may make a transaction; nothing is changed.
+    /// The verdict on a command that may make a transaction; nothing is changed.
     pub fn judge(&self, command: &Command) -> Result<Verdict, AllocError>
         ensures { IfOk result (IsVerdict self.now command.now) }
     {

@@ -15,7 +15,7 @@ use std::alloc::{AllocError, Global};
 #[derive(Drop)]
 pub struct OpenItem<'a> {
     pub item: Path,
-    /// The clock when the item came to be.
+    /// The clock when the item became ready.
     pub since: u64,
     pub program: &'a Program,
     pub hold: &'a Hold,

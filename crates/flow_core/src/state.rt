@@ -1,4 +1,4 @@
-//! The state: what the transactions so far come to.
+//! Engine state: the result of applying all transactions so far.
 ghost use Rattle.std.specs.Prelude.{◌≡◌, ◌+◌, ◌-◌, ◌^◌, ◌<◌, ◌↔◌, ◌≤◌, min, length, [], IfOk, IsTrue, option_copied};
 ghost use Rattle.flow_core.specs.Allowing.{IsBlank};
 ghost use Rattle.flow_core.specs.Summaries.{summary};

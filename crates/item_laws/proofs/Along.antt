@@ -1,4 +1,4 @@
--- The items of a scope inside which one scope changes: what becomes of them is what becomes of the items there.
+-- The items of a scope inside which one scope changes: what happens to them is what happens to the items there.
 use Rattle.std.proofs.Common.{◌≡◌, ℕ, zero, suc, List, [], ◌∷◌, ◌++◌, Option, Some, None, refl, ap, sym, ◌∙◌, subst, inl, inr}
 use Rattle.std.specs.Prelude.{slice_get, slice_set, option_and_then}
 use Rattle.std.proofs.lemmas.Bool.Decides.{eqb_tells}
@@ -134,7 +134,7 @@ open_inner ts depth k g input s q within well attempt shows =
 module _ (ts : List Template) (path : Path) (clock : ℕ) (closing : Option Part) (before after : Told) (change : ScopeChange) (fact : ScopeFact)
     (here : (depth : ℕ) (k : Known) (g : Graph) (input : Container) (s s' : ScopeState) → Well ts depth g → Served ts depth g → IsCounted k → fact depth k g input → Shows ts depth k g input s
     → change g s s' → MovesBelow ts g path clock [] closing s s' before after) where
-  -- what becomes of the items of the scope at the end of a path is what becomes of all
+  -- what happens to the items of the scope at the end of a path is what happens to all
   pub along_moves : (p : List Part) (depth : ℕ) (k : Known) (g : Graph) (input : Container) (s s' : ScopeState) → Well ts depth g → Served ts depth g → IsCounted k
       → Leads fact ts depth k g input p → Shows ts depth k g input s → ChangesAt ts change p g s s' → MovesBelow ts g path clock p closing s s' before after
   along_moves [] depth k g input s s' well served counted leads shows changed = here depth k g input s s' well served counted leads shows changed

@@ -1,4 +1,4 @@
--- What becomes of items where an activity is decided, or has one more scope.
+-- What happens to items where an activity is decided, or has one more scope.
 use Rattle.std.proofs.Common.{◌≡◌, ℕ, zero, suc, ◌==◌, Bool, true, false, List, [], ◌∷◌, ◌++◌, map, Option, Some, None, cond, refl, ap, sym, ◌∙◌, subst, append-nil}
 use Rattle.std.specs.Prelude.{◌≢◌, slice_get, option_and_then}
 use Rattle.std.proofs.lemmas.Option.{none-some}
@@ -62,7 +62,7 @@ idle_of (Process t) fate outs starts shows (Nested n) waits is = tt
 pub staged_scopes : (stage : NestedStage) (n : NestedState) (j : ℕ) → scope_of (Nested (at_stage stage n)) j ≡ scope_of (Nested n) j
 staged_scopes stage n j = ap (λ ss. option_and_then (slice_get ss) (attempt_place j)) (rw out-roll-NestedState refl)
 
--- of what a scope tells, these items came to be open by a change of the activity at a place
+-- of what a scope tells, these items became open by a change of the activity at a place
 pub record MovesAt (ts : List Template) (g : Graph) (path : Path) (clock a : ℕ) (f f' : Fields) (before after : Told) : Type 0 where
   pub news : List Part
   pub moves : Moves clock [] news None (open_in ts g f) (open_in ts g f')
@@ -86,7 +86,7 @@ module _ (ts : List Template) (g : Graph) (path : Path) (clock a : ℕ) (activit
 
   module _ (x y : ActivityState) (changes : ChangesState a x y f f') (begun : f.begun ≡ true)
       (scopes : (j : ℕ) (item : List Part) → open_inside ts (graph_in ts activity.work) (scope_of y j) item ≡ open_inside ts (graph_in ts activity.work) (scope_of x j) item) where
-    -- no item comes to be open
+    -- no item becomes open
     pub quietly : ((j : ℕ) → open_item y j ≡ open_item x j) → after.ready ≡ before.ready → Result
     quietly same told = record {
       news = [];

@@ -1,4 +1,4 @@
--- What becomes of the items of a root where the hold of one that is open is changed.
+-- What happens to the items of a root where the hold of one that is open is changed.
 use Rattle.std.proofs.Common.{◌≡◌, ℕ, ◌+◌, Bool, true, false, List, [], ◌∷◌, ◌++◌, length, Option, Some, None, cond, refl, ap, sym, ◌∙◌, subst}
 use Rattle.std.specs.Prelude.{slice_get, option_and_then, bytes_eq}
 use Rattle.std.proofs.lemmas.Option.{none-some, option_and_then_some}

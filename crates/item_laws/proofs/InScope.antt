@@ -1,4 +1,4 @@
--- What becomes of the items of a scope that receives an event that may come.
+-- What happens to the items of a scope that receives an event that may come.
 use Rattle.std.proofs.Common.{◌≡◌, ℕ, zero, suc, ◌+◌, ◌≤◌, ◌==◌, Bool, true, false, List, [], ◌∷◌, ◌++◌, map, length, Option, Some, None, cond, refl, ap, sym, ◌∙◌, subst, arith, append-nil, append_assoc, length-append}
 use Rattle.std.specs.Prelude.{◌≢◌, slice_get, option_and_then}
 use Rattle.std.proofs.Math.Path.{fun_ext}
@@ -45,7 +45,7 @@ use Rattle.navigator.specs.declared.scopes.NestedStage.TheVariants as stages
 use Rattle.navigator.specs.declared.scopes.ScopeState.{ScopeState}
 use Rattle.view_laws.specs.Coming.{started_in, IsByMessages, MayBegin, MaySignal, MayEnd, MayComplete}
 
--- of the scope at the end of a path, which receives an event, these items came to be open, and one is open no more
+-- of the scope at the end of a path, which receives an event, these items became open, and one is open no more
 pub record MovesBelow (ts : List Template) (g : Graph) (path : Path) (clock : ℕ) (parts : List Part) (closing : Option Part) (s s' : ScopeState) (before after : Told) : Type 0 where
   pub news : List Part
   pub moves : Moves clock parts news closing (open_at ts g s) (open_at ts g s')
@@ -132,7 +132,7 @@ module _ (ts : List Template) (depth : ℕ) (k : Known) (g : Graph) (input : Con
         left = λ a over. one.elsewhere a (λ same. absurd (omega arith)) ∙ first.left a (omega arith);
       }
 
--- the items whose activities have a true join come to be open
+-- the items whose activities have a true join become open
 pub begin_moves : (ts : List Template) (depth : ℕ) (k : Known) (g : Graph) (input : Container) (s s' : ScopeState) (path : Path) (clock : ℕ) (before after : Told)
     → Well ts depth g → MayBegin ts depth k g input → Shows ts depth k g input s
     → Receives ts path clock Begins before after g s s' → MovesHere ts g path clock None s s' before after
@@ -150,7 +150,7 @@ untallied ts g s tallies [] = refl
 untallied ts g s tallies (q ∷ []) = refl
 untallied ts g s tallies (q ∷ (r ∷ rs)) = refl
 
--- the item of the activity to which it leads comes to be open, where its join is true now
+-- the item of the activity to which it leads becomes open, where its join is true now
 pub signal_moves : (ts : List Template) (depth : ℕ) (k : Known) (g : Graph) (input : Container) (s s' : ScopeState) (path : Path) (clock : ℕ) (before after : Told) (a b : ℕ) (v : Bool) (name : Name)
     → Well ts depth g → IsByMessages k → MaySignal ts depth k g input a b v → place_of g name ≡ Some b → Shows ts depth k g input s
     → Receives ts path clock (Signals name v) before after g s s' → MovesHere ts g path clock None s s' before after
@@ -175,7 +175,7 @@ finished_items : (x : ActivityState) (j : ℕ) → open_item (finished_state x) 
 finished_items (Program p) j = refl
 finished_items (Nested n) j = refl
 
--- no item comes to be open
+-- no item becomes open
 module _ (ts : List Template) (g h : Graph) (path : Path) (clock a : ℕ) (activity : Activity) (is : slice_get (out-Graph g).activities a ≡ Some activity) (named : Named g) (f f' : Fields) (before after : Told)
     (runs : graph_in ts activity.work ≡ Some h) (x : ActivityState) (there : slice_get f.states a ≡ Some x) (begun_so : f.begun ≡ true) (out : Container) where
   ends_at : (b : Bool) → EndsBy b g h path a activity x out f f' before after → MovesAt ts g path clock a f f' before after
@@ -220,7 +220,7 @@ module _ (ts : List Template) (g : Graph) (path : Path) (clock a : ℕ) (activit
   abbrev later : ℕ
   later = length (cs ++ c ∷ []) + 1
 
-  -- the item that is completed closes, and the next one comes to be open where there is one
+  -- the item that is completed closes, and the next one becomes open where there is one
   record CompletesAt : Type 0 where
     news : List Part
     moves : Moves clock [] news (Some q) (open_in ts g f) (open_in ts g f')

@@ -1,4 +1,4 @@
--- Read first: Moves (what becomes of items, one change after another), OpenScopes (what is open in a scope, by the states of its activities), OneState (the state of one activity changes), NoItem and Deciding (an activity is decided). Then ScopesInside (the scopes of attempts), Received (what an event does in its scope), InScope, Along and Moved: the items there, on the way, and of a root. HeldItem: a change of a hold. SettledAttempts and DoneScopes: where nothing is open. Kept, Entering, KeptEvents and HeldKept: who performed what is settled. Sources: what comes before an open item.
+-- Read first: Moves (what happens to items, one change after another), OpenScopes (what is open in a scope, by the states of its activities), OneState (the state of one activity changes), NoItem and Deciding (an activity is decided). Then ScopesInside (the scopes of attempts), Received (what an event does in its scope), InScope, Along and Moved: the items there, on the way, and of a root. HeldItem: a change of a hold. SettledAttempts and DoneScopes: where nothing is open. Kept, Entering, KeptEvents and HeldKept: who performed what is settled. Sources: what comes before an open item.
 pub mod Moves
 pub mod OpenScopes
 pub mod OneState

@@ -1,4 +1,4 @@
--- What becomes of the items of a root by a message that is taken, and by an item that is completed.
+-- What happens to the items of a root by a message that is taken, and by an item that is completed.
 use Rattle.std.proofs.Common.{◌≡◌, ℕ, List, [], ◌∷◌, ◌++◌, Option, Some, None, refl, ap, sym, ◌∙◌, subst}
 use Rattle.std.proofs.lemmas.Option.{none-some}
 use Rattle.activity_states.specs.declared.states.Completed.{Completed}

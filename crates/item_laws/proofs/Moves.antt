@@ -1,4 +1,4 @@
--- Items that move: which came to be open and which closed, one change after another.
+-- Items that move: which became open and which closed, one change after another.
 use Rattle.std.proofs.Common.{◌≡◌, ℕ, zero, suc, ◌+◌, List, [], ◌∷◌, ◌++◌, map, length, Option, Some, None, refl, ap, sym, ◌∙◌, subst, arith, inl, inr}
 use Rattle.std.specs.Prelude.{◌⊎◌, slice_get}
 use Rattle.std.proofs.lemmas.Option.{none-some}
@@ -42,9 +42,9 @@ pub last_one : (p : List Part) (q r : Part) → p ++ q ∷ [] ≡ p ++ r ∷ [] 
 last_one [] q r same = cc
 last_one (x ∷ p) q r same = last_one p q r (let rest : p ++ q ∷ [] ≡ p ++ r ∷ [] = cc in rest)
 
--- ---- what becomes of items
+-- ---- what happens to items
 
--- of the scope at the end of this path, these items came to be open, one is open no more, and every other item, wherever it is, stays as it was
+-- of the scope at the end of this path, these items became open, one is open no more, and every other item, wherever it is, stays as it was
 pub record Moves (clock : ℕ) (path : List Part) (news : List Part) (closing : Option Part) (before after : OpenItems) : Type 0 where
   pub once : (n m : ℕ) (q : Part) → slice_get news n ≡ Some q → slice_get news m ≡ Some q → n ≡ m
   pub opened : (n : ℕ) (q : Part) → slice_get news n ≡ Some q → HasOpened clock (before (path ++ q ∷ [])) (after (path ++ q ∷ []))
@@ -60,9 +60,9 @@ moves_none clock path before after same = record {
   others = λ item new old. same item;
 }
 
--- items that come to be open one after another
+-- items that become open one after another
 module _ (clock : ℕ) (path : List Part) (xs ys : List Part) (before middle after : OpenItems) (first : Moves clock path xs None before middle) (second : Moves clock path ys None middle after) where
-  -- what is open already doesn't come to be open
+  -- what is open already doesn\'t become open
   apart : (n m : ℕ) (q r : Part) → slice_get xs n ≡ Some q → slice_get ys m ≡ Some r → path ++ q ∷ [] ≡ path ++ r ∷ [] → ⊥
   apart n m q r at at' same =
       let is = first.opened n q at in

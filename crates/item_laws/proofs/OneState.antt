@@ -1,4 +1,4 @@
--- What becomes of the items of a scope where the state of one activity changes.
+-- What happens to the items of a scope where the state of one activity changes.
 use Rattle.std.proofs.Common.{◌≡◌, ℕ, Bool, true, false, List, [], ◌∷◌, Option, Some, None, cond, refl, ap, sym, ◌∙◌, subst, inl, inr}
 use Rattle.std.specs.Prelude.{◌≢◌, ◌⊎◌, slice_get, slice_set, option_and_then, bytes_eq}
 use Rattle.std.proofs.lemmas.Bool.Decides.{eqb_tells}
@@ -115,7 +115,7 @@ module _ (ts : List Template) (g : Graph) (a : ℕ) (activity : Activity) (is : 
     abbrev pub ScopesStay : Type 0
     ScopesStay = (j : ℕ) (item : List Part) → open_inside ts (graph_in ts activity.work) (scope_of y j) item ≡ open_inside ts (graph_in ts activity.work) (scope_of x j) item
 
-    -- what becomes of the items of the activity is what becomes of all
+    -- what happens to the items of the activity is what happens to all
     pub one_moves : (clock : ℕ) (news : List Part) (closing : Option Part) → ScopesStay → ((n m : ℕ) (q : Part) → slice_get news n ≡ Some q → slice_get news m ≡ Some q → n ≡ m)
         → ((n : ℕ) (q : Part) → slice_get news n ≡ Some q → (q.name ≡ activity.name) × HasOpened clock (open_item x q.attempt) (open_item y q.attempt))
         → ((q : Part) → closing ≡ Some q → (q.name ≡ activity.name) × HasClosed (open_item x q.attempt) (open_item y q.attempt))

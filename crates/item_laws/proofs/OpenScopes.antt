@@ -97,7 +97,7 @@ module _ (g : Graph) (s : ScopeState) (a : ℕ) (activity : Activity) (j : ℕ) 
       let shut : open_attempt (opened cs hold takes since) j ≡ None = ap (λ b. cond b (Some (opened cs hold takes since)) None) (opens_next hold (length cs + 1) j ∙ apart) in
       none (opened cs hold takes since) (nat_le 1 j && nat_le j (attempts_in (open_fate hold (length cs + 1)))) shut ∙ sym shut
 
-  -- an open attempt is one that has come to be
+  -- an open attempt is one that has been made
   attempt_is : (p : State) → option_and_then open_of (entry_of_state (stand g s) j a activity (Program p)) ≡ open_attempt p j
   attempt_is waiting = none waiting (nat_le 1 j && nat_le j 0) refl
   attempt_is dead = none dead (nat_le 1 j && nat_le j 0) refl

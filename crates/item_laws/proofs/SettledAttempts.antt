@@ -16,7 +16,7 @@ use Rattle.view_laws.proofs.Attempts.{reached_open}
 use Rattle.view_laws.proofs.StartedParts.{Starts, listed_starts}
 use Rattle.view_laws.specs.Coming.{started_in}
 
--- the attempts of an activity that is settled and has some have come to an end
+-- the attempts of an activity that is settled and has some have ended
 closed_attempts : (activity : Activity) (v : Option Bool) (outs : List Container) → is_open (fate_by activity v outs) ≡ true → is_settled (ended (fate_by activity v outs) outs) ≡ true
     → closed activity.exit outs ≡ true
 closed_attempts activity None outs opens settled = let n : ⊥ = cc in absurd n

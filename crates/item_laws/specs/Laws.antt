@@ -1,4 +1,4 @@
--- Laws of the open items of a root: what becomes of them by a message, a completion and a change of a hold, and where
+-- Laws of the open items of a root: what happens to them by a message, a completion and a change of a hold, and where
 -- there is none.
 use Rattle.std.specs.Prelude.{◌≡◌, ℕ, ◌==◌, Bool, ◌&&◌, Option, Some, None, List, [], ◌∷◌, ◌++◌}
 use Rattle.activity_states.specs.States.{State}

@@ -1,4 +1,4 @@
--- The open items of a root: which items are ready or running, and what becomes of all of them by an event.
+-- The open items of a root: which items are ready or running, and what happens to all of them by an event.
 use Rattle.std.specs.Prelude.{◌≡◌, ℕ, Bool, true, false, if◌then◌else◌, Option, Some, None, List, slice_get}
 use Rattle.std.specs.Prelude.{option_and_then}
 use Rattle.activity_states.specs.States.{State, fate_of, hold_of, since_of}
@@ -32,13 +32,13 @@ open_at ts g s item = option_and_then open_of (entry_at ts item (stand g s))
 abbrev pub NoneOpen : List Template → Graph → ScopeState → Type 0
 NoneOpen ts g s = (item : List Part) → open_at ts g s item ≡ None
 
--- ---- what becomes of the items
+-- ---- what happens to the items
 
 -- what is open at each path
 abbrev pub OpenItems : Type 0
 OpenItems = List Part → Option State
 
--- an item came to be ready at this time: it wasn't open, is open now, and nobody holds it
+-- an item became ready at this time: it wasn't open, is open now, and nobody holds it
 pub record HasOpened (clock : ℕ) (before after : Option State) : Type 0 where
   pub was : before ≡ None
   pub state : State
@@ -56,7 +56,7 @@ pub record HasClosed (before after : Option State) : Type 0 where
 abbrev pub IsListed : List Path → Path → Type 0
 IsListed items path = (n : ℕ) × (slice_get items n ≡ Some path)
 
--- the listed items of a root came to be ready, each is listed once; the one that is completed, if any, closed; every
+-- the listed items of a root became ready, each is listed once; the one that is completed, if any, closed; every
 -- other one stays as it was
 pub record ItemsMove (root clock : ℕ) (completed : Option (List Part)) (items : List Path)
     (before after : OpenItems) : Type 0 where

@@ -31,7 +31,7 @@ pub record HasSameGraphs (ts ts' : List Template) (g : Graph) (inner : Graph →
   pub graphs : (a : ℕ) (activity : Activity) → slice_get (out-Graph g).activities a ≡ Some activity → graph_in ts' activity.work ≡ graph_in ts activity.work
   pub inside : (a : ℕ) (activity : Activity) → slice_get (out-Graph g).activities a ≡ Some activity → (h : Graph) → graph_in ts activity.work ≡ Some h → inner h
 
--- the graphs inside one that is served to so many levels; at none, there are none
+-- the graphs inside one that is served to this many levels; at none, there are none
 abbrev pub ServedInside : List Template → ℕ → Graph → Type 0
 ServedInside ts zero h = ⊥
 ServedInside ts (suc levels) h = Served ts levels h

@@ -15,7 +15,7 @@ fn numbers(alloc: Global, found: &[&Numbered]) -> Result<Vec<u64>, AllocError> {
     Ok(numbers)
 }
 
-/// A history of so many transactions, each the suspension of a root from 1 to 3 in turn.
+/// A history of this many transactions, each the suspension of a root from 1 to 3 in turn.
 fn suspensions(alloc: Global, count: u64) -> Result<History, AllocError>
     requires { count ≤ 100 }
 {

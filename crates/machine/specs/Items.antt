@@ -29,7 +29,7 @@ pub record Entry : Type 0 where
   pub state : State
   pub attempt : ℕ
 
--- the attempts that have come to be
+-- the attempts that have been made
 abbrev pub attempts_in : Fate → ℕ
 attempts_in fates.Waiting = 0
 attempts_in (fates.Ready j) = j

@@ -34,7 +34,7 @@ use Rattle.machine.specs.Rows.{with_row, with_inside, place_of, attempt_place, f
 
 -- ---- what follows from an event
 
--- the messages that follow, by their kinds, and the items that came to be ready
+-- the messages that follow, by their kinds, and the items that became ready
 pub record Told : Type 0 where
   pub signals : List Message
   pub begins : List Message

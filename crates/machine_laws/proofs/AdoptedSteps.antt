@@ -28,7 +28,7 @@ use Rattle.machine_laws.proofs.AppliedSteps.{applied_step}
 
 -- ---- a state under another number: all that is asked of it, but the count, is so as before
 
--- the state as if so many transactions had come, all of which were kept
+-- the state as if this many transactions had come, all of which were kept
 abbrev renumbered : ℕ → Core → Core
 renumbered n c = record c { number = n; kept = n }
 

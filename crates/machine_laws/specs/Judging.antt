@@ -1,4 +1,4 @@
--- What a command comes to in a state: its tests in their order, the first refusal of them, or its transaction.
+-- The verdict on a command in a state: its tests in their order, the first refusal of them, or its transaction.
 use Rattle.std.specs.Prelude.{◌≤◌, ◌≡◌, ◌⊎◌, ℕ, ◌+◌, ◌-◌, ◌^◌, ◌==◌, ◌&&◌, min, nat_lt, nat_le, Bool, true, false}
 use Rattle.std.specs.Prelude.{if◌then◌else◌, Result, Ok, Err, Option, Some, None, is_some, option_map, option_and_then}
 use Rattle.std.specs.Prelude.{List, [], ◌∷◌, length, take, drop, slice_get, bytes_eq}
@@ -477,7 +477,7 @@ IsNoteOf c (made.Clock minutes) c' n = n ≡ note.Clocked minutes
 
 -- ---- the verdict
 
--- it is the START of a live root, by its key; else it has a first refusal; else it comes to its transaction
+-- it is the START of a live root, by its key; else it has a first refusal; else it gives its transaction
 abbrev pub IsVerdict : State → Command → Verdict → Type 0
 IsVerdict c command (verdict.Do t) = (same_root c command ≡ None) × IsFirstRefusal c command None × IsFor c command t
 IsVerdict c command (verdict.Same root) = same_root c command ≡ Some root

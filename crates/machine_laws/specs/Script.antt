@@ -33,7 +33,7 @@ same_text root = codes "ok SAME " ++ decimal root ++ 10 ∷ []
 abbrev pub checkpoint_text : ℕ → List ℕ
 checkpoint_text count = codes "ok CHECKPOINT " ++ decimal count ++ 10 ∷ []
 
--- what a verdict comes to: its transaction is made, and the reply has its number and what came of it; or nothing
+-- the result of a verdict: its transaction is made, and the reply has its number and what came of it; or nothing
 -- changes
 abbrev pub Comes : State → Verdict → State → List ℕ → Type 0
 Comes s (verdict.Do t) s' reply =
@@ -42,7 +42,7 @@ Comes s (verdict.Do t) s' reply =
 Comes s (verdict.Same root) s' reply = (s' ≡ s) × (reply ≡ same_text root)
 Comes s (verdict.Refused refusal) s' reply = (s' ≡ s) × (reply ≡ refusal_text refusal)
 
--- a command is judged, and its verdict comes to this
+-- a command is judged, and this is the result of its verdict
 abbrev pub IsObeyed : State → State → Command → List ℕ → Type 0
 IsObeyed s s' command reply = (v : Verdict) × IsVerdict s command v × Comes s v s' reply
 

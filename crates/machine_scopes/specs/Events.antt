@@ -82,7 +82,7 @@ Meets ts (Completes name c) g s = MeetsCompletion name g s
 
 -- ---- the law
 
--- the scopes after it, what it gives and which items came to be ready are those that the machine says
+-- the scopes after it, what it gives and which items became ready are those that the machine says
 pub record IsAsMoved (s' : ScopeState) (given : List Message) (items : List Path) (o : m.Outcome) : Type 0 where
   pub scopes : o.scopes ≡ scopes_of s'
   pub gives : given ≡ m.given_of o.told

@@ -48,7 +48,7 @@ more_goes : (exit : Option Expr) (x : Container) (rest : List Container) → hol
 more_goes exit x [] fails goes = fails
 more_goes exit x (y ∷ ys) fails goes = goes
 
--- its attempts haven't come to an end
+-- its attempts haven't ended
 goes_still : (n : ℕ) (give : Gives) (t : Trial) (j : ℕ) (input : Container) (c : ℕ) (x : Container) → Reaches (suc n) give t j input c x → ((i : Container) → give c i ≡ None)
     → closed t.exit (tries n give t j input) ≡ false
 goes_still zero give t j input c x reach none = refl

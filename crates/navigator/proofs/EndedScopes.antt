@@ -66,7 +66,7 @@ module _ (ts : List Template) (h : Graph) where
   gives_scope k runs name (Block' b g) j i of = ap (λ o. scope_gives k runs o (part name j) i) of
   gives_scope k runs name (Process t) j i of = ap (λ o. scope_gives k runs o (part name j) i) of
 
--- ---- what its state comes to
+-- ---- the result of its state
 
 -- it is finished, or has one more scope
 abbrev pub NestedAfter : Bool → Graph → Container → NestedState → NestedState → Type 0

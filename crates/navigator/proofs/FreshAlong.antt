@@ -229,7 +229,7 @@ learnt_closed : (f : Known → Known) → IsLocal f → (p : List Part) (k : Kno
 learnt_closed f local [] k = local.closed k
 learnt_closed f local (q ∷ p) k = refl
 
--- where each event of a scope gives what came to be due there, so does one of a scope further in
+-- where each event of a scope gives what became due there, so does one of a scope further in
 pub path_given : (ts : List Template) (change : ScopeChange) (fact : ScopeFact) (f : Known → Known) (path : Path) (tells : Told) → IsLocal f
     → ((depth : ℕ) (k : Known) (g : Graph) (input : Container) (s s' : ScopeState) → Well ts depth g → Served ts depth g → Aimed ts depth g → IsCounted k → fact depth k g input
     → Shows ts depth k g input s → Shows ts depth (f k) g input s' → change g s s' → IsGivenAt ts depth k (f k) g input path tells)

@@ -1,4 +1,4 @@
--- What came to be due in a scope further in came to be due around it, and nothing else did.
+-- What became due in a scope further in became due around it, and nothing else did.
 use Rattle.std.proofs.Common.{◌≡◌, ℕ, suc, ◌+◌, ◌<◌, ◌==◌, if◌then◌else◌, List, [], ◌∷◌, ◌++◌, map, length, Option, Some, None, refl, ap, sym, ◌∙◌, subst, arith, inl, inr}
 use Rattle.std.specs.Prelude.{◌≢◌, slice_get}
 use Rattle.std.specs.List.{flat_map}
@@ -131,7 +131,7 @@ module _ (ts : List Template) (depth : ℕ) (k j : Known) (g : Graph) (input : C
       flat_only place_adds a n 0 (λ x apart. elim (eqb_tells x a) [ inl is ↦ absurd (apart is.1) | inr other ↦ rw other.0 refl ]) (omega arith) (omega arith)
       ∙ elim (eqb_tells a a) [ inl is ↦ rw is.0 refl | inr other ↦ absurd (other.1 refl) ]
 
-  -- what came to be due in the attempt came to be due here
+  -- what became due in the attempt became due here
   pub below_merges : Merges (due_in ts (suc depth) k g input) (map (push q) adds) (due_in ts (suc depth) K g input)
   below_merges =
       let places = merges_flat (λ x. old_at x (slice_get (out-Graph g).activities x)) place_adds (λ x. new_at x (slice_get (out-Graph g).activities x)) n 0 (λ x low high. place_merges x) in

@@ -1,4 +1,4 @@
--- A message that may come, or an item that may be completed, gives the messages that came to be due by it.
+-- A message that may come, or an item that may be completed, gives the messages that became due by it.
 use Rattle.std.proofs.Common.{◌≡◌, ℕ, suc, ◌==◌, Bool, true, false, if◌then◌else◌, List, [], ◌∷◌, ◌++◌, map, Option, Some, None, refl, ap, sym, ◌∙◌, subst, arith, append-nil}
 use Rattle.std.specs.Prelude.{not}
 use Rattle.std.specs.List.{filter}
@@ -72,7 +72,7 @@ told_along ts depth k k' g input path tells is =
     told_append is.graph path (tells.signals ++ tells.begins) (kind_only 0 is.added ++ kind_only 1 is.added) tells.ends (last_note path is.over)
     (told_append is.graph path tells.signals (kind_only 0 is.added) tells.begins (kind_only 1 is.added) is.signals is.begins) is.ends
 
--- what is told of a scope is what came to be due, from the root
+-- what is told of a scope is what became due, from the root
 due_root : (ts : List Template) (depth : ℕ) (k k' : Known) (g : Graph) (input : Container) (path : Path) (tells : Told) (given : List Message) → Well ts depth g
     → IsGivenAlong ts depth k k' g input path.parts path tells → given ≡ tells.signals ++ tells.begins ++ tells.ends → GivesDue ts depth g input k k' given
 due_root ts depth k k' g input path tells given well is messages = λ queue_of.

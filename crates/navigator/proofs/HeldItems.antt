@@ -37,7 +37,7 @@ attempts_open hold.Nobody k = refl
 attempts_open (hold.Person who) k = refl
 attempts_open (hold.Agent take) k = refl
 
--- as many attempts have come to be
+-- as many attempts have been made
 attempts_held : (change : HoldChange) (p : State) → attempts_in (fate_of (held_by change p)) ≡ attempts_in (fate_of p)
 attempts_held (Person who) waiting = refl
 attempts_held (Person who) dead = refl

@@ -16,7 +16,7 @@ more_goes : (exit : Option Expr) (x : Container) (rest : List Container) → hol
 more_goes exit x [] fails goes = fails
 more_goes exit x (y ∷ ys) fails goes = goes
 
--- where the attempts so far didn't come to an end, the next one has started
+-- where the attempts so far didn't end, the next one has started
 pub reached_next : (n : ℕ) (give : Gives) (t : Trial) (j : ℕ) (input : Container) (c : ℕ) → closed t.exit (tries n give t j input) ≡ false
     → length (tries n give t j input) + j ≡ c → c < n + j → (x : Container) × Reaches (suc n) give t j input c x
 reached_next zero give t j input c goes counted less = absurd (omega arith)

@@ -187,7 +187,7 @@ pub record WorkTo (w : Work) (fate : Fate) (outs : List Container) (starts : Lis
   pub scope : new ≡ with_state a state old
   pub shown : ShowsWork w fate outs starts shows state
 
--- how its first attempt comes to be, by the graph that it runs
+-- how its first attempt is made, by the graph that it runs
 abbrev OpensAs : Option Graph → Container → Path → ℕ → ℕ → Activity → ActivityState → Fields → Fields → Told → Told → Type 0
 OpensAs o base path clock a activity (Program p) old new before after =
     (new ≡ with_state a (Program (made_ready p clock)) old) × (after ≡ record before { ready = before.ready ++ under path (part activity.name 1) ∷ [] })
@@ -238,7 +238,7 @@ module _ (ts : List Template) (k k' : Known) (runs : Runs) (below : ShowsScope) 
   unstarted : started_at ts k runs g input e a activity ≡ []
   unstarted = rw waits refl
 
-  -- its first attempt comes to be
+  -- its first attempt is made
   pub opened_shows : (path : Path) (clock : ℕ) (old new : Fields) (before after : Told) → HasGraph ts activity.work → IsOpened ts k' runs g input E a activity
       → ((h : Graph) (s : ScopeState) → graph_in ts activity.work ≡ Some h → IsFresh h (base_of g activity a input E) s → below (at (part activity.name 1) k') h (base_of g activity a input E) s)
       → old.input ≡ input → ((x : ℕ) → ends_of old.ends x ≡ E x) → Opens ts g path clock a activity (Some was) old new before after

@@ -1,4 +1,4 @@
--- What came to be due by the next event of a run is what the event puts.
+-- What became due by the next event of a run is what the event puts.
 use Rattle.std.proofs.Common.{◌≡◌, ℕ, ◌+◌, Bool, true, false, if◌then◌else◌, List, [], ◌∷◌, map, Some, refl, ap, sym, ◌∙◌, arith}
 use Rattle.std.specs.Prelude.{not}
 use Rattle.std.specs.List.{filter}
@@ -64,7 +64,7 @@ module _ (r : Root) (queue_of : Note → ℕ) where
           tail true = more
           tail false = ap (λ l. n ∷ l) more
 
--- what the next event puts is what came to be due by it
+-- what the next event puts is what became due by it
 pub put_came : (r : Root) (queue_of : Note → ℕ) (h : List Event) (e : Event) → has_started (running h) ≡ true
     → put (engine r queue_of) e h
     ≡ by_kind (engine r queue_of) (came_due (engine r queue_of) r.templates r.depth r.graph r.input (seen (running h)) (seen (running (e ∷ h))))
@@ -78,7 +78,7 @@ put_came r queue_of h e started =
     ∙ ap (λ l. by_kind x (filter (λ m. not (has x (BeginNote [] ∷ olds) m)) l)) after
     ∙ ap (by_kind x) (no_root r queue_of olds news (no_begin r queue_of r.templates r.depth (seen (running (e ∷ h))) r.graph r.input))
 
--- what came to be due by the next event of a run that has started is what it puts
+-- what became due by the next event of a run that has started is what it puts
 pub put_given : (r : Root) (h : List Event) (e : Event) (given : List Message) → has_started (running h) ≡ true
     → GivesDue r.templates r.depth r.graph r.input (seen (running h)) (seen (running (e ∷ h))) given → GivesPut r h e given
 put_given r h e given started gives = λ queue_of. gives queue_of ∙ ap (map Some) (sym (put_came r queue_of h e started))

@@ -133,7 +133,7 @@ abbrev pub sent_notes : List Control → List Control → ℕ → SourceEnd → 
 sent_notes controls [] a now = []
 sent_notes controls (c ∷ cs) a now = (if c.from == a then note_of c (connector_value controls c now) else []) ++ sent_notes controls cs a now
 
--- they come to be due where it wasn't settled
+-- they become due where it wasn't settled
 pub notes_merge : (controls cs : List Control) (e : Ends) (a : ℕ) (now : SourceEnd) → e a ≡ Unsettled
     → Merges (notes controls cs e) (sent_notes controls cs a now) (notes controls cs (ends_with a now e))
 notes_merge controls [] e a now was = (refl, refl)

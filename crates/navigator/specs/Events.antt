@@ -69,7 +69,7 @@ Receives ts path clock (Completes name c) before after g s s' =
     → slice_get (fields s).states a ≡ Some (Program p)
     → CompletesItem g path clock a activity p c (fields s) (fields s') before after
 
--- what becomes of a scope of this graph
+-- what happens to a scope of this graph
 abbrev pub ScopeChange : Type 1
 ScopeChange = Graph → ScopeState → ScopeState → Type 0
 

@@ -1,4 +1,4 @@
--- What an event gives: the messages that came to be due by it.
+-- What an event gives: the messages that became due by it.
 use Rattle.std.specs.Prelude.{◌≡◌, ℕ, not, Some, List, map, slice_get}
 use Rattle.std.specs.List.{filter}
 use Rattle.fate_laws.specs.WellFormed.{Well}
@@ -19,7 +19,7 @@ use Rattle.view_laws.specs.Queues.{Engine, has, by_kind, put}
 use Rattle.view_laws.specs.NextEvents.{Aimed}
 use Rattle.view_laws.specs.Runs.{Root, Event, engine}
 
--- ---- what came to be due
+-- ---- what became due
 
 -- the messages of a root, in queues by any rule
 abbrev pub root_engine : List Template → ℕ → Graph → Container → (Note → ℕ) → Engine Note Event
@@ -30,7 +30,7 @@ root_engine ts depth g input queue_of = engine
 abbrev pub came_due : Engine Note Event → List Template → ℕ → Graph → Container → Known → Known → List Note
 came_due x ts depth g input k k' = filter (λ m. not (has x (due_in ts depth k g input) m)) (due_in ts depth k' g input)
 
--- the messages are, by the places of their activities, those that came to be due: SIGNALs, then BEGINs, then ENDs
+-- the messages are, by the places of their activities, those that became due: SIGNALs, then BEGINs, then ENDs
 abbrev pub GivesDue : List Template → ℕ → Graph → Container → Known → Known → List Message → Type 0
 GivesDue ts depth g input k k' given =
     (queue_of : Note → ℕ)
@@ -48,7 +48,7 @@ root_named (End scope) = scope.root
 abbrev pub AreOf : ℕ → List Message → Type 0
 AreOf root given = (i : ℕ) (m : Message) → slice_get given i ≡ Some m → root_named m ≡ root
 
--- the messages came to be due, and name this root
+-- the messages became due, and name this root
 pub record Gives (root : ℕ) (ts : List Template) (depth : ℕ) (g : Graph) (input : Container) (k k' : Known)
     (given : List Message) : Type 0 where
   pub due : GivesDue ts depth g input k k' given
@@ -56,7 +56,7 @@ pub record Gives (root : ℕ) (ts : List Template) (depth : ℕ) (g : Graph) (in
 
 -- ---- what an event gives
 
--- whatever is known: where the state shows it, what is given came to be due by the event, and names this root
+-- whatever is known: where the state shows it, what is given became due by the event, and names this root
 abbrev pub GivesWhatCame : (ℕ → Known → Container → Known → Type 0) → ℕ → List Template → Graph → ScopeState
     → List Message → Type 0
 GivesWhatCame comes root ts g s given =

@@ -54,7 +54,7 @@ pub record Entry : Type 0 where
   pub state : State
   pub attempt : ℕ
 
--- the attempts that have come to be
+-- the attempts that have been made
 abbrev pub attempts_in : Fate → ℕ
 attempts_in fates.Waiting = 0
 attempts_in (fates.Ready j) = j
@@ -73,7 +73,7 @@ entry_of g s a activity state j = record {
   attempt = j;
 }
 
--- an attempt that has come to be of a program activity
+-- an attempt that has been made of a program activity
 abbrev pub entry_of_state : Stand → ℕ → ℕ → Activity → ActivityState → Option Entry
 entry_of_state at j a activity (Program p) = if nat_le 1 j
     && nat_le j (attempts_in (fate_of p)) then Some (entry_of at.graph at.scope a activity p j) else None

@@ -55,7 +55,7 @@ fields s = record {
   unsettled = (out-ScopeState s).unsettled;
 }
 
--- the messages that follow, by their kinds, and the items that came to be ready
+-- the messages that follow, by their kinds, and the items that became ready
 pub record Told : Type 0 where
   pub signals : List Message
   pub begins : List Message
@@ -84,7 +84,7 @@ abbrev pub is_root : List Part → Bool
 is_root [] = true
 is_root (q ∷ qs) = false
 
--- the END of a scope of which so many activities are left; the root has none
+-- the END of a scope of which this many activities are left; the root has none
 abbrev pub end_after : Path → ℕ → List Message
 end_after path left = if (left == 0) && not (is_root path.parts) then End path ∷ [] else []
 
@@ -109,7 +109,7 @@ dead_state (Nested n) = Nested (at_stage stages.Dead n)
 abbrev pub dies : ℕ → Fields → Fields
 dies a f = settled a end.Dead (changed_at dead_state a (slice_get f.states a) f)
 
--- ---- an attempt comes to be
+-- ---- an attempt is made
 
 abbrev pub ready_state : ℕ → ActivityState → ActivityState
 ready_state clock (Program p) = Program (made_ready p clock)

@@ -56,6 +56,6 @@ rows_within ts (suc depth) k g input s path =
     (scope_ends ts k (output ts depth) g input) s path a (slice_get (out-Graph g).activities a))
     (up_to (length (out-Graph g).activities) 0)
 
--- the rows of a scope and of those inside it, with at most so many levels below it
+-- the rows of a scope and of those inside it, with at most this many levels below it
 abbrev pub view_rows : List Template → ℕ → ScopeRows
 view_rows ts depth k g input s path = rows_within ts (suc depth) k g input s path

@@ -34,7 +34,7 @@ pub record ShowsProgram (fate : Fate) (outs : List Container) (p : State) : Type
   pub stands : fate_of (held p Nobody) ≡ fate
   pub outputs : is_open fate ≡ true → map (λ c. c.output) (completions p) ≡ outs
 
--- the fate of a block or process activity at a stage, after so many attempts
+-- the fate of a block or process activity at a stage, after this many attempts
 abbrev pub stage_fate : NestedStage → ℕ → Fate
 stage_fate stages.Waiting n = fates.Waiting
 stage_fate stages.Running n = fates.Running n
@@ -105,6 +105,6 @@ ShowsWithin ts zero k g input s = ⊥
 ShowsWithin ts (suc depth) k g input s =
     ShowsEnds ts k (output ts depth) (ShowsWithin ts depth) g input (scope_ends ts k (output ts depth) g input) s
 
--- the state of a scope shows its view, with at most so many levels below it
+-- the state of a scope shows its view, with at most this many levels below it
 abbrev pub Shows : List Template → ℕ → Known → Graph → Container → ScopeState → Type 0
 Shows ts depth k g input s = ShowsWithin ts (suc depth) k g input s

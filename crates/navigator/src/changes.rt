@@ -34,7 +34,7 @@ use flow_model::{
 };
 use std::alloc::{AllocError, Global};
 
-/// What follows from an event: the messages that it puts, and the items that came to be ready.
+/// What follows from an event: the messages that it puts, and the items that became ready.
 #[derive(Drop)]
 pub struct Effects {
     pub signals: Vec<Message>,
@@ -79,7 +79,7 @@ impl Effects {
         Ok(())
     }
 
-    /// Adds the END of a scope of which so many activities are left, if it is due; the root has none.
+    /// Adds the END of a scope of which this many activities are left, if it is due; the root has none.
     fn add_end(&mut self, alloc: Global, path: &Path, left: usize) -> Result<(), AllocError>
         ensures { OnOk result (told self.new ≡ record (told self.old) {
           ends = (told self.old).ends
@@ -92,7 +92,7 @@ impl Effects {
         Ok(())
     }
 
-    /// Adds an item that came to be ready.
+    /// Adds an item that became ready.
     fn add_ready(&mut self, item: Path) -> Result<(), AllocError>
         ensures { OnOk result (told self.new ≡ record (told self.old) { ready = (told self.old).ready ++ item ∷ [] }) }
     {
@@ -302,7 +302,7 @@ impl ScopeState {
         self.begin_attempt(with, path, place, activity, input, effects)
     }
 
-    /// The join of the activity at a place is true: its first attempt comes to be.
+    /// The join of the activity at a place is true: its first attempt is made.
     fn open<'x>(
         &mut self,
         with: Context<'x>,

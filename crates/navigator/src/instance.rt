@@ -269,7 +269,7 @@ impl Instance {
         }
     }
 
-    /// Takes a message: the messages that the turn puts, and the items that came to be ready.
+    /// Takes a message: the messages that the turn puts, and the items that became ready.
     pub fn take_message(
         &mut self,
         alloc: Global,
@@ -333,7 +333,7 @@ impl Instance {
         }
     }
 
-    /// Completes an item: the messages that follow, and the items that came to be ready.
+    /// Completes an item: the messages that follow, and the items that became ready.
     pub fn complete_item(
         &mut self,
         alloc: Global,

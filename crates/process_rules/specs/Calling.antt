@@ -40,7 +40,7 @@ pub record IsCallingWork (limit : ℕ) (work : Work) : Type 0 where
   pub below : CallsBelow limit work
   pub inside : (g : Graph) → graph_in [] work ≡ Some g → IsCalling limit g
 
--- each of these templates, before the first of which so many stand, runs processes at places before its own alone
+-- each of these templates, before the first of which this many stand, runs processes at places before its own alone
 abbrev pub AreOrdered : ℕ → List Template → Type 0
 AreOrdered before ts = (k : ℕ) (t : Template) → slice_get ts k ≡ Some t → IsCalling (before + k) t.graph
 

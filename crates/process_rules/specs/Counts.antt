@@ -7,7 +7,7 @@ use Rattle.text_graphs.specs.Graphs.{GraphAt}
 use Rattle.text_graphs.specs.Texts.{activities_in, controls_in, lines_in}
 use Rattle.process_rules.specs.Said.{InConditions}
 
--- the place of the first element behind so many
+-- the place of the first element behind this many
 abbrev pub IsExtra : {X : Type 0} → (X → ℕ) → ℕ → List X → ℕ → Type 0
 IsExtra {X} place_of most xs p = (x : X) × (slice_get xs most ≡ Some x) × (place_of x ≡ p)
 

@@ -34,7 +34,7 @@ IsJoinOutside most join.All p = ⊥
 IsJoinOutside most join.AtLeastOne p = ⊥
 IsJoinOutside most (join.AtLeast number) p = IsOutside most number p
 
--- of a number in an attribute of an activity to which so many connectors lead
+-- of a number in an attribute of an activity to which this many connectors lead
 abbrev pub IsSaidOutside : ℕ → AttrTree → ℕ → Type 0
 IsSaidOutside connectors (attr.When j) p = IsJoinOutside connectors j p
 IsSaidOutside connectors (attr.Exit c) p = ⊥

@@ -75,7 +75,7 @@ callee_shape library before (Some (callee.Library place)) = unwrap_or
 abbrev pub named_shape : Calls → Library → List Shape → ℕ → List ℕ → Shape
 named_shape calls library before number name = callee_shape library before (calls number name)
 
--- of the first processes, so many
+-- that many of the first processes
 abbrev pub shapes_to : Calls → Library → List ProcessTree → ℕ → List Shape
 shapes_to calls library processes zero = []
 shapes_to calls library processes (suc n) =

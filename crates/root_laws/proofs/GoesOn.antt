@@ -137,7 +137,7 @@ module _ (ts : List Template) (q : Note → ℕ) (h : List Event) (queued : Queu
     messages = right.messages;
   }
 
-  -- what a completion gives came to be due by it
+  -- what a completion gives became due by it
   gave_completed : (item : Path) (out : Container) (given : List Message) → i.terminated ≡ false → Awaits ts right.depth (seen h) right.graph input item.parts
       → CompletesIn ts item out given i i'
       → Gives item.root ts right.depth right.graph input (seen h) (seen (Completed (record { item = item; output = out }) ∷ h)) given
@@ -180,7 +180,7 @@ module _ (ts : List Template) (q : Note → ℕ) (h : List Event) (queued : Queu
       awaited = right.legal.awaited;
     }
 
-    -- what a turn gives came to be due by it
+    -- what a turn gives became due by it
     gave_turned : i.terminated ≡ false → Gives (root_named message) ts right.depth right.graph input (seen h) (seen (Turned note ∷ h)) given
     gave_turned lives =
         let runs : is_stopped h ≡ false = right.stopped ∙ lives in

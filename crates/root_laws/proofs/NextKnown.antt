@@ -99,7 +99,7 @@ module _ (r : Root) (q : Note → ℕ) (root : IsServedRoot r) where
       let one : length (facts h) + 1 ≡ suc (length (facts h)) = omega arith in
       (next.path, next.last, next.parts, next.may, next.known ∙ ap (λ n. with_most n (learnt (with_output next.last f.output) next.path (seen h))) one)
 
--- what came to be due by the next event is what it puts
+-- what became due by the next event is what it puts
 pub gives_put : (r : Root) (h : List Event) (e : Event) (given : List Message) → has_started h ≡ true → is_stopped h ≡ false → running (e ∷ h) ≡ e ∷ h
     → GivesDue r.templates r.depth r.graph r.input (seen h) (seen (e ∷ h)) given → GivesPut r h e given
 gives_put r h e given started runs runs' gives =

@@ -1,4 +1,4 @@
--- What becomes of one root by an event, whatever is known in its scopes.
+-- What happens to one root by an event, whatever is known in its scopes.
 use Rattle.std.specs.Prelude.{◌≡◌, ℕ, true, false, Some, List, []}
 use Rattle.flow_model.specs.ScopeContainers.{graph_of}
 use Rattle.flow_model.specs.declared.graphs.Container.{Container}
@@ -13,7 +13,7 @@ use Rattle.navigator.specs.declared.instance.HoldChange.{HoldChange}
 use Rattle.navigator.specs.declared.instance.Instance.{Instance}
 
 -- it takes a message: a root that is terminated stays as it is and gives nothing, each other one goes on showing its
--- view, and gives what came to be due
+-- view, and gives what became due
 pub record TakesIn (ts : List Template) (message : Message) (given : List Message) (i i' : Instance) : Type 0 where
   pub kept : i' ≡ record i { scope = i'.scope }
   pub idle : i.terminated ≡ true → (i' ≡ i) × (given ≡ [])

@@ -1,6 +1,6 @@
 //! Who may do what: who is eligible for an item, and what stands on a person's worklist?
 //!
-//! Knows people with their roles, holds and phases; never how an item came to be ready. Begin with
+//! Knows people with their roles, holds and phases; never how an item became ready. Begin with
 //! [`eligible`] and `specs/Rights.antt`, and go on to [`Worklists`] with `specs/Shelves.antt` and
 //! `specs/Listing.antt`.
 #![tactic(auto)]

@@ -22,7 +22,7 @@ pub some_then : (first second : List Rule) (fault : ℕ × ℕ) → IsFirstBroke
 some_then [] second fault some = let e : Some fault ≡ None = some in cc
 some_then (rule ∷ rules) second fault some = ⊎_elim (λ here. inl here) (λ past. inr (past.0, some_then rules second fault past.1)) some
 
--- so it is of what judging the others comes to
+-- so it is of the result of judging the others
 pub then_first : {T E : Type 0} (first second : List Rule) (result : Result (Result T (ℕ × ℕ)) E) → IsFirstBroken first None → IfOk result (λ judged. IsFirstBroken second (fault_in judged)) → IfOk result (λ judged. IsFirstBroken (first ++ second) (fault_in judged))
 then_first first second (Ok judged) none rest = none_then first second (fault_in judged) none rest
 then_first first second (Err e) none rest = tt

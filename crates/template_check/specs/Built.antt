@@ -94,7 +94,7 @@ ComeBeforeAlone g = (depth : ℕ) → ComeBeforeTo [] depth g
 
 -- ---- libraries
 
--- templates are sound behind so many others: each but for the processes that it runs, and those stand before it
+-- templates are sound behind this many others: each but for the processes that it runs, and those stand before it
 pub record AreSoundBehind (before : ℕ) (ts : List Template) : Type 0 where
   pub alone : All (λ t. IsSoundAlone t.graph) ts
   pub ordered : AreOrdered before ts

@@ -168,7 +168,7 @@ pub record IsMeantWith (P : GraphText → Graph → Type 0) (r : Reading) (g : G
   pub lines : AreParts (IsDataLine r.leaves g) (lines_in g.elements) (out-Graph made).lines
   pub loops : AreParts (IsLoopLine r.leaves g) (lines_in g.elements) (out-Graph made).loops
 
--- a graph is meant, and so are the blocks inside it, fewer than so many levels deep
+-- a graph is meant, and so are the blocks inside it, fewer than this many levels deep
 abbrev pub MeantTo : Reading → ℕ → GraphText → Graph → Type 0
 MeantTo r zero g made = Unit {0}
 MeantTo r (suc depth) g made = IsMeantWith (MeantTo r depth) r g made

@@ -15,12 +15,12 @@ use Rattle.graph_check.specs.Walks.{IsOrder}
 abbrev pub AreRows : {X : Type 0} → (X → ℕ → Bool) → List X → List (List ℕ) → Type 0
 AreRows leads items rows = (a : ℕ) → row_at rows a ≡ places (λ x. leads x a) 0 items
 
--- an end that is an activity is one of so many
+-- an end that is an activity is one of this many
 abbrev pub IsEndBelow : ℕ → MapEnd → Type 0
 IsEndBelow count Border = Unit {0}
 IsEndBelow count (At a) = a < count
 
--- the ends of all lines are among so many activities
+-- the ends of all lines are among this many activities
 pub record AreWithin (count : ℕ) (controls : List Control) (lines : List DataLine)
     (loops : List LoopLine) : Type 0 where
   pub sources : All (λ c. c.from < count) controls

@@ -33,7 +33,7 @@ use process_rules::{Catalog, Known, Shape, shapes};
 use std::alloc::{AllocError, Global};
 use text_graphs::{Scope, narrow, text_scopes};
 
-/// A text has at most so many bytes.
+/// A text has at most this many bytes.
 const MOST_BYTES: usize = 1_048_576;
 
 /// What an accepted text adds to the library.

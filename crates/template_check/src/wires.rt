@@ -58,7 +58,7 @@ impl Rows {
     }
 }
 
-/// The connectors as edges between so many activities.
+/// The connectors as edges between this many activities.
 fn edges_of(alloc: Global, count: usize, controls: &[Control]) -> Result<Edges, AllocError>
     requires sources { All (λ c. c.from < count) controls.now }
     requires targets { All (λ c. c.to < count) controls.now }
@@ -152,7 +152,7 @@ fn looping(alloc: Global, count: usize, loops: &[LoopLine]) -> Result<List<List<
     Ok(rows.into_list())
 }
 
-/// Where these lines lead between so many activities. A list of more lines than places of 32 bits has no room.
+/// Where these lines lead between this many activities. A list of more lines than places of 32 bits has no room.
 pub fn wiring(
     alloc: Global,
     count: usize,

@@ -96,7 +96,7 @@ reaches_grow (suc n) (suc m) gives gives' t keeps j i c i' le (inr r) =
 
 -- ---- attempts that go on
 
--- where an attempt that is reached gives nothing, the attempts have not come to an end
+-- where an attempt that is reached gives nothing, the attempts have not ended
 pub reached_open : (n : ℕ) (gives : Gives) (t : Trial) (j : ℕ) (i : Container) (c : ℕ) (i' : Container) → Reaches (suc n) gives t j i c i' → gives c i' ≡ None
     → closed t.exit (tries n gives t j i) ≡ true → ⊥
 reached_open zero gives t j i c i' r none done = no_end done
@@ -117,7 +117,7 @@ goes_on_tail : (exit : Option Expr) (x : Container) (xs : List Container) → Go
 goes_on_tail exit x [] on = λ o h. let n : ⊥ = cc in absurd n
 goes_on_tail exit x (y ∷ ys) on = λ o h. on o h
 
--- what becomes of the attempt after those that gave something
+-- what happens to the attempt after those that gave something
 pub record IsNextAttempt (n : ℕ) (gives : Gives) (t : Trial) (j : ℕ) (i : Container) : Type 0 where
   pub input : Container
   pub reach : Reaches (suc n) gives t j i (j + length (tries n gives t j i)) input

@@ -69,7 +69,7 @@ module _ (size : ℕ) (name : Name) (items : List (List Part)) (due_one : Start 
           rw whole (omega arith)
       go (Some out) is rest = rw whole (on_exit out is (rest out) (holds t.exit out) refl)
 
-  -- attempts that have come to an end
+  -- attempts that have ended
   pub closed_starts : (m n j : ℕ) (i : Container) → closed t.exit (tries m given t j i) ≡ true → length (flat_map due_one (starts n given t j i)) ≤ size * count_from name j items
   closed_starts m zero j i done = omega arith
   closed_starts zero (suc n) j i done = absurd (no_end done)
@@ -179,7 +179,7 @@ open_joined a None outs h = cc
 open_joined a (Some false) outs h = cc
 open_joined a (Some true) outs h = refl
 
--- the attempts of a settled activity that is open have come to an end
+-- the attempts of a settled activity that is open have ended
 shut : (ts : List Template) (k : Known) (runs : Runs) (g : Graph) (i : Container) (e : Ends) (a : ℕ) (activity : Activity) → slice_get (out-Graph g).activities a ≡ Some activity
     → is_settled (step ts k runs g i e a) ≡ true → is_open (fate_given ts k runs g i e a) ≡ true → is_fed (out-Graph g).lines a e ≡ true
     → closed activity.exit (tries_on ts k runs g a activity (base_of g activity a i e)) ≡ true

@@ -1,4 +1,4 @@
--- Scopes that aren't complete: those that haven't begun, those with an activity that waits or is ready, and those with an attempt that hasn't come to an end.
+-- Scopes that aren't complete: those that haven't begun, those with an activity that waits or is ready, and those with an attempt that hasn't ended.
 use Rattle.fate_laws.proofs.Attempts.{closed}
 use Rattle.fate_laws.proofs.Complete.{settled_at}
 use Rattle.fate_laws.proofs.Extends.{and_true}

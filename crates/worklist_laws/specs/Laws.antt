@@ -44,7 +44,7 @@ StaysShelved =
     → Shelves c t c' → AsksOpen c t
     → IsShelved c'
 
--- a command that comes to a transaction has asked that its item is open
+-- a command that gives a transaction has asked that its item is open
 abbrev pub VerdictsAskOpen : Type 0
 VerdictsAskOpen = (c : Core) (command : Command) (t : Transaction) → IsVerdict c command (Do t) → IsInOrder c
     → AsksOpen c t

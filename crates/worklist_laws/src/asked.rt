@@ -1,6 +1,6 @@
 ghost use Rattle.worklist_laws.specs.Laws.{VerdictsAskOpen, AdmittedAskOpen};
 
-/// A command that comes to a transaction has asked that its item is open.
+/// A command that gives a transaction has asked that its item is open.
 pub fn verdicts_ask_open()
     ensures { VerdictsAskOpen }
 {}
