@@ -1,25 +1,15 @@
-//! Worked cases of the whole program, and its faults, as tests over a source, a sink and a disk in memory.
+//! Worked cases of the whole program in memory, as tests.
 //!
 //! A library without code of its own. Each table has the words, the input, what is printed and the status.
 #![tactic(auto)]
 
 #[cfg(test)]
-mod audits;
+mod checks;
 #[cfg(test)]
-mod cases;
+mod fates;
 #[cfg(test)]
-mod faults;
-#[cfg(test)]
-mod limits;
+mod people;
 #[cfg(test)]
 mod refusals;
 #[cfg(test)]
-mod rows;
-#[cfg(test)]
-mod rules;
-#[cfg(test)]
-mod stores;
-#[cfg(test)]
-mod streams;
-#[cfg(test)]
-mod syntax;
+mod scripts;

@@ -1,15 +1,33 @@
 //! Every refusal of every command that can give it, each with all that is shown unchanged after it.
-use flow_io::{MemSink, MemSource};
-use flow_words::run_pure;
-use std::alloc::Global;
+use flow_trials::answer;
+use std::alloc::{AllocError, Global};
 use std::test::Fail;
 
 /// A process with a manual activity for clerks, and two automatic ones in a row; a root of it is started.
-const BEGINNING: &str =
-    "IMPORT\nSTRUCTURE 'N' 'n' : LONG ; 't' : STRING ; END 'N'\nPERSON 'ann' ROLES 'clerk' END 'ann'\nPERSON 'bob' ROLES 'clerk' END 'bob'\nPERSON 'cal' END 'cal'\nPROCESS 'W' ('N','N')\nPROGRAM_ACTIVITY 'A' ('N','N') START MANUAL DONE_BY ROLE 'clerk' END 'A'\nPROGRAM_ACTIVITY 'B' ('N','N') END 'B'\nPROGRAM_ACTIVITY 'C' ('N','N') END 'C'\nCONTROL FROM 'B' TO 'C'\nEND 'W'\n.\nSTART 'W' BY 'ann' KEY 'k'\nDRAIN\n";
+const BEGINNING: &str = "IMPORT
+STRUCTURE 'N' 'n' : LONG ; 't' : STRING ; END 'N'
+PERSON 'ann' ROLES 'clerk' END 'ann'
+PERSON 'bob' ROLES 'clerk' END 'bob'
+PERSON 'cal' END 'cal'
+PROCESS 'W' ('N','N')
+PROGRAM_ACTIVITY 'A' ('N','N') START MANUAL DONE_BY ROLE 'clerk' END 'A'
+PROGRAM_ACTIVITY 'B' ('N','N') END 'B'
+PROGRAM_ACTIVITY 'C' ('N','N') END 'C'
+CONTROL FROM 'B' TO 'C'
+END 'W'
+.
+START 'W' BY 'ann' KEY 'k'
+DRAIN
+";
 
 /// What shows the state.
-const PROBES: &str = "SHOW 1\nQUEUE 1\nWORKLIST 'ann'\nWORKLIST 'bob'\nAUDIT 1\nTEMPLATES\n";
+const PROBES: &str = "SHOW 1
+QUEUE 1
+WORKLIST 'ann'
+WORKLIST 'bob'
+AUDIT 1
+TEMPLATES
+";
 
 /// What comes before a command, the command, and the refusal.
 type Refusal = (&'static str, &'static str, &'static str);
@@ -159,7 +177,7 @@ const REFUSALS: [Refusal; 82] = [
     ("", "IMPORT\nPERSON 'x' END 'y'\n.", "RULE 4 1"),
 ];
 
-/// What comes before a command that every test passes but the last, and how many transactions there are then.
+/// What comes before a command that passes every test but the last, the command, and the transactions by then.
 const FULL: [(&str, &str, &str); 16] = [
     ("", "IMPORT\nPERSON 'x' END 'x'\n.", "3"),
     ("", "START 'W' BY 'ann'", "3"),
@@ -184,19 +202,12 @@ const FULL: [(&str, &str, &str); 16] = [
 ];
 
 /// What a script prints under these words.
-fn printed(alloc: Global, words: &[&str], parts: &[&str]) -> Result<Vec<u8>, Fail> {
-    let mut all = Vec::new(alloc);
-    for word in words {
-        all.push(String::from_str(alloc, word)?)?;
-    }
+fn printed(alloc: Global, words: &[&str], parts: &[&str]) -> Result<Vec<u8>, AllocError> {
     let mut script = Vec::new(alloc);
     for part in parts {
         script.extend_from_slice(part.as_bytes())?;
     }
-    let mut source = MemSource::new(alloc, &script, &[])?;
-    let mut sink = MemSink::new(alloc, &[])?;
-    let _status = run_pure(alloc, &all, &mut source, &mut sink);
-    Ok(Vec::from_slice(alloc, sink.held())?)
+    Ok(answer(alloc, words, &script)?.text)
 }
 
 /// Whether a command is refused so, and what is shown before it is shown after it.
@@ -221,10 +232,10 @@ fn is_refused(
 
 #[test]
 fn refusals_change_nothing(rt: HostRuntime) -> Result<(), Fail> {
-    for (i, row) in REFUSALS.iter().enumerate() {
+    for (before, command, refusal) in REFUSALS {
         assert!(rt;
-            is_refused(rt.alloc(), &["try"], row.0, row.1, row.2)?,
-            "refusal {i}"
+            is_refused(rt.alloc(), &["try"], before, command, refusal)?,
+            "{command}: wanted no {refusal}"
         );
     }
     Ok(())
@@ -232,12 +243,11 @@ fn refusals_change_nothing(rt: HostRuntime) -> Result<(), Fail> {
 
 #[test]
 fn full_stores_refuse(rt: HostRuntime) -> Result<(), Fail> {
-    for (i, row) in FULL.iter().enumerate() {
-        let refusal = format!(in rt.alloc(); "FULL {}", row.2)?;
-        let words = ["try", "LIMIT", row.2];
+    for (before, command, limit) in FULL {
+        let refusal = format!(in rt.alloc(); "FULL {limit}")?;
         assert!(rt;
-            is_refused(rt.alloc(), &words, row.0, row.1, refusal.as_str())?,
-            "full {i}"
+            is_refused(rt.alloc(), &["try", "LIMIT", limit], before, command, refusal.as_str())?,
+            "{command}: wanted no FULL {limit}"
         );
     }
     Ok(())

@@ -1,6 +1,6 @@
 //! Every token of every production, with a wrong one in its place, and with none.
-use flow_io::{MemSink, MemSource};
-use flow_words::{Status, run_pure};
+use flow_trials::answer;
+use flow_words::Status;
 use std::alloc::Global;
 use std::test::Fail;
 
@@ -268,36 +268,28 @@ fn text_of(alloc: Global, tokens: &[&str], count: usize, behind: &str) -> Result
     Ok(text)
 }
 
-/// Whether a text is refused for its syntax, in this line.
-fn is_refused(alloc: Global, text: &[u8], line: usize) -> Result<bool, Fail> {
-    let mut words = Vec::new(alloc);
-    words.push(String::from_str(alloc, "check")?)?;
-    let mut source = MemSource::new(alloc, text, &[])?;
-    let mut sink = MemSink::new(alloc, &[])?;
-    let status = run_pure(alloc, &words, &mut source, &mut sink);
+/// Fails where a text isn't refused for its syntax, in this line.
+fn refuse(alloc: Global, shows: &str, text: &[u8], line: usize) -> Result<(), Fail> {
     let refusal = format!(in alloc; "no RULE 3 {line}\n")?;
-    Ok(status == Status::Refused && sink.held() == refusal.as_bytes())
+    answer(alloc, &["check"], text)?.check(shows, refusal.as_str(), Status::Refused)
 }
 
-/// The first place of an item where a wrong token, or the end of the text, isn't refused in its line.
-fn first_passed(alloc: Global, tokens: &[&str]) -> Result<Option<usize>, Fail> {
-    for place in 0..tokens.len() {
+/// Fails where a wrong token, or the end of the text, in the place of a token of an item isn't refused in its line.
+fn refuse_each(alloc: Global, tokens: &[&str]) -> Result<(), Fail> {
+    for (place, token) in tokens.iter().enumerate() {
         let line = place.saturating_add(1);
-        if !is_refused(alloc, &text_of(alloc, tokens, place, WRONG)?, line)? {
-            return Ok(Some(place));
-        }
-        if place > 0 && !is_refused(alloc, &text_of(alloc, tokens, place, "")?, line)? {
-            return Ok(Some(place));
+        refuse(alloc, token, &text_of(alloc, tokens, place, WRONG)?, line)?;
+        if place > 0 {
+            refuse(alloc, token, &text_of(alloc, tokens, place, "")?, line)?;
         }
     }
-    Ok(None)
+    Ok(())
 }
 
 #[test]
 fn wrong_tokens_are_refused(rt: HostRuntime) -> Result<(), Fail> {
-    assert_eq!(rt; first_passed(rt.alloc(), &STRUCTURE)?, None);
-    assert_eq!(rt; first_passed(rt.alloc(), &PERSON)?, None);
-    assert_eq!(rt; first_passed(rt.alloc(), &PROCESS)?, None);
-    assert_eq!(rt; first_passed(rt.alloc(), &NESTED)?, None);
+    for tokens in [STRUCTURE.as_slice(), PERSON.as_slice(), PROCESS.as_slice(), NESTED.as_slice()] {
+        refuse_each(rt.alloc(), tokens)?;
+    }
     Ok(())
 }

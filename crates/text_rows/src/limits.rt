@@ -1,29 +1,25 @@
 //! The greatest texts, and those that are one too great.
-use flow_io::{MemSink, MemSource};
-use flow_words::{Status, run_pure};
+use flow_trials::answer;
+use flow_words::Status;
 use std::alloc::Global;
 use std::test::Fail;
 
-/// What `check` prints, and the status.
-fn checked(alloc: Global, text: &[u8]) -> Result<(Vec<u8>, Status), Fail> {
-    let mut words = Vec::new(alloc);
-    words.push(String::from_str(alloc, "check")?)?;
-    let mut source = MemSource::new(alloc, text, &[])?;
-    let mut sink = MemSink::new(alloc, &[])?;
-    let status = run_pure(alloc, &words, &mut source, &mut sink);
-    Ok((Vec::from_slice(alloc, sink.held())?, status))
+/// Fails where a text is refused.
+fn accept(alloc: Global, shows: &str, text: &[u8]) -> Result<(), Fail> {
+    let outcome = answer(alloc, &["check"], text)?;
+    if outcome.status == Status::Done {
+        Ok(())
+    } else {
+        outcome.check(shows, "", Status::Done)
+    }
 }
 
-fn is_accepted(alloc: Global, text: &[u8]) -> Result<bool, Fail> {
-    Ok(checked(alloc, text)?.1 == Status::Done)
+/// Fails where a text isn't refused so.
+fn refuse(alloc: Global, shows: &str, text: &[u8], refusal: &str) -> Result<(), Fail> {
+    answer(alloc, &["check"], text)?.check(shows, refusal, Status::Refused)
 }
 
-fn is_refused(alloc: Global, text: &[u8], refusal: &str) -> Result<bool, Fail> {
-    let (printed, status) = checked(alloc, text)?;
-    Ok(printed.as_slice() == refusal.as_bytes() && status == Status::Refused)
-}
-
-/// A piece so many times.
+/// A piece this many times.
 fn repeated(alloc: Global, piece: &str, times: usize) -> Result<Vec<u8>, Fail> {
     let mut text = Vec::new(alloc);
     for _ in 0..times {
@@ -41,7 +37,7 @@ fn joined(alloc: Global, pieces: &[&[u8]]) -> Result<Vec<u8>, Fail> {
     Ok(text)
 }
 
-/// A text that is accepted, filled up with line feeds to so many bytes.
+/// A text that is accepted, filled up with line feeds to this many bytes.
 fn filled(alloc: Global, bytes: usize) -> Result<Vec<u8>, Fail> {
     let text =
         "STRUCTURE 'E' END 'E'\nPROCESS 'D' ('E','E')\nPROGRAM_ACTIVITY 'A' ('E','E') END 'A'\nEND 'D'\n";
@@ -51,7 +47,7 @@ fn filled(alloc: Global, bytes: usize) -> Result<Vec<u8>, Fail> {
     Ok(filled)
 }
 
-/// A process with so many levels of BLOCK round one activity, an opening in each line.
+/// A process with this many levels of BLOCK round one activity, an opening in each line.
 fn nested(alloc: Global, levels: usize) -> Result<Vec<u8>, Fail> {
     let opened = repeated(alloc, "BLOCK 'B' ('E','E')\n", levels)?;
     let ended = repeated(alloc, "END 'B'\n", levels)?;
@@ -65,7 +61,7 @@ fn nested(alloc: Global, levels: usize) -> Result<Vec<u8>, Fail> {
     joined(alloc, &pieces)
 }
 
-/// A condition with so many levels of parentheses in it, on line 3.
+/// A condition with this many levels of parentheses in it, on line 3.
 fn bracketed(alloc: Global, levels: usize) -> Result<Vec<u8>, Fail> {
     let opened = repeated(alloc, "(", levels)?;
     let closed = repeated(alloc, ")", levels)?;
@@ -79,7 +75,7 @@ fn bracketed(alloc: Global, levels: usize) -> Result<Vec<u8>, Fail> {
     joined(alloc, &pieces)
 }
 
-/// A graph of so many activities in a chain, the first of them on line 3.
+/// A graph of this many activities in a chain, the first of them on line 3.
 fn chained(alloc: Global, count: usize) -> Result<Vec<u8>, Fail> {
     let mut text = Vec::from_slice(alloc, b"STRUCTURE 'E' END 'E'\nPROCESS 'P' ('E','E')\n")?;
     for i in 0..count {
@@ -95,7 +91,7 @@ fn chained(alloc: Global, count: usize) -> Result<Vec<u8>, Fail> {
     Ok(text)
 }
 
-/// A chain of so many processes, one in each line, each of which calls the one before it so many times.
+/// A chain of processes, one in each line, each of which calls the one before it this many times.
 fn calling(alloc: Global, count: usize, calls: usize) -> Result<Vec<u8>, Fail> {
     let mut text = Vec::from_slice(
         alloc,
@@ -119,54 +115,49 @@ fn calling(alloc: Global, count: usize, calls: usize) -> Result<Vec<u8>, Fail> {
 
 #[test]
 fn processes_nest_16_deep(rt: HostRuntime) -> Result<(), Fail> {
-    assert!(rt; is_accepted(rt.alloc(), &calling(rt.alloc(), 17, 1)?)?);
-    let deeper = calling(rt.alloc(), 18, 1)?;
-    assert!(rt; is_refused(rt.alloc(), &deeper, "no RULE 21 19\n")?);
-    Ok(())
+    let alloc = rt.alloc();
+    accept(alloc, "17 levels", &calling(alloc, 17, 1)?)?;
+    refuse(alloc, "18 levels", &calling(alloc, 18, 1)?, "no RULE 21 19\n")
 }
 
 #[test]
 fn processes_expand_to_65536(rt: HostRuntime) -> Result<(), Fail> {
-    assert!(rt; is_accepted(rt.alloc(), &calling(rt.alloc(), 15, 2)?)?);
-    let larger = calling(rt.alloc(), 16, 2)?;
-    assert!(rt; is_refused(rt.alloc(), &larger, "no RULE 22 17\n")?);
-    Ok(())
+    let alloc = rt.alloc();
+    accept(alloc, "15 doublings", &calling(alloc, 15, 2)?)?;
+    refuse(alloc, "16 doublings", &calling(alloc, 16, 2)?, "no RULE 22 17\n")
 }
 
 #[test]
 fn texts_have_256_processes(rt: HostRuntime) -> Result<(), Fail> {
-    assert!(rt; is_accepted(rt.alloc(), &calling(rt.alloc(), 256, 0)?)?);
-    let longer = calling(rt.alloc(), 257, 0)?;
-    assert!(rt; is_refused(rt.alloc(), &longer, "no RULE 24 258\n")?);
-    Ok(())
+    let alloc = rt.alloc();
+    accept(alloc, "256 processes", &calling(alloc, 256, 0)?)?;
+    refuse(alloc, "257 processes", &calling(alloc, 257, 0)?, "no RULE 24 258\n")
 }
 
 #[test]
 fn texts_have_a_mebibyte(rt: HostRuntime) -> Result<(), Fail> {
-    assert!(rt; is_accepted(rt.alloc(), &filled(rt.alloc(), 1_048_576)?)?);
-    let longer = filled(rt.alloc(), 1_048_577)?;
-    assert!(rt; is_refused(rt.alloc(), &longer, "no RULE 24 1\n")?);
-    Ok(())
+    let alloc = rt.alloc();
+    accept(alloc, "a mebibyte", &filled(alloc, 1_048_576)?)?;
+    refuse(alloc, "one byte more", &filled(alloc, 1_048_577)?, "no RULE 24 1\n")
 }
 
 #[test]
 fn blocks_have_64_levels(rt: HostRuntime) -> Result<(), Fail> {
-    assert!(rt; is_refused(rt.alloc(), &nested(rt.alloc(), 64)?, "no RULE 21 2\n")?);
-    assert!(rt; is_refused(rt.alloc(), &nested(rt.alloc(), 65)?, "no RULE 3 67\n")?);
-    Ok(())
+    let alloc = rt.alloc();
+    refuse(alloc, "64 levels", &nested(alloc, 64)?, "no RULE 21 2\n")?;
+    refuse(alloc, "65 levels", &nested(alloc, 65)?, "no RULE 3 67\n")
 }
 
 #[test]
 fn conditions_have_64_levels(rt: HostRuntime) -> Result<(), Fail> {
-    assert!(rt; is_accepted(rt.alloc(), &bracketed(rt.alloc(), 64)?)?);
-    assert!(rt; is_refused(rt.alloc(), &bracketed(rt.alloc(), 65)?, "no RULE 3 3\n")?);
-    Ok(())
+    let alloc = rt.alloc();
+    accept(alloc, "64 levels", &bracketed(alloc, 64)?)?;
+    refuse(alloc, "65 levels", &bracketed(alloc, 65)?, "no RULE 3 3\n")
 }
 
 #[test]
 fn graphs_have_1024_activities(rt: HostRuntime) -> Result<(), Fail> {
-    assert!(rt; is_accepted(rt.alloc(), &chained(rt.alloc(), 1_024)?)?);
-    let longer = chained(rt.alloc(), 1_025)?;
-    assert!(rt; is_refused(rt.alloc(), &longer, "no RULE 24 1027\n")?);
-    Ok(())
+    let alloc = rt.alloc();
+    accept(alloc, "1,024 activities", &chained(alloc, 1_024)?)?;
+    refuse(alloc, "1,025 activities", &chained(alloc, 1_025)?, "no RULE 24 1027\n")
 }

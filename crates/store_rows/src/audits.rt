@@ -1,6 +1,7 @@
 //! Certificates of a store: as `explain` gives them, with each line left out, repeated, exchanged or changed, and of what is not there.
-use crate::faults::{Left, new_disk, ran_with};
+use crate::stores::new_store;
 use flow_disk::MemDisk;
+use flow_trials::{Outcome, run_over};
 use flow_words::Status;
 use std::alloc::Global;
 use std::test::Fail;
@@ -88,39 +89,31 @@ const CHANGED: [(usize, &str, usize); 14] = [
 
 /// A store on which the script was run.
 fn store(alloc: Global) -> Result<MemDisk, Fail> {
-    let left = ran_with(
-        alloc,
-        &["run", "a", "b"],
-        SCRIPT,
-        (&[], &[]),
-        new_disk(alloc)?,
-    )?;
-    Ok(left.disk)
+    let disk = new_store(alloc)?.disk(alloc)?;
+    Ok(run_over(alloc, &["run", "a", "b"], SCRIPT, (&[], &[]), disk)?.disk)
 }
 
-/// What `verify` answers to these lines.
-fn verified(alloc: Global, disk: MemDisk, lines: &[&str]) -> Result<Left, Fail> {
+/// What `verify` answers to these lines over that store.
+fn verified(alloc: Global, lines: &[&str]) -> Result<Outcome, Fail> {
     let mut input = Vec::new(alloc);
     for line in lines {
         input.extend_from_slice(line.as_bytes())?;
         input.push(b'\n')?;
     }
-    ran_with(alloc, &["verify", "a", "b"], &input, (&[], &[]), disk)
+    let disk = store(alloc)?;
+    Ok(run_over(alloc, &["verify", "a", "b"], &input, (&[], &[]), disk)?)
 }
 
-/// Whether all these lines are justified.
-fn is_accepted(alloc: Global, lines: &[&str]) -> Result<bool, Fail> {
-    let left = verified(alloc, store(alloc)?, lines)?;
-    let count = lines.len();
-    let answer = format!(in alloc; "ok VERIFY {count}\n")?;
-    Ok(left.text.as_slice() == answer.as_bytes() && left.status == Status::Done)
+/// Fails where not all these lines are justified.
+fn accept(alloc: Global, shows: &str, lines: &[&str]) -> Result<(), Fail> {
+    let answer = format!(in alloc; "ok VERIFY {}\n", lines.len())?;
+    verified(alloc, lines)?.check(shows, answer.as_str(), Status::Done)
 }
 
-/// Whether the line of this number is the first that isn't justified.
-fn stops_at(alloc: Global, lines: &[&str], number: usize) -> Result<bool, Fail> {
-    let left = verified(alloc, store(alloc)?, lines)?;
+/// Fails where the line of this number isn't the first that isn't justified.
+fn stop_at(alloc: Global, shows: &str, lines: &[&str], number: usize) -> Result<(), Fail> {
     let answer = format!(in alloc; "no STEP {number}\n")?;
-    Ok(left.text.as_slice() == answer.as_bytes() && left.status == Status::Refused)
+    verified(alloc, lines)?.check(shows, answer.as_str(), Status::Refused)
 }
 
 /// The lines with another one at a place.
@@ -173,26 +166,24 @@ fn exchanged(alloc: Global, at: usize) -> Result<Vec<&'static str>, Fail> {
 
 #[test]
 fn activities_are_explained(rt: HostRuntime) -> Result<(), Fail> {
-    for (i, row) in ASKED.iter().enumerate() {
-        let words = ["explain", "a", "b", row.0];
-        let left = ran_with(rt.alloc(), &words, b"", (&[], &[]), store(rt.alloc())?)?;
-        assert!(rt;
-            left.text.as_slice() == row.1.as_bytes() && left.status == row.2,
-            "row {i}"
-        );
+    for (activity, text, status) in ASKED {
+        let words = ["explain", "a", "b", activity];
+        let disk = store(rt.alloc())?;
+        run_over(rt.alloc(), &words, b"", (&[], &[]), disk)?.check(activity, text, status)?;
     }
     Ok(())
 }
 
 #[test]
-fn certificates_are_checked(rt: HostRuntime) -> Result<(), Fail> {
-    assert!(rt; is_accepted(rt.alloc(), &LINES)?);
-    assert!(rt; is_accepted(rt.alloc(), &[])?);
-    for i in 0..LINES.len() {
-        assert!(rt;
-            is_accepted(rt.alloc(), &doubled(rt.alloc(), i)?)?,
-            "twice {i}"
-        );
+fn certificates_are_accepted(rt: HostRuntime) -> Result<(), Fail> {
+    accept(rt.alloc(), "all lines", &LINES)?;
+    accept(rt.alloc(), "no lines", &[])
+}
+
+#[test]
+fn lines_may_be_repeated(rt: HostRuntime) -> Result<(), Fail> {
+    for (i, line) in LINES.iter().enumerate() {
+        accept(rt.alloc(), line, &doubled(rt.alloc(), i)?)?;
     }
     Ok(())
 }
@@ -203,10 +194,8 @@ const NEEDED: [usize; 10] = [1, 2, 10, 4, 5, 6, 7, 8, 9, 10];
 #[test]
 fn lines_are_needed(rt: HostRuntime) -> Result<(), Fail> {
     for (i, number) in NEEDED.iter().enumerate() {
-        assert!(rt;
-            stops_at(rt.alloc(), &without(rt.alloc(), i)?, *number)?,
-            "without {i}"
-        );
+        let shows = format!(in rt.alloc(); "without line {i}")?;
+        stop_at(rt.alloc(), shows.as_str(), &without(rt.alloc(), i)?, *number)?;
     }
     Ok(())
 }
@@ -217,22 +206,21 @@ const EXCHANGED: [usize; 10] = [1, 2, 0, 4, 5, 6, 7, 8, 9, 10];
 #[test]
 fn lines_have_an_order(rt: HostRuntime) -> Result<(), Fail> {
     for (i, number) in EXCHANGED.iter().enumerate() {
+        let shows = format!(in rt.alloc(); "line {i} behind the next one")?;
         let lines = exchanged(rt.alloc(), i)?;
-        let is_so = if *number == 0 {
-            is_accepted(rt.alloc(), &lines)?
+        if *number == 0 {
+            accept(rt.alloc(), shows.as_str(), &lines)?;
         } else {
-            stops_at(rt.alloc(), &lines, *number)?
-        };
-        assert!(rt; is_so, "exchanged {i}");
+            stop_at(rt.alloc(), shows.as_str(), &lines, *number)?;
+        }
     }
     Ok(())
 }
 
 #[test]
 fn changed_lines_stop(rt: HostRuntime) -> Result<(), Fail> {
-    for (i, row) in CHANGED.iter().enumerate() {
-        let lines = with_line(rt.alloc(), row.0, row.1)?;
-        assert!(rt; stops_at(rt.alloc(), &lines, row.2)?, "changed {i}");
+    for (at, line, number) in CHANGED {
+        stop_at(rt.alloc(), line, &with_line(rt.alloc(), at, line)?, number)?;
     }
     Ok(())
 }

@@ -1,6 +1,6 @@
 //! Each of the 24 rules with texts that break it: in a process, in a block, in a block of a block, and with a lower rule broken behind it.
-use flow_io::{MemSink, MemSource};
-use flow_words::{Status, run_pure};
+use flow_trials::answer;
+use flow_words::Status;
 use std::alloc::Global;
 use std::test::Fail;
 
@@ -383,24 +383,13 @@ const TEXTS: [InText; 31] = [
 /// A text that breaks rule 4 in its one line.
 const OTHER_END: &str = "PERSON 'eve' END 'adam'\n";
 
-/// What `check` prints, and the status.
-pub(crate) fn checked(alloc: Global, text: &[u8]) -> Result<(Vec<u8>, Status), Fail> {
-    let mut words = Vec::new(alloc);
-    words.push(String::from_str(alloc, "check")?)?;
-    let mut source = MemSource::new(alloc, text, &[])?;
-    let mut sink = MemSink::new(alloc, &[])?;
-    let status = run_pure(alloc, &words, &mut source, &mut sink);
-    Ok((Vec::from_slice(alloc, sink.held())?, status))
-}
-
-/// Whether a text is refused by this rule, in this line.
-pub(crate) fn breaks(alloc: Global, text: &[u8], rule: u8, line: usize) -> Result<bool, Fail> {
-    let (printed, status) = checked(alloc, text)?;
+/// Fails where a text isn't refused by this rule, in this line.
+fn breaks(alloc: Global, shows: &str, text: &[u8], rule: u8, line: usize) -> Result<(), Fail> {
     let refusal = format!(in alloc; "no RULE {rule} {line}\n")?;
-    Ok(printed.as_slice() == refusal.as_bytes() && status == Status::Refused)
+    answer(alloc, &["check"], text)?.check(shows, refusal.as_str(), Status::Refused)
 }
 
-/// The elements in a process, inside so many blocks, each opened in a line of its own.
+/// The elements in a process, inside this many blocks, each opened in a line of its own.
 fn in_blocks(alloc: Global, elements: &str, blocks: usize) -> Result<Vec<u8>, Fail> {
     let mut text = Vec::from_slice(alloc, HEAD.as_bytes())?;
     text.extend_from_slice(b"PROCESS 'P' ('N','N')\n")?;
@@ -419,32 +408,29 @@ fn lines_of(text: &[u8]) -> usize {
     text.iter().filter(|byte| **byte == b'\n').count()
 }
 
-/// Whether a lower rule that is broken behind a text is the one that is named.
-fn lower_wins(alloc: Global, text: &[u8], rule: u8) -> Result<bool, Fail> {
+/// Fails where a lower rule that is broken behind a text isn't the one that is named.
+fn lower_wins(alloc: Global, shows: &str, text: &[u8], rule: u8) -> Result<(), Fail> {
     if rule <= 4 {
-        return Ok(true);
+        return Ok(());
     }
     let mut longer = Vec::from_slice(alloc, text)?;
     longer.extend_from_slice(OTHER_END.as_bytes())?;
-    breaks(alloc, &longer, 4, lines_of(text).saturating_add(1))
+    breaks(alloc, shows, &longer, 4, lines_of(text).saturating_add(1))
 }
 
-/// Whether elements break their rule inside so many blocks, and a lower one wins.
-fn breaks_inside(alloc: Global, row: &InGraph, blocks: usize) -> Result<bool, Fail> {
+/// Fails where elements don't break their rule inside this many blocks, or a lower one doesn't win.
+fn breaks_inside(alloc: Global, row: &InGraph, blocks: usize) -> Result<(), Fail> {
     let text = in_blocks(alloc, row.0, blocks)?;
     let before = HEAD_LINES.saturating_add(1).saturating_add(blocks);
-    let line = before.saturating_add(row.2);
-    Ok(breaks(alloc, &text, row.1, line)? && lower_wins(alloc, &text, row.1)?)
+    breaks(alloc, row.0, &text, row.1, before.saturating_add(row.2))?;
+    lower_wins(alloc, row.0, &text, row.1)
 }
 
 #[test]
 fn graphs_break_rules(rt: HostRuntime) -> Result<(), Fail> {
-    for (i, row) in GRAPHS.iter().enumerate() {
+    for row in &GRAPHS {
         for blocks in 0..3 {
-            assert!(rt;
-                breaks_inside(rt.alloc(), row, blocks)?,
-                "row {i} in {blocks} blocks"
-            );
+            breaks_inside(rt.alloc(), row, blocks)?;
         }
     }
     Ok(())
@@ -452,15 +438,9 @@ fn graphs_break_rules(rt: HostRuntime) -> Result<(), Fail> {
 
 #[test]
 fn texts_break_rules(rt: HostRuntime) -> Result<(), Fail> {
-    for (i, row) in TEXTS.iter().enumerate() {
-        assert!(rt;
-            breaks(rt.alloc(), row.0.as_bytes(), row.1, row.2)?,
-            "row {i}"
-        );
-        assert!(rt;
-            lower_wins(rt.alloc(), row.0.as_bytes(), row.1)?,
-            "behind row {i}"
-        );
+    for row in &TEXTS {
+        breaks(rt.alloc(), row.0, row.0.as_bytes(), row.1, row.2)?;
+        lower_wins(rt.alloc(), row.0, row.0.as_bytes(), row.1)?;
     }
     Ok(())
 }

@@ -1,7 +1,8 @@
 //! What faults leave of a store: of the disk, of the source and of the sink, at each call in turn.
-use flow_disk::{MemDisk, Slot};
-use flow_io::{MemSink, MemSource};
-use flow_words::{Status, run};
+use crate::stores::new_store;
+use flow_disk::MemDisk;
+use flow_trials::{Outcome, Store, run_over};
+use flow_words::Status;
 use std::alloc::Global;
 use std::test::Fail;
 
@@ -40,70 +41,12 @@ ok 8 FINISHED 1
 ok 9 CLOCK 5
 ";
 
-/// The number of transactions behind so many of the answers.
+/// The number of transactions behind this many of the answers.
 const COUNTS: [u64; 12] = [0, 1, 2, 3, 3, 4, 5, 6, 6, 7, 8, 9];
 
-/// What a run leaves.
-#[derive(Drop)]
-pub(crate) struct Left {
-    pub(crate) status: Status,
-    pub(crate) text: Vec<u8>,
-    pub(crate) disk: MemDisk,
-}
-
-/// Runs a word over a disk of two files; the calls of the source and of the sink that fail are listed.
-pub(crate) fn ran(
-    alloc: Global,
-    word: &str,
-    script: &[u8],
-    failing: (&[u64], &[u64]),
-    disk: MemDisk,
-) -> Result<Left, Fail> {
-    ran_with(alloc, &[word, "a", "b"], script, failing, disk)
-}
-
-/// Runs the words of a command line over a disk.
-pub(crate) fn ran_with(
-    alloc: Global,
-    given: &[&str],
-    script: &[u8],
-    failing: (&[u64], &[u64]),
-    disk: MemDisk,
-) -> Result<Left, Fail> {
-    let mut words = Vec::new(alloc);
-    for word in given {
-        words.push(String::from_str(alloc, word)?)?;
-    }
-    let mut source = MemSource::new(alloc, script, failing.0)?;
-    let mut sink = MemSink::new(alloc, failing.1)?;
-    let (status, disk) = run(alloc, &words, &mut source, &mut sink, disk);
-    let text = Vec::from_slice(alloc, sink.held())?;
-    Ok(Left { status, text, disk })
-}
-
-/// A store: the bytes of its two slots.
-#[derive(Drop)]
-pub(crate) struct Store {
-    pub(crate) a: Vec<u8>,
-    pub(crate) b: Vec<u8>,
-}
-
-fn store_of(alloc: Global, disk: &MemDisk) -> Result<Store, Fail> {
-    Ok(Store {
-        a: Vec::from_slice(alloc, disk.bytes(Slot::A))?,
-        b: Vec::from_slice(alloc, disk.bytes(Slot::B))?,
-    })
-}
-
-/// A new store.
-pub(crate) fn new_store(alloc: Global) -> Result<Store, Fail> {
-    let left = ran(alloc, "new", b"", (&[], &[]), MemDisk::new(alloc, &[])?)?;
-    store_of(alloc, &left.disk)
-}
-
-/// A disk with a new store.
-pub(crate) fn new_disk(alloc: Global) -> Result<MemDisk, Fail> {
-    disk_of(alloc, &new_store(alloc)?)
+/// Runs `run` over a script and a disk.
+fn ran(alloc: Global, script: &[u8], disk: MemDisk) -> Result<Outcome, Fail> {
+    Ok(run_over(alloc, &["run", "a", "b"], script, (&[], &[]), disk)?)
 }
 
 /// The number of transactions that these answers name; None where they aren't the first ones of the script.
@@ -122,22 +65,22 @@ fn is_next(alloc: Global, text: &[u8], number: u64) -> Result<bool, Fail> {
     Ok(text == line.as_bytes())
 }
 
-/// Whether a store holds so many transactions, or one more.
+/// Whether a store holds this many transactions, or one more.
 fn holds(alloc: Global, disk: MemDisk, count: u64) -> Result<bool, Fail> {
-    let left = ran(alloc, "run", b"CLOCK 9\n", (&[], &[]), disk)?;
+    let outcome = ran(alloc, b"CLOCK 9\n", disk)?;
     Ok(
-        is_next(alloc, &left.text, count.saturating_add(1))?
-            || is_next(alloc, &left.text, count.saturating_add(2))?,
+        is_next(alloc, &outcome.text, count.saturating_add(1))?
+            || is_next(alloc, &outcome.text, count.saturating_add(2))?,
     )
 }
 
 /// Whether a crash, by each choice, leaves all that was answered and at most one transaction more.
-fn keeps(alloc: Global, left: &Left) -> Result<bool, Fail> {
-    let Some(count) = answered(&left.text) else {
+fn keeps(alloc: Global, outcome: &Outcome) -> Result<bool, Fail> {
+    let Some(count) = answered(&outcome.text) else {
         return Ok(false);
     };
     for choice in [0, 1, 215, 221] {
-        if !holds(alloc, left.disk.crash(choice)?, count)? {
+        if !holds(alloc, outcome.disk.crash(choice)?, count)? {
             return Ok(false);
         }
     }
@@ -151,8 +94,8 @@ fn ends(
     disk: MemDisk,
     status: Status,
 ) -> Result<bool, Fail> {
-    let left = ran(alloc, "run", SCRIPT, failing, disk)?;
-    Ok(left.status == status && keeps(alloc, &left)?)
+    let outcome = run_over(alloc, &["run", "a", "b"], SCRIPT, failing, disk)?;
+    Ok(outcome.status == status && keeps(alloc, &outcome)?)
 }
 
 /// Whether the disk may stop at this call.
@@ -167,18 +110,12 @@ fn may_fail(alloc: Global, store: &Store, call: u64) -> Result<bool, Fail> {
     ends(alloc, (&[], &[]), disk, Status::StoreFault)
 }
 
-/// A disk that holds the store and doesn't fail.
-fn disk_of(alloc: Global, store: &Store) -> Result<MemDisk, Fail> {
-    Ok(MemDisk::with(alloc, &store.a, &store.b, &[])?)
-}
-
 #[test]
 fn script_without_a_fault(rt: HostRuntime) -> Result<(), Fail> {
-    let alloc = rt.alloc();
-    let disk = disk_of(alloc, &new_store(alloc)?)?;
-    let left = ran(alloc, "run", SCRIPT, (&[], &[]), disk)?;
-    assert!(rt; left.status == Status::Done && left.text.as_slice() == ANSWERS);
-    assert_eq!(rt; left.disk.calls(), 93);
+    let disk = new_store(rt.alloc())?.disk(rt.alloc())?;
+    let outcome = ran(rt.alloc(), SCRIPT, disk)?;
+    assert!(rt; outcome.status == Status::Done && outcome.text.as_slice() == ANSWERS);
+    assert_eq!(rt; outcome.disk.calls(), 93);
     Ok(())
 }
 
@@ -201,42 +138,46 @@ fn faults_of_the_disk(rt: HostRuntime) -> Result<(), Fail> {
 }
 
 #[test]
-fn faults_of_source_and_sink(rt: HostRuntime) -> Result<(), Fail> {
-    let alloc = rt.alloc();
-    let store = new_store(alloc)?;
+fn faults_of_the_source(rt: HostRuntime) -> Result<(), Fail> {
+    let store = new_store(rt.alloc())?;
     for call in 1..3 {
-        let disk = disk_of(alloc, &store)?;
+        let disk = store.disk(rt.alloc())?;
         assert!(rt;
-            ends(alloc, (&[call], &[]), disk, Status::ReadFault)?,
+            ends(rt.alloc(), (&[call], &[]), disk, Status::ReadFault)?,
             "read {call}"
         );
     }
+    Ok(())
+}
+
+#[test]
+fn faults_of_the_sink(rt: HostRuntime) -> Result<(), Fail> {
+    let store = new_store(rt.alloc())?;
     for call in 1..12 {
-        let disk = disk_of(alloc, &store)?;
+        let disk = store.disk(rt.alloc())?;
         assert!(rt;
-            ends(alloc, (&[], &[call]), disk, Status::WriteFault)?,
+            ends(rt.alloc(), (&[], &[call]), disk, Status::WriteFault)?,
             "write {call}"
         );
     }
     Ok(())
 }
 
-/// Whether a store may be cut to these slots: it is refused, or it holds all of the script or what stood before its last checkpoint.
+/// Whether a store may be cut to these slots: it is refused, or it holds all of the script or what stood before its last
+/// checkpoint.
 fn may_be_cut(alloc: Global, a: &[u8], b: &[u8]) -> Result<bool, Fail> {
-    let disk = MemDisk::with(alloc, a, b, &[])?;
-    let left = ran(alloc, "run", b"CLOCK 9\n", (&[], &[]), disk)?;
+    let outcome = ran(alloc, b"CLOCK 9\n", MemDisk::with(alloc, a, b, &[])?)?;
     Ok(
-        left.status == Status::Store
-            || is_next(alloc, &left.text, 7)?
-            || is_next(alloc, &left.text, 10)?,
+        outcome.status == Status::Store
+            || is_next(alloc, &outcome.text, 7)?
+            || is_next(alloc, &outcome.text, 10)?,
     )
 }
 
 /// The store behind the whole script.
 fn full_store(alloc: Global) -> Result<Store, Fail> {
-    let disk = disk_of(alloc, &new_store(alloc)?)?;
-    let left = ran(alloc, "run", SCRIPT, (&[], &[]), disk)?;
-    store_of(alloc, &left.disk)
+    let disk = new_store(alloc)?.disk(alloc)?;
+    Ok(ran(alloc, SCRIPT, disk)?.store(alloc)?)
 }
 
 #[test]

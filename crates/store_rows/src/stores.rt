@@ -1,6 +1,6 @@
 //! Stores to the byte: what is made, and what is printed of one that is cut or altered.
-use crate::faults::ran;
 use flow_disk::{MemDisk, Slot};
+use flow_trials::{Outcome, Store, answer, run_over};
 use flow_words::Status;
 use std::alloc::Global;
 use std::test::Fail;
@@ -14,7 +14,7 @@ const STORE: [u8; 65] = [
     0x00,
 ];
 
-/// What `run` prints over the first bytes of the store, from so many bytes on.
+/// What `run` prints over the first bytes of the store, from this many bytes on.
 const CUTS: [(usize, &str); 9] = [
     (0, "no STORE UNMADE\n"),
     (2, "no STORE FOREIGN A\n"),
@@ -42,14 +42,27 @@ const ALTERED: [(usize, u8, &str); 11] = [
     (63, 6, "no CLOCK 6\n"),
 ];
 
-/// Whether `run` prints this over a store with these bytes in slot A and none in slot B.
-fn prints(alloc: Global, a: &[u8], script: &[u8], text: &str) -> Result<bool, Fail> {
-    let disk = MemDisk::with(alloc, a, &[], &[])?;
-    let left = ran(alloc, "run", script, (&[], &[]), disk)?;
-    Ok(left.text.as_slice() == text.as_bytes())
+/// A new store.
+pub(crate) fn new_store(alloc: Global) -> Result<Store, Fail> {
+    Ok(answer(alloc, &["new", "a", "b"], b"")?.store(alloc)?)
 }
 
-/// What is printed over so many bytes of the store.
+/// Runs `run` over a store with these bytes in slot A and none in slot B.
+fn ran(alloc: Global, a: &[u8], script: &[u8]) -> Result<Outcome, Fail> {
+    let disk = MemDisk::with(alloc, a, &[], &[])?;
+    Ok(run_over(alloc, &["run", "a", "b"], script, (&[], &[]), disk)?)
+}
+
+/// How a run ends that prints this.
+fn status_of(text: &str) -> Status {
+    if text.starts_with("no STORE") {
+        Status::Store
+    } else {
+        Status::Done
+    }
+}
+
+/// What is printed over this many bytes of the store.
 fn cut_text(length: usize) -> &'static str {
     let mut found = "";
     for (from, text) in CUTS {
@@ -71,17 +84,10 @@ fn altered(alloc: Global, at: usize, byte: u8) -> Result<Vec<u8>, Fail> {
 
 #[test]
 fn a_store_is_made_so(rt: HostRuntime) -> Result<(), Fail> {
-    let new = ran(
-        rt.alloc(),
-        "new",
-        b"",
-        (&[], &[]),
-        MemDisk::new(rt.alloc(), &[])?,
-    )?;
-    assert!(rt; new.status == Status::Done);
-    let left = ran(rt.alloc(), "run", b"CLOCK 5\n", (&[], &[]), new.disk)?;
-    assert_eq!(rt; left.text.as_slice(), b"ok 1 CLOCK 5\n".as_slice());
-    assert_eq!(rt; left.disk.bytes(Slot::A), STORE.as_slice());
+    let disk = new_store(rt.alloc())?.disk(rt.alloc())?;
+    let outcome = run_over(rt.alloc(), &["run", "a", "b"], b"CLOCK 5\n", (&[], &[]), disk)?;
+    outcome.check("a session over a new store", "ok 1 CLOCK 5\n", Status::Done)?;
+    assert_eq!(rt; outcome.disk.bytes(Slot::A), STORE.as_slice());
     Ok(())
 }
 
@@ -89,10 +95,9 @@ fn a_store_is_made_so(rt: HostRuntime) -> Result<(), Fail> {
 fn cut_stores_are_refused(rt: HostRuntime) -> Result<(), Fail> {
     for length in 0..=STORE.len() {
         let cut = STORE.get(..length).unwrap_or(&[]);
-        assert!(rt;
-            prints(rt.alloc(), cut, b"", cut_text(length))?,
-            "length {length}"
-        );
+        let shows = format!(in rt.alloc(); "{length} bytes")?;
+        let text = cut_text(length);
+        ran(rt.alloc(), cut, b"")?.check(shows.as_str(), text, status_of(text))?;
     }
     Ok(())
 }
@@ -100,11 +105,9 @@ fn cut_stores_are_refused(rt: HostRuntime) -> Result<(), Fail> {
 #[test]
 fn altered_stores_are_refused(rt: HostRuntime) -> Result<(), Fail> {
     for (at, byte, text) in ALTERED {
+        let shows = format!(in rt.alloc(); "byte {at}")?;
         let bytes = altered(rt.alloc(), at, byte)?;
-        assert!(rt;
-            prints(rt.alloc(), &bytes, b"CLOCK 4\n", text)?,
-            "byte {at}"
-        );
+        ran(rt.alloc(), &bytes, b"CLOCK 4\n")?.check(shows.as_str(), text, status_of(text))?;
     }
     Ok(())
 }
