@@ -9,6 +9,7 @@ pub mod Allowing
 pub mod Refusals
 pub mod Judgements
 pub mod Admitting
+pub mod Keys
 pub mod OpenItems
 pub mod Facts
 pub mod Shelving

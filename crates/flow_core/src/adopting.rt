@@ -12,6 +12,7 @@ ghost use Rattle.flow_model.specs.declared.transactions.Transaction.TheVariants 
 ghost use Rattle.flow_model.specs.declared.instances.Path.{Path as PathOf};
 ghost use Rattle.flow_core.specs.Driving.{StoreAfter, clock_after, Drives};
 ghost use Rattle.flow_core.specs.Shelving.{IsExact, Shelves};
+ghost use Rattle.flow_core.specs.Keys.{KeysAfter};
 ghost use Rattle.flow_core.specs.Summaries.{summary, taken_up, counted, last_kept, last_number, Follows, deleted};
 ghost use Rattle.flow_core.specs.Summaries.{started, roots_after};
 ghost use Rattle.flow_core.specs.Verdicts.{IsFront};
@@ -409,6 +410,7 @@ impl Core {
         ensures unchanged { IfErr result (λ fault. fault ≡ NotAllowed → self.new ≡ self.old) }
         ensures clock { OnOk result (self.new.clock ≡ clock_after t self.old.clock) }
         ensures store { OnOk result (StoreAfter t self.old.store.catalog self.new.store.catalog) }
+        ensures keys { OnOk result (KeysAfter self.old t self.new) }
         ensures kept_number { OnOk result (self.new.kept_number
             ≡ last_number self.old.kept number self.old.kept_number) }
         ensures exact { OnOk result (IsExact self.old t self.new) }

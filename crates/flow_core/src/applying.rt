@@ -1,6 +1,6 @@
 //! The state after a transaction that is allowed.
 ghost use Rattle.std.specs.Prelude.{◌≡◌, ℕ, ◌<◌, ◌+◌, [], ◌∷◌, Some, None, option_copied, option_map, OnOk, IfOk};
-ghost use Rattle.std.specs.Prelude.{IsTrue};
+ghost use Rattle.std.specs.Prelude.{IsTrue, if◌then◌else◌};
 ghost use Rattle.flow_model.specs.declared.instances.Message.{Message as MessageOf};
 ghost use Rattle.flow_model.specs.declared.instances.Mode.TheVariants as modes;
 ghost use Rattle.flow_core.specs.Verdicts.{fate_now, IsNoteOf, IsFront};
@@ -23,6 +23,8 @@ ghost use Rattle.flow_core.specs.Shelving.{MakesReady, CompletesReady, IfRootLiv
 ghost use Rattle.flow_core.specs.Shelving.{CompletesGiving, WhereLive, ExactTurn, CompletesExactly, IsExact};
 ghost use Rattle.flow_core.specs.Shelving.{CompletesShelves, HoldShelves, performer_named, Shelves};
 ghost use Rattle.flow_core.specs.Summaries.{summary, noted, next, with_transaction, with_root_of, without, kept_by};
+ghost use Rattle.flow_core.specs.Keys.{KeepsKeys, StartsKey, FreesKey, KeysAfter, holder, is_key};
+ghost use Rattle.flow_model.specs.declared.names.Name.{Name as NameOf};
 
 use crate::paths::{queue_of, rank_of};
 use crate::refusals::copy_hold;
@@ -213,6 +215,7 @@ impl Core {
         ensures note { IfOk result (IsNoteOf self.old (made.Import text.now) self.new) }
         ensures clock { OnOk result (self.new.clock ≡ self.old.clock) }
         ensures store { OnOk result (StoreAfter (made.Import text.now) self.old.store.catalog self.new.store.catalog) }
+        ensures keys { KeepsKeys self.old self.new }
     {
         match self.store.import(self.alloc, text.as_slice()) {
             Ok(count) => Ok(Note::Imported(count)),
@@ -272,6 +275,23 @@ impl Core {
         Instance::start(self.alloc, self.library(), place, root, starter, input)
     }
 
+    /// Notes that a root has a key, where it has one, and gives a copy of it.
+    fn add_key(&mut self, root: u64, key: Option<&Name>) -> Result<Option<Name>, AllocError>
+        ensures rest { self.new ≡ record self.old { keys = self.new.keys } }
+        ensures copy { IfOk result (λ copy. copy ≡ option_copied key.entry) }
+        ensures held { OnOk result ((held : NameOf) → holder self.new held
+            ≡ (if is_key held (option_copied key.entry) then Some root else holder self.old held)) }
+    {
+        match key {
+            None => Ok(None),
+            Some(key) => {
+                let bytes = Vec::from_slice(self.alloc, key.as_slice())?;
+                self.keys.insert(bytes, root)?;
+                Ok(Some(key.copy(self.alloc)?))
+            }
+        }
+    }
+
     /// Adds a root under its number and its key.
     fn add_root(
         &mut self,
@@ -281,15 +301,9 @@ impl Core {
     ) -> Result<(), AllocError>
         ensures rest { self.new ≡ record self.old { live_roots = self.new.live_roots; keys = self.new.keys } }
         ensures roots { OnOk result (ChangesRoot root (λ _ after. after ≡ Some instance) self.old self.new) }
+        ensures keys { OnOk result (StartsKey root (option_copied key.entry) self.old self.new) }
     {
-        let key = match key {
-            None => None,
-            Some(key) => {
-                let bytes = Vec::from_slice(self.alloc, key.as_slice())?;
-                self.keys.insert(bytes, root)?;
-                Some(key.copy(self.alloc)?)
-            }
-        };
+        let key = self.add_key(root, key)?;
         self.live_roots.insert(root, Root { instance, key })?;
         Ok(())
     }
@@ -310,6 +324,8 @@ impl Core {
         ensures note { IfOk result (λ n. n ≡ notes.Rooted root) }
         ensures clock { OnOk result (self.new.clock ≡ self.old.clock) }
         ensures store { OnOk result (self.new.store.catalog ≡ self.old.store.catalog) }
+        ensures keys { IfNewest self.old.store.catalog process.now version
+            (λ place. OnOk result (StartsKey root (option_copied key.entry) self.old self.new)) }
         ensures placed { IfNewest self.old.store.catalog process.now version
             (λ place. OnOk result (RunsAt place (instance_of self.new root))) }
     {
@@ -353,6 +369,7 @@ impl Core {
     /// became ready.
     fn take_in_root(&mut self, message: &Message) -> Result<(List<Message>, Vec<Path>), AllocError>
         ensures rest { self.new ≡ record self.old { live_roots = self.new.live_roots } }
+        ensures keys { KeepsKeys self.old self.new }
         ensures roots { IfOk result (λ given. ChangesRoot (root_of_message message.now)
             (IfLive (TakesIn (templates self.old) message.now given.0) given.0) self.old self.new) }
         ensures ready { IfOk result (λ given. IfRootLive
@@ -381,6 +398,7 @@ impl Core {
             → TurnShelves self.old message self.new) }
         ensures clock { OnOk result (self.new.clock ≡ self.old.clock) }
         ensures store { OnOk result (self.new.store.catalog ≡ self.old.store.catalog) }
+        ensures keys { OnOk result (KeepsKeys self.old self.new) }
         ensures exact { OnOk result ((message : MessageOf) → IsFront self.old queue message
             → ExactTurn self.old queue message self.new) }
     {
@@ -415,6 +433,7 @@ impl Core {
         performer: Option<Name>,
     ) -> Result<(List<Message>, Vec<Path>), AllocError>
         ensures rest { self.new ≡ record self.old { live_roots = self.new.live_roots } }
+        ensures keys { KeepsKeys self.old self.new }
         ensures roots { IfOk result (λ given. ChangesRoot item.now.root
             (IfLive (CompletesIn (templates self.old) item.now output given.0) given.0) self.old self.new) }
         ensures ready { IfOk result (λ given. IfRootLive
@@ -451,6 +470,7 @@ impl Core {
         ensures note { IfOk result (λ n. n ≡ notes.Fated (fate_now self.new item.now)) }
         ensures clock { OnOk result (self.new.clock ≡ self.old.clock) }
         ensures store { OnOk result (self.new.store.catalog ≡ self.old.store.catalog) }
+        ensures keys { OnOk result (KeepsKeys self.old self.new) }
         ensures exact { OnOk result
             (CompletesExactly self.old item.now performer settings.now (item_of self.old item.now) self.new) }
     {
@@ -476,6 +496,7 @@ impl Core {
     /// What a change of a hold does to its root, where that is live.
     fn hold_in_root(&mut self, item: &Path, change: HoldChange)
         ensures rest { self.new ≡ record self.old { live_roots = self.new.live_roots } }
+        ensures keys { KeepsKeys self.old self.new }
         ensures roots { ChangesRoot item.now.root
             (IfLive (HoldsIn (templates self.old) item.now change) []) self.old self.new }
     {
@@ -490,6 +511,7 @@ impl Core {
         ensures roots { OnOk result (ChangesRoot item.now.root
             (IfLive (HoldsIn (templates self.old) item.now change) []) self.old self.new) }
         ensures shelves { OnOk result (HoldShelves self.old item.now self.new) }
+        ensures keys { OnOk result (KeepsKeys self.old self.new) }
     {
         self.hold_in_root(item, change);
         self.list_item(item)
@@ -502,6 +524,7 @@ impl Core {
         ensures note { IfOk result (λ n. n ≡ notes.Fated (fate_now self.new item.now)) }
         ensures clock { OnOk result (self.new.clock ≡ self.old.clock) }
         ensures store { OnOk result (self.new.store.catalog ≡ self.old.store.catalog) }
+        ensures keys { OnOk result (KeepsKeys self.old self.new) }
     {
         let who = who.copy(self.alloc)?;
         self.change_hold(item, HoldChange::Person(who))?;
@@ -515,6 +538,7 @@ impl Core {
         ensures note { IfOk result (λ n. n ≡ notes.Taken take) }
         ensures clock { OnOk result (self.new.clock ≡ self.old.clock) }
         ensures store { OnOk result (self.new.store.catalog ≡ self.old.store.catalog) }
+        ensures keys { OnOk result (KeepsKeys self.old self.new) }
     {
         self.change_hold(item, HoldChange::Agent)?;
         Ok(Note::Taken(take))
@@ -527,6 +551,7 @@ impl Core {
         ensures note { IfOk result (λ n. n ≡ notes.Fated (fate_now self.new item.now)) }
         ensures clock { OnOk result (self.new.clock ≡ self.old.clock) }
         ensures store { OnOk result (self.new.store.catalog ≡ self.old.store.catalog) }
+        ensures keys { OnOk result (KeepsKeys self.old self.new) }
     {
         self.change_hold(item, HoldChange::Nobody)?;
         Ok(Note::Fated(self.fate_of(item)))
@@ -535,6 +560,7 @@ impl Core {
     /// Sets whether a root is suspended, where it is live.
     fn set_suspended(&mut self, root: u64, suspended: bool)
         ensures rest { self.new ≡ record self.old { live_roots = self.new.live_roots } }
+        ensures keys { KeepsKeys self.old self.new }
         ensures roots { ChangesRoot root (IfLive (IsSuspended suspended) []) self.old self.new }
     {
         if let Some(found) = self.live_roots.get_mut(&root) {
@@ -549,6 +575,7 @@ impl Core {
     /// Ends a root, where it is live.
     fn terminate_root(&mut self, root: u64)
         ensures rest { self.new ≡ record self.old { live_roots = self.new.live_roots } }
+        ensures keys { KeepsKeys self.old self.new }
         ensures roots { ChangesRoot root (IfLive IsTerminated []) self.old self.new }
     {
         if let Some(found) = self.live_roots.get_mut(&root) {
@@ -563,6 +590,7 @@ impl Core {
         ensures note { IfOk result (λ n. n ≡ notes.Moded modes.Terminated) }
         ensures clock { OnOk result (self.new.clock ≡ self.old.clock) }
         ensures store { OnOk result (self.new.store.catalog ≡ self.old.store.catalog) }
+        ensures keys { OnOk result (KeepsKeys self.old self.new) }
     {
         self.terminate_root(root);
         self.worklists.drop_root(root)?;
@@ -576,6 +604,7 @@ impl Core {
         ensures note { result ≡ notes.Moded modes.Suspended }
         ensures clock { self.new.clock ≡ self.old.clock }
         ensures store { self.new.store.catalog ≡ self.old.store.catalog }
+        ensures keys { KeepsKeys self.old self.new }
     {
         self.set_suspended(root, true);
         Note::Moded(Mode::Suspended)
@@ -588,20 +617,31 @@ impl Core {
         ensures note { result ≡ notes.Moded modes.Active }
         ensures clock { self.new.clock ≡ self.old.clock }
         ensures store { self.new.store.catalog ≡ self.old.store.catalog }
+        ensures keys { KeepsKeys self.old self.new }
     {
         self.set_suspended(root, false);
         Note::Moded(Mode::Active)
+    }
+
+    /// Notes that no root has a key any more.
+    fn free_key(&mut self, key: Option<&Name>)
+        ensures rest { self.new ≡ record self.old { keys = self.new.keys } }
+        ensures held { (held : NameOf) → holder self.new held
+            ≡ (if is_key held (option_copied key.entry) then None else holder self.old held) }
+    {
+        if let Some(key) = key {
+            let _ = self.keys.swap_remove(key.as_slice());
+        }
     }
 
     /// Takes a root and its key away.
     fn remove_root(&mut self, root: u64)
         ensures rest { self.new ≡ record self.old { live_roots = self.new.live_roots; keys = self.new.keys } }
         ensures roots { ChangesRoot root (λ _ after. after ≡ None) self.old self.new }
+        ensures keys { FreesKey root self.old self.new }
     {
         if let Some(found) = self.live_roots.remove(&root) {
-            if let Some(key) = &found.key {
-                let _ = self.keys.swap_remove(key.as_slice());
-            }
+            self.free_key(found.key.as_ref());
         }
     }
 
@@ -612,6 +652,7 @@ impl Core {
         ensures note { result ≡ notes.Deleted }
         ensures clock { self.new.clock ≡ self.old.clock }
         ensures store { self.new.store.catalog ≡ self.old.store.catalog }
+        ensures keys { FreesKey root self.old self.new }
     {
         self.remove_root(root);
         Note::Deleted
@@ -626,6 +667,7 @@ impl Core {
         ensures note { IfOk result (λ n. n ≡ notes.Fated (fate_now self.new item.now)) }
         ensures clock { OnOk result (self.new.clock ≡ self.old.clock) }
         ensures store { OnOk result (self.new.store.catalog ≡ self.old.store.catalog) }
+        ensures keys { OnOk result (KeepsKeys self.old self.new) }
         ensures exact { OnOk result (CompletesExactly self.old item.now (performer_named who.now) settings.now
             (item_of self.old item.now) self.new) }
     {
@@ -643,6 +685,7 @@ impl Core {
         ensures note { result ≡ notes.Clocked minutes }
         ensures clock { self.new.clock ≡ minutes }
         ensures store { self.new.store.catalog ≡ self.old.store.catalog }
+        ensures keys { KeepsKeys self.old self.new }
     {
         self.clock = minutes;
         Note::Clocked(minutes)
@@ -655,6 +698,7 @@ impl Core {
         ensures shelves { IsFrontOf self.old t.now → OnOk result (Shelves self.old t.now self.new) }
         ensures clock { OnOk result (self.new.clock ≡ clock_after t.now self.old.clock) }
         ensures store { OnOk result (StoreAfter t.now self.old.store.catalog self.new.store.catalog) }
+        ensures keys { OnOk result (KeysAfter self.old t.now self.new) }
         ensures exact { IsFrontOf self.old t.now → OnOk result (IsExact self.old t.now self.new) }
     {
         match t {
@@ -745,6 +789,7 @@ impl Core {
         ensures shelves { IsFrontOf self.old t → OnOk result (Shelves self.old t self.new) }
         ensures clock { OnOk result (self.new.clock ≡ clock_after t self.old.clock) }
         ensures store { OnOk result (StoreAfter t self.old.store.catalog self.new.store.catalog) }
+        ensures keys { OnOk result (KeysAfter self.old t self.new) }
         ensures exact { IsFrontOf self.old t → OnOk result (IsExact self.old t self.new) }
     {
         self.count_root(&t);
@@ -764,6 +809,7 @@ impl Core {
         ensures counts { OnOk result (CountsRoot self.old t self.new) }
         ensures clock { OnOk result (self.new.clock ≡ clock_after t self.old.clock) }
         ensures store { OnOk result (StoreAfter t self.old.store.catalog self.new.store.catalog) }
+        ensures keys { OnOk result (KeysAfter self.old t self.new) }
         ensures exact { IsFrontOf self.old t → OnOk result (IsExact self.old t self.new) }
     {
         self.number += 1;

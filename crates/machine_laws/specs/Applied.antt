@@ -5,6 +5,7 @@ use Rattle.flow_core.specs.Admitting.{IsAdmitted, IsPlace}
 use Rattle.flow_core.specs.Allowing.{IsAllowed}
 use Rattle.flow_core.specs.Driving.{Drives, StoreAfter, clock_after, IsNewestVersion}
 use Rattle.flow_core.specs.Judgements.{IsVerdict}
+use Rattle.flow_core.specs.Keys.{KeysAfter}
 use Rattle.flow_core.specs.Refusals.{IsInOrder}
 use Rattle.flow_core.specs.Shelving.{IsExact}
 use Rattle.flow_core.specs.Summaries.{summary, next, taken_up, last_number}
@@ -26,6 +27,7 @@ pub record Applied (c : Core) (t : Transaction) (c' : Core) : Type 0 where
   pub came : summary c' ≡ next t (summary c)
   pub clock : c'.clock ≡ clock_after t c.clock
   pub store : StoreAfter t c.store.catalog c'.store.catalog
+  pub keys : KeysAfter c t c'
   pub exact : IsExact c t c'
 
 -- the clauses of `adopt` that fix the next state, where the record has this number
@@ -35,6 +37,7 @@ pub record Adopted (c : Core) (number : ℕ) (t : Transaction) (c' : Core) : Typ
   pub kept_number : c'.kept_number ≡ last_number c.kept number c.kept_number
   pub clock : c'.clock ≡ clock_after t c.clock
   pub store : StoreAfter t c.store.catalog c'.store.catalog
+  pub keys : KeysAfter c t c'
   pub exact : IsExact c t c'
 
 -- what `judge` and `adopt` have tested: the text of an Import breaks no rule, a Start has the newest version

@@ -25,6 +25,7 @@ returns-in-Ok-adopt-clause-admitted c = λ order. record {
     kept_number = c.in-Ok-adopt.ensures.kept_number;
     clock = c.in-Ok-adopt.ensures.clock;
     store = c.in-Ok-adopt.ensures.store;
+    keys = c.in-Ok-adopt.ensures.keys;
     exact = c.in-Ok-adopt.ensures.exact;
   };
   counts = c.in-Ok-adopt.ensures.counts;

@@ -26,6 +26,7 @@ returns-clause-applied g c =
       came = c.in_ok-applied.ensures.next;
       clock = c.in_ok-applied.ensures.clock;
       store = c.in_ok-applied.ensures.store;
+      keys = c.in_ok-applied.ensures.keys;
       exact = c.in_ok-applied.ensures.exact front;
     })
 

@@ -50,6 +50,7 @@ returns-clause-makes g c =
       came = c.in-Ok.ensures.taken ∙ one.1;
       clock = c.in-Ok.ensures.clock;
       store = c.in-Ok.ensures.store;
+      keys = c.in-Ok.ensures.keys;
       exact = c.in-Ok.ensures.exact;
     }) c.in-Ok.ensures.counts)
 
@@ -77,6 +78,7 @@ returns-clause-takes g c right =
       came = c.in-Ok.ensures.taken ∙ one.1;
       clock = c.in-Ok.ensures.clock;
       store = c.in-Ok.ensures.store;
+      keys = c.in-Ok.ensures.keys;
       exact = c.in-Ok.ensures.exact;
     } in
     let leads = leads_adopted c.args.self.now.core c.adopt.new.self c.args.numbered.number t
