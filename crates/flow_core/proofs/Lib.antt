@@ -1,4 +1,5 @@
 -- Read first: Putting (queues), then Moved (roots and transactions).
+pub mod HeldKeys
 pub mod About
 pub mod Listed
 pub mod Shelved
