@@ -3,7 +3,7 @@ use Rattle.std.specs.Str.{bytes_eq}
 use Rattle.flow_model.specs.declared.names.Name.{Name as NameOf}
 use Rattle.flow_core.specs.Keys.{holder, is_key}
 use Rattle.flow_core.proofs.HeldKeys.{at_key, written}
-use Rattle.flow_core.proofs.applying.Core.free_key.Goals as goal
+use Rattle.flow_core.proofs.state.Core.free_key.Goals as goal
 
 pub returns-in-Some-clause-held : goal.returns-in-Some-clause-held
 returns-in-Some-clause-held c = λ held.
