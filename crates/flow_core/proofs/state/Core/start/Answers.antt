@@ -32,6 +32,11 @@ returns-in_default-clause-placed c = λ indexed place newest.
     absurd (subst (λ (o : Option Instance). RunsAt place o) c.in_default.is
     (c.in_ok-made.ensures.placed indexed place newest))
 
+pub returns-in_default-clause-keys : goal.returns-in_default-clause-keys
+returns-in_default-clause-keys c = λ indexed place newest.
+    absurd (subst (λ (o : Option Instance). RunsAt place o) c.in_default.is
+    (c.in_ok-made.ensures.placed indexed place newest))
+
 pub returns-clause-placed : goal.returns-clause-placed
 returns-clause-placed c = λ indexed place newest.
     let now = ap (λ (k : Core). instance_of k c.args.root) c.in_ok-put.ensures.rest
