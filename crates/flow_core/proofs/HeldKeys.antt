@@ -1,11 +1,24 @@
--- Which root holds a key, after one key was given to a root or freed.
-use Rattle.std.proofs.Common.{◌≡◌, ℕ, List, Bool, true, false, if◌then◌else◌, Option, refl, sym, ap, subst, ◌∙◌, ⊎_elim}
+-- Which root holds a key, after one key was given to a root or freed, and around a transaction.
+use Rattle.std.proofs.Common.{◌≡◌, ℕ, List, Bool, true, false, if◌then◌else◌, ◌==◌, Option, Some, None, refl, sym, ap, subst, ◌∙◌, ⊎_elim}
 use Rattle.std.specs.Cmp.Lexicographic.{bytes_decides, nat_list_eq_equiv}
 use Rattle.std.specs.Str.{bytes_eq}
 use Rattle.std.specs.Global.{Vec}
 use Rattle.std.specs.HashMap.{HashMap, UpdatesBy, get_by}
 use Rattle.std.specs.Map.{lookup, IsKeyTest, AreApart, KeepsOthers}
 use Rattle.std.proofs.lemmas.Bool.{cases_Bool}
+use Rattle.std.specs.BTreeMap as tree
+use Rattle.std.specs.Option.{option_and_then}
+use Rattle.std.specs.Ordering.{nat_cmp}
+use Rattle.flow_core.specs.Driving.{IsNewestVersion}
+use Rattle.flow_core.specs.Keys.{holder, key_of, is_key, HasKeys, KeepsKeys, StartsKey, FreesKey, KeysAfter}
+use Rattle.flow_core.specs.declared.state.Core.{Core}
+use Rattle.flow_model.specs.declared.names.Name.{Name}
+use Rattle.flow_model.specs.declared.transactions.Transaction.{Transaction}
+use Rattle.flow_model.specs.declared.transactions.Transaction.TheVariants.{Import, Start, Turn, Claim, Release}
+use Rattle.flow_model.specs.declared.transactions.Transaction.TheVariants.{Transfer, Take, Done, Force, Restart}
+use Rattle.flow_model.specs.declared.transactions.Transaction.TheVariants.{Suspend, Resume, Terminate, Delete, Clock}
+use Rattle.process_rules.specs.Imports.{IsIndexed}
+use Rattle.template_store.specs.declared.store.TemplateStore.{TemplateStore}
 
 apart : (bs cs ks : List ℕ) → bytes_eq bs cs ≡ false → bytes_eq bs ks ≡ true → bytes_eq cs ks ≡ false
 apart bs cs ks n y = nat_list_eq_equiv.symm cs ks ∙ sym (nat_list_eq_equiv.congr bs ks cs y) ∙ n
@@ -34,3 +47,69 @@ written m n key w h held =
     (λ no. others _ _ _ _ h.3 _ (λ x y. nat_list_eq_equiv.congr held x.items y.items) (λ k. apart key held k.items no)
     ∙ sym (if-false (bytes_eq key held) w (at_key m held) no))
     (cases_Bool (bytes_eq key held))
+
+-- ---- around a transaction
+
+-- what a transaction makes of the keys, from any state with the keys and roots of the one before it to any with those of
+-- the one after it
+module _ (a b c d : Core) (keys : b.keys ≡ a.keys) (roots : b.live_roots ≡ a.live_roots) (store : b.store ≡ a.store)
+    (keys' : d.keys ≡ c.keys) (roots' : d.live_roots ≡ c.live_roots) where
+  held : (key : Name) → holder b key ≡ holder a key
+  held key = ap (λ ks. get_by (λ k. bytes_eq key k.items) ks) keys
+
+  held' : (key : Name) → holder d key ≡ holder c key
+  held' key = ap (λ ks. get_by (λ k. bytes_eq key k.items) ks) keys'
+
+  named : (root : ℕ) → key_of b root ≡ key_of a root
+  named root = ap (λ rs. option_and_then (λ r. r.key) (tree.get_by (nat_cmp root) rs)) roots
+
+  named' : (root : ℕ) → key_of d root ≡ key_of c root
+  named' root = ap (λ rs. option_and_then (λ r. r.key) (tree.get_by (nat_cmp root) rs)) roots'
+
+  has_keys : (f g : Name → Option ℕ) (h k : ℕ → Option Name) → ((key : Name) → f key ≡ g key)
+      → ((root : ℕ) → h root ≡ k root) → HasKeys f h c → HasKeys g k d
+  has_keys f g h k same same' so = record {
+    holders = λ key. held' key ∙ so.holders key ∙ same key;
+    keys = λ root. named' root ∙ so.keys root ∙ same' root;
+  }
+
+  keeps : KeepsKeys b c → KeepsKeys a d
+  keeps so = has_keys (holder b) (holder a) (key_of b) (key_of a) held named so
+
+  starts : (root : ℕ) (started : Option Name) → StartsKey root started b c → StartsKey root started a d
+  starts root started so =
+      has_keys (λ key. if is_key key started then Some root else holder b key)
+      (λ key. if is_key key started then Some root else holder a key)
+      (λ other. if root == other then started else key_of b other)
+      (λ other. if root == other then started else key_of a other)
+      (λ key. ap (λ (o : Option ℕ). if is_key key started then Some root else o) (held key))
+      (λ other. ap (λ (o : Option Name). if root == other then started else o) (named other)) so
+
+  frees : (root : ℕ) → FreesKey root b c → FreesKey root a d
+  frees root so =
+      has_keys (λ key. if is_key key (key_of b root) then None else holder b key)
+      (λ key. if is_key key (key_of a root) then None else holder a key)
+      (λ other. if root == other then None else key_of b other)
+      (λ other. if root == other then None else key_of a other)
+      (λ key. ap (λ (o : Option Name). if is_key key o then None else holder b key) (named root)
+      ∙ ap (λ (o : Option ℕ). if is_key key (key_of a root) then None else o) (held key))
+      (λ other. ap (λ (o : Option Name). if root == other then None else o) (named other)) so
+
+  pub keys_around : (t : Transaction) → KeysAfter b t c → KeysAfter a t d
+  keys_around (Import text) so = keeps so
+  keys_around (Start root process version starter key settings) so = λ indexed place newest.
+      starts root key (so (subst (λ (s : TemplateStore). IsIndexed s.catalog) (sym store) indexed) place
+      (subst (λ (s : TemplateStore). IsNewestVersion s.catalog.library process version place) (sym store) newest))
+  keys_around (Turn number message) so = keeps so
+  keys_around (Claim item who) so = keeps so
+  keys_around (Release item who) so = keeps so
+  keys_around (Transfer item who to) so = keeps so
+  keys_around (Take item take) so = keeps so
+  keys_around (Done item who settings) so = keeps so
+  keys_around (Force item settings) so = keeps so
+  keys_around (Restart item) so = keeps so
+  keys_around (Suspend root) so = keeps so
+  keys_around (Resume root) so = keeps so
+  keys_around (Terminate root) so = keeps so
+  keys_around (Delete root) so = frees root so
+  keys_around (Clock minutes) so = keeps so

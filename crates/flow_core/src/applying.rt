@@ -324,8 +324,8 @@ impl Core {
         ensures note { IfOk result (λ n. n ≡ notes.Rooted root) }
         ensures clock { OnOk result (self.new.clock ≡ self.old.clock) }
         ensures store { OnOk result (self.new.store.catalog ≡ self.old.store.catalog) }
-        ensures keys { IfNewest self.old.store.catalog process.now version
-            (λ place. OnOk result (StartsKey root (option_copied key.entry) self.old self.new)) }
+        ensures keys { OnOk result (IfNewest self.old.store.catalog process.now version
+            (λ place. StartsKey root (option_copied key.entry) self.old self.new)) }
         ensures placed { IfNewest self.old.store.catalog process.now version
             (λ place. OnOk result (RunsAt place (instance_of self.new root))) }
     {

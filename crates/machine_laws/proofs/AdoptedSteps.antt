@@ -8,6 +8,7 @@ use Rattle.flow_core.specs.Allowing.{IsAsked, IsAllowed, IsFree, IsOpen}
 use Rattle.flow_core.specs.Driving.{item_of, ChangesRoots, Drives}
 use Rattle.flow_core.specs.Shelving.{IsExact, CompletesExactly, performer_named}
 use Rattle.flow_core.specs.Keys.{KeysAfter}
+use Rattle.flow_core.proofs.HeldKeys.{keys_around}
 use Rattle.flow_core.specs.Summaries.{Summary, summary, next, started, root_about, with_transaction}
 use Rattle.flow_core.specs.declared.state.Core.{Core}
 use Rattle.flow_model.specs.declared.instances.Message.{Message}
@@ -188,22 +189,7 @@ module _ (c c' : Core) (n n' : ℕ) where
   exact_then (Clock minutes) so = tt
 
   keys_then : (t : Transaction) → KeysAfter c t c' → KeysAfter (renumbered n c) t (renumbered n' c')
-  keys_then (Import text) so = record { holders = so.holders; keys = so.keys }
-  keys_then (Start root process version starter key settings) so = λ indexed place newest.
-      record { holders = (so indexed place newest).holders; keys = (so indexed place newest).keys }
-  keys_then (Turn number message) so = record { holders = so.holders; keys = so.keys }
-  keys_then (Claim item who) so = record { holders = so.holders; keys = so.keys }
-  keys_then (Release item who) so = record { holders = so.holders; keys = so.keys }
-  keys_then (Transfer item who to) so = record { holders = so.holders; keys = so.keys }
-  keys_then (Take item take) so = record { holders = so.holders; keys = so.keys }
-  keys_then (Done item who settings) so = record { holders = so.holders; keys = so.keys }
-  keys_then (Force item settings) so = record { holders = so.holders; keys = so.keys }
-  keys_then (Restart item) so = record { holders = so.holders; keys = so.keys }
-  keys_then (Suspend root) so = record { holders = so.holders; keys = so.keys }
-  keys_then (Resume root) so = record { holders = so.holders; keys = so.keys }
-  keys_then (Terminate root) so = record { holders = so.holders; keys = so.keys }
-  keys_then (Delete root) so = record { holders = so.holders; keys = so.keys }
-  keys_then (Clock minutes) so = record { holders = so.holders; keys = so.keys }
+  keys_then t so = keys_around (renumbered n c) c c' (renumbered n' c') refl refl refl refl refl t so
 
 -- ---- the step
 

@@ -1,9 +1,10 @@
-use Rattle.std.proofs.Common.{ℕ, ap, subst, ◌∙◌}
+use Rattle.std.proofs.Common.{ℕ, ap, refl, subst, ◌∙◌}
 use Rattle.flow_core.specs.Driving.{Drives}
 use Rattle.flow_core.specs.Summaries.{Summary, roots_after}
 use Rattle.flow_core.specs.declared.state.Core.{Core}
 use Rattle.flow_core.proofs.Counting.{counts_taken}
 use Rattle.flow_core.proofs.Exact.{exact_earlier}
+use Rattle.flow_core.proofs.HeldKeys.{keys_around}
 use Rattle.flow_core.proofs.Moved.{drives_earlier, front_of, front_within}
 use Rattle.flow_core.proofs.Shelved.{shelves_earlier}
 use Rattle.flow_core.proofs.state.Core.adopt.Goals as goal
@@ -46,3 +47,9 @@ returns-clause-exact c =
     exact_earlier before counted after c.args.t
     (subst (λ (k : Core). IsExact k c.args.t after) c.count.ensures.rest
     (c.in_ok-apply_as.ensures.exact (front_within before counted c.args.t c.count.ensures.rest front)))
+
+pub returns-clause-keys : goal.returns-clause-keys
+returns-clause-keys c =
+    keys_around c.args.self.now c.count.new.self c.apply_as.new.self c.apply_as.new.self
+    (ap (λ (k : Core). k.keys) c.count.ensures.rest) (ap (λ (k : Core). k.live_roots) c.count.ensures.rest)
+    (ap (λ (k : Core). k.store) c.count.ensures.rest) refl refl c.args.t c.in_ok-apply_as.ensures.keys

@@ -1,3 +1,6 @@
+use Rattle.std.proofs.Common.{ap}
+use Rattle.flow_core.proofs.HeldKeys.{keys_around}
+use Rattle.flow_core.specs.declared.state.Core.{Core}
 use Rattle.flow_core.proofs.Exact.{exact_around}
 use Rattle.flow_core.proofs.Moved.{drives_around, front_counted}
 use Rattle.flow_core.proofs.Shelved.{shelves_around}
@@ -24,3 +27,10 @@ returns-clause-exact c = λ front.
     exact_around before counted c.change_by.new.self c.keep.new.self c.args.t c.count_root.ensures.rest
     c.in_ok-keep.ensures.rest
     (c.in_ok-note.ensures.exact (front_counted before counted c.args.t c.count_root.ensures.rest front))
+
+pub returns-clause-keys : goal.returns-clause-keys
+returns-clause-keys c =
+    keys_around c.args.self.now c.count_root.new.self c.change_by.new.self c.keep.new.self
+    (ap (λ (k : Core). k.keys) c.count_root.ensures.rest) (ap (λ (k : Core). k.live_roots) c.count_root.ensures.rest)
+    (ap (λ (k : Core). k.store) c.count_root.ensures.rest) (ap (λ (k : Core). k.keys) c.in_ok-keep.ensures.rest)
+    (ap (λ (k : Core). k.live_roots) c.in_ok-keep.ensures.rest) c.args.t c.in_ok-note.ensures.keys

@@ -1,3 +1,7 @@
+use Rattle.std.proofs.Common.{Option, OnOk, subst}
+use Rattle.flow_core.specs.Driving.{IfNewest}
+use Rattle.flow_core.specs.Keys.{StartsKey}
+use Rattle.flow_model.specs.declared.names.Name.{Name}
 use Rattle.flow_core.proofs.Exact.{started_newest}
 use Rattle.flow_core.proofs.Moved.{released, transferred}
 use Rattle.flow_core.proofs.state.Core.change_by.Goals as goal
@@ -26,3 +30,10 @@ returns-in-Start-clause-exact c =
     rw c.in-Start.is
     (λ front. started_newest c.start.result c.args.self.now c.start.new.self c.in-Start.root c.in-Start.process
     c.in-Start.version c.start.ensures.placed)
+
+pub returns-in-Start-clause-keys : goal.returns-in-Start-clause-keys
+returns-in-Start-clause-keys c =
+    rw c.in-Start.is
+    (subst (λ (k : Option Name). OnOk c.start.result (IfNewest c.args.self.now.store.catalog c.in-Start.process
+    c.in-Start.version (λ place. StartsKey c.in-Start.root k c.args.self.now c.start.new.self)))
+    c.as_ref.ensures.value c.start.ensures.keys)
