@@ -10,7 +10,7 @@ use Rattle.flow_model.specs.declared.transactions.Transaction.TheVariants.{Suspe
 use Rattle.navigator.specs.Items.{Entry}
 use Rattle.flow_core.specs.Answers.{instance_of}
 use Rattle.flow_core.specs.Driving.{item_of, IfNewest, RunsAt}
-use Rattle.flow_core.specs.Shelving.{performer_named, ExactTurn, ExactCompletion, CompletesExactly, StartsNewest}
+use Rattle.flow_core.specs.Shelving.{performer_named, CompletesExactly, StartsNewest}
 use Rattle.flow_core.specs.Shelving.{IsExact}
 use Rattle.flow_core.specs.declared.state.Core.{Core}
 

@@ -20,7 +20,7 @@ use Rattle.flow_model.specs.declared.transactions.Transaction.TheVariants.{Suspe
 use Rattle.navigator.specs.declared.instance.Instance.{Instance}
 use Rattle.flow_core.specs.Answers.{instance_of}
 use Rattle.flow_core.specs.Driving.{templates, activity_named, graph_now}
-use Rattle.flow_core.specs.Summaries.{root_about, is_root, started}
+use Rattle.flow_core.specs.Summaries.{root_about, is_root}
 pub use Rattle.live_history.specs.Transactions.{settings_in, start_settings}
 use Rattle.flow_core.specs.declared.state.Core.{Core}
 use Rattle.flow_core.specs.declared.views.RootFacts.{RootFacts}

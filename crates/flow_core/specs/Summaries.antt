@@ -1,13 +1,8 @@
 -- The summary of a history, as far as a store keeps it: its counts, and its live transactions under their numbers.
-use Rattle.std.specs.Prelude.{◌≡◌, ◌⊎◌, ℕ, ◌+◌, ◌<◌, ◌≤◌, ◌==◌, max, nat_le, Bool, false, not, if◌then◌else◌, Option}
-use Rattle.std.specs.Prelude.{Some, None, List, [], ◌∷◌, ◌++◌, length, unwrap_or}
-use Rattle.std.specs.List.{filter}
+use Rattle.std.specs.Prelude.{◌≡◌, ◌⊎◌, ℕ, ◌+◌, ◌<◌, ◌≤◌, max, nat_le, if◌then◌else◌, Option}
+use Rattle.std.specs.Prelude.{Some, None, List, [], ◌∷◌, length, unwrap_or}
 use Rattle.flow_model.specs.declared.transactions.Transaction.{Transaction}
-use Rattle.flow_model.specs.declared.transactions.Transaction.TheVariants.{Import, Start, Turn, Claim, Release}
-use Rattle.flow_model.specs.declared.transactions.Transaction.TheVariants.{Transfer, Take, Done, Force, Restart}
-use Rattle.flow_model.specs.declared.transactions.Transaction.TheVariants.{Suspend, Resume, Terminate, Delete, Clock}
 use Rattle.flow_model.specs.declared.transactions.Numbered.{Numbered}
-use Rattle.recover_queue.specs.Queues.{root_of as root_of_message}
 pub use Rattle.live_history.specs.Transactions.{root_about, is_root, deleted, started, without_root, live_by}
 pub use Rattle.live_history.specs.Transactions.{live_after}
 use Rattle.flow_core.specs.declared.state.Core.{Core}

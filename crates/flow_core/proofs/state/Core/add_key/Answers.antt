@@ -1,7 +1,7 @@
 use Rattle.std.proofs.Common.{ℕ, Some, option_copied, if◌then◌else◌, List, Option, Bor, ap, sym, ◌∙◌}
 use Rattle.std.specs.Str.{bytes_eq}
 use Rattle.flow_model.specs.declared.names.Name.{Name as NameOf}
-use Rattle.flow_core.specs.Keys.{holder, is_key}
+use Rattle.flow_core.specs.Keys.{is_key}
 use Rattle.flow_core.proofs.HeldKeys.{at_key, written}
 use Rattle.flow_core.proofs.state.Core.add_key.Goals as goal
 

@@ -4,7 +4,7 @@ use Rattle.blocks_subprocs.proofs.Library.{template_graph}
 use Rattle.containers.specs.Settings.{filled}
 use Rattle.flow_model.specs.ScopeContainers.{graph_of}
 use Rattle.flow_core.specs.Driving.{templates, IsVersionPlace}
-use Rattle.std.proofs.Common.{Some, None, ◌≡◌}
+use Rattle.std.proofs.Common.{Some, ◌≡◌}
 use Rattle.std.proofs.lemmas.Option.{none-some}
 use Rattle.flow_core.proofs.Moved.{starts_in, runs_at}
 use Rattle.flow_core.proofs.state.Core.new_instance.Goals as goal
