@@ -1,12 +1,11 @@
 -- What a good slot is made of, and what a crash in its records makes of it.
-use Rattle.std.proofs.Common.{◌≡◌, ◌≢◌, ℕ, ◌+◌, ◌^◌, ◌<◌, ◌≤◌, Bool, true, false, List, [], ◌∷◌, ◌++◌, length, take, drop, Option, Some, None, refl, sym, ap, subst, ◌∙◌, arith, length-append, append_assoc, take-append-drop, length-drop}
-use Rattle.std.proofs.lemmas.List.{take_at, drop_at, length-take, append-nil}
+use Rattle.std.proofs.Common.{◌≡◌, ◌≢◌, ℕ, ◌+◌, ◌^◌, ◌<◌, ◌≤◌, Bool, true, false, List, [], ◌∷◌, ◌++◌, length, take, drop, Option, Some, None, sym, ap, ◌∙◌, arith, length-append, append_assoc, take-append-drop, length-drop}
+use Rattle.std.proofs.lemmas.List.{take_at, drop_at, length-take}
 use Rattle.std.proofs.lemmas.Nat.{from_be_bytes-to_be_bytes_4}
 use Rattle.std.specs.Int.{w32, to_be_bytes}
 use Rattle.txn_log.specs.declared.header.Header.{Header}
 use Rattle.txn_log.specs.Stored.{Listed, Ends, Breaks, length_at, listed, Good, is_unmade, has_magic, header_of, header_fault, state_of, slot_state}
-use Rattle.txn_log.specs.Steps.{record_bytes}
-use Rattle.txn_log.proofs.Records.{Spells, Nothing, One, spells-append, listed-closed, parts}
+use Rattle.txn_log.proofs.Records.{Spells, listed-closed, parts}
 
 pub length_is : (n : ℕ) → n < 2 ^ 32 → length_at (to_be_bytes w32 n) ≡ n
 unfolding length_at
@@ -88,22 +87,3 @@ module _ (bytes : List ℕ) (header : Header) (ps : List (List ℕ)) (end : ℕ)
       let first : take end bytes ≡ p.head ++ p.front = ap (take end) p.split ∙ take_at (p.head ++ p.front) (p.gate ∷ p.tail) end p.long in
       ap (λ (l : List ℕ). slot_state (l ++ behind)) (front ∙ ap (λ (l : List ℕ). l ++ p.gate ∷ []) (sym first))
       ∙ (ap slot_state (append_assoc (take end bytes) (p.gate ∷ []) behind) ∙ shut_good p.gate behind p.shut)
-
-  -- a whole record behind an open gate, and a closed gate behind it
-  pub opened_good : (payload tail : List ℕ) → 0 < length payload → length payload ≤ 2097152 → slot_state (take end bytes ++ 1 ∷ record_bytes payload ++ tail) ≡ Good header (ps ++ payload ∷ []) (end + 5 + length payload)
-  opened_good payload tail some most =
-      let p = good_parts bytes header ps end is in
-      let four = to_be_bytes w32 (length payload) in
-      let is4 : length (to_be_bytes w32 (length payload)) ≡ 4 = refl in
-      let sized : length_at (to_be_bytes w32 (length payload)) ≡ length payload = length_is (length payload) (omega arith) in
-      let front : take end bytes ≡ p.head ++ p.front = ap (take end) p.split ∙ take_at (p.head ++ p.front) (p.gate ∷ p.tail) end p.long in
-      let one = One (to_be_bytes w32 (length payload)) payload [] [] is4 sized some most Nothing in
-      let bare : (to_be_bytes w32 (length payload) ++ payload) ++ [] ≡ to_be_bytes w32 (length payload) ++ payload = append-nil (to_be_bytes w32 (length payload) ++ payload) in
-      let spelled_one : Spells (1 ∷ to_be_bytes w32 (length payload) ++ payload) (payload ∷ []) = subst (λ (l : List ℕ). Spells (1 ∷ l) (payload ∷ [])) bare one in
-      let spelled = spells-append p.front (1 ∷ to_be_bytes w32 (length payload) ++ payload) ps (payload ∷ []) p.spelled spelled_one in
-      let long : length (p.front ++ (1 ∷ to_be_bytes w32 (length payload) ++ payload)) ≡ length p.front + 5 + length payload = simp length-append (omega arith) in
-      let reach : 42 + length (p.front ++ (1 ∷ to_be_bytes w32 (length payload) ++ payload)) ≡ end + 5 + length payload = omega (arith, p.long, p.head_long, length-append p.head p.front) in
-      let regroup : take end bytes ++ 1 ∷ record_bytes payload ++ tail ≡ p.head ++ ((p.front ++ (1 ∷ to_be_bytes w32 (length payload) ++ payload)) ++ 0 ∷ tail) =
-      ap (λ (l : List ℕ). l ++ 1 ∷ record_bytes payload ++ tail) front ∙ simp append_assoc in
-      ap slot_state regroup ∙ p.stands ((p.front ++ (1 ∷ to_be_bytes w32 (length payload) ++ payload)) ++ 0 ∷ tail) (ps ++ payload ∷ []) (end + 5 + length payload)
-      (listed-closed 42 0 (p.front ++ (1 ∷ to_be_bytes w32 (length payload) ++ payload)) tail (ps ++ payload ∷ []) spelled (omega arith) ∙ ap (Ends (ps ++ payload ∷ [])) reach)

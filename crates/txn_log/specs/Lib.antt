@@ -1,5 +1,6 @@
 pub mod Stored
 pub mod Records
+pub mod Batches
 pub mod Judging
 pub mod Stores
 pub mod Causes

@@ -3,6 +3,7 @@ use Rattle.std.specs.Prelude.{ℕ, zero, suc, ◌+◌, ◌≤◌, ◌^◌, Bool,
 use Rattle.std.specs.Int.{w32, w64, from_be_bytes, to_be_bytes}
 use Rattle.std.specs.List.{starts_with}
 use Rattle.txn_log.specs.declared.header.Header.{Header}
+use Rattle.txn_log.specs.Records.{reach}
 
 -- what stands from a gate on: the payloads of the records and the place of the gate that ends them, or the place of the first gate where no record and no end can be read
 pub data Listed : Type 0 where
@@ -91,12 +92,12 @@ slot_state bytes =
     let head = take 42 bytes in
     state_of (is_unmade head) (has_magic head) (header_fault (length head) (header_of head)) (header_of head) (listed 0 42 (drop 42 bytes))
 
--- a good slot with one record more
-abbrev pub appended : List ℕ → SlotState → SlotState
-appended payload (Good header payloads end) = Good header (payloads ++ payload ∷ []) (end + 5 + length payload)
-appended payload Unmade = Unmade
-appended payload Foreign = Foreign
-appended payload (Damaged place) = Damaged place
+-- a good slot with these records more
+abbrev pub extended : List (List ℕ) → SlotState → SlotState
+extended more (Good header payloads end) = Good header (payloads ++ more) (reach end more)
+extended more Unmade = Unmade
+extended more Foreign = Foreign
+extended more (Damaged place) = Damaged place
 
 -- bytes 1 to 41 of a slot with this header, in format 2
 unfoldable pub header_text : Header → List ℕ

@@ -1,9 +1,10 @@
 -- What two slots are together: which one counts, or why the store isn't opened.
-use Rattle.std.specs.Prelude.{ℕ, ◌+◌, Bool, true, false, nat_lt, ◌==◌, List, [], ◌∷◌, ◌++◌, length}
+use Rattle.std.specs.Prelude.{ℕ, Bool, true, false, nat_lt, ◌==◌, List, [], ◌∷◌, ◌++◌}
 use Rattle.flow_disk.specs.declared.disk.Slot.{Slot}
 use Rattle.flow_disk.specs.declared.disk.Slot.TheVariants.{A, B}
 use Rattle.flow_disk.specs.Images.{Image}
 use Rattle.txn_log.specs.declared.header.Header.{Header}
+use Rattle.txn_log.specs.Records.{reach}
 use Rattle.txn_log.specs.Stored.{SlotState, Unmade, Foreign, Damaged, Good, slot_state}
 
 -- no store; a slot of something else; damage at a place of a slot; or the slot that counts, with its header, its payloads and the place of its closed gate
@@ -34,7 +35,11 @@ judged_store (Good h ps e) (Good k qs f) = newer (h.generation == k.generation) 
 abbrev pub store_of : Image → StoreState
 store_of image = judged_store (slot_state image.a) (slot_state image.b)
 
--- a store with one record more in the slot that counts
+-- a store with these records more in the slot that counts
+abbrev pub with_records : List (List ℕ) → StoreState → StoreState
+with_records more (Counts slot h ps e) = Counts slot h (ps ++ more) (reach e more)
+with_records more state = state
+
+-- with one record more
 abbrev pub with_record : List ℕ → StoreState → StoreState
-with_record payload (Counts slot h ps e) = Counts slot h (ps ++ payload ∷ []) (e + 5 + length payload)
-with_record payload state = state
+with_record payload state = with_records (payload ∷ []) state

@@ -11,6 +11,7 @@
 //! stands in `specs/Steps.antt`.
 #![tactic(auto)]
 
+mod batch;
 mod choosing;
 mod chosen;
 mod header;
@@ -24,6 +25,7 @@ mod stops;
 #[cfg(test)]
 mod tests;
 
+pub use batch::Batch;
 pub use header::{Header, header_bytes};
 pub use judged::Record;
 pub use log::Log;

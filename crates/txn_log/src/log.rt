@@ -4,8 +4,9 @@ ghost use Rattle.flow_disk.specs.Causes.{HasCause};
 ghost use Rattle.flow_disk.specs.Images.{Image, opposite};
 ghost use Rattle.flow_disk.specs.Moments.{LeavesOnly, Only};
 
+use crate::batch::Batch;
 use crate::header::Header;
-use crate::steps::{add, other_slot};
+use crate::steps::{add, add_all, other_slot};
 use crate::stops::StoreFault;
 use flow_disk::{Disk, Slot};
 
@@ -22,7 +23,7 @@ pub struct Log {
 }
 
 impl Log {
-    ghost use Rattle.txn_log.specs.Standing.{IsAt, StandsOn, HasRecord, MayHaveRecord, HasTakenOver};
+    ghost use Rattle.txn_log.specs.Standing.{IsAt, StandsOn, HasRecord, MayHaveRecord, HasRecords, MayHaveRecords, HasTakenOver};
 
     /// A log on a slot of so many records, which end at the closed gate `end`.
     pub(crate) fn on(slot: Slot, generation: u64, records: u64, end: u64) -> Log
@@ -64,6 +65,40 @@ impl Log {
             Ok(()) => {
                 self.records += 1;
                 self.end += 5 + payload.len() as u64;
+                Ok(())
+            }
+            Err(_) => {
+                self.failed = true;
+                Err(StoreFault)
+            }
+        }
+    }
+
+    /// Adds the records of a batch behind the others.
+    ///
+    /// At every moment of the call a crash leaves the records before, with all of the new ones or with none.
+    /// At Ok a crash leaves all. `StoreFault` comes exactly where the disk's count of faults rose; then the
+    /// log has failed and isn't used.
+    pub fn append_all<D: Disk>(&mut self, disk: &mut D, batch: &Batch) -> Result<(), StoreFault>
+        requires some { 0 < length batch.now }
+        requires alive { self.old.failed ≡ false }
+        requires room { self.old.records < 2 ^ 32 }
+        requires stands { D.tells → StandsOn self.old (D.seen disk.old) }
+        ensures stands { OnOk result (D.tells → StandsOn self.new (D.seen disk.new)) }
+        ensures added { OnOk result (D.tells → HasRecords batch.now (D.seen disk.old) (D.seen disk.new)) }
+        ensures durable { OnOk result (Only (D.seen disk.new) (D.images disk.new)) }
+        ensures any_moment { D.tells → Only (D.seen disk.old) (D.images disk.old)
+            → LeavesOnly D.moment D.left_since disk.old disk.new (MayHaveRecords batch.now (D.seen disk.old)) }
+        ensures read { D.tells → Only (D.seen disk.old) (D.images disk.old) → MayHaveRecords batch.now (D.seen disk.old) (D.seen disk.new) }
+        ensures cause { HasCause (D.faults disk.old) (D.faults disk.new) result }
+        ensures failed { IsTrue self.new.failed ↔ IsErr result }
+        ensures same { (self.new.slot ≡ self.old.slot) × (self.new.generation ≡ self.old.generation) }
+        ensures count { OnOk result (self.new.records ≡ self.old.records + length batch.now) }
+    {
+        match add_all(disk, self.slot, self.end, batch) {
+            Ok(()) => {
+                self.end += batch.size() as u64;
+                self.records += batch.len() as u64;
                 Ok(())
             }
             Err(_) => {

@@ -3,9 +3,10 @@ ghost use Rattle.std.specs.Prelude.{◌≢◌, MatchOption, IfOk, slice_index, �
 ghost use Rattle.flow_disk.specs.Causes.{HasCause};
 ghost use Rattle.flow_disk.specs.Images.{Image, bytes_in, put_in, opposite, spliced};
 ghost use Rattle.flow_disk.specs.Moments.{Only, LeavesOnly, Within};
-ghost use Rattle.txn_log.specs.Steps.{Begins, IsStaged, GateDiffers, WithOrWithout, With, IsGoodTo, IsShut, HasBody, Stands, StandsOrUnmade, IsOurs};
+ghost use Rattle.txn_log.specs.Steps.{Begins, IsStaged, record_bytes, GateDiffers, WithOrWithout, With, IsGoodTo, IsShut, HasBody, Stands, StandsOrUnmade, IsOurs};
 ghost use Rattle.txn_log.specs.Stored.{Unmade, Good, InRange, slot_state};
 
+use crate::batch::Batch;
 use crate::header::{Header, header_bytes};
 use flow_disk::{Disk, Failed, Slot};
 
@@ -18,7 +19,7 @@ pub fn stage<D: Disk>(disk: &mut D, slot: Slot, gate: u64, payload: &[u8]) -> Re
     requires size { length payload.now ≤ 2097152 }
     requires place { gate < 2 ^ 60 }
     requires within { D.tells → gate < length (bytes_in (D.seen disk.old) slot) }
-    ensures staged { OnOk result (D.tells → IsStaged slot gate payload.now (D.seen disk.old) (D.seen disk.new)) }
+    ensures staged { OnOk result (D.tells → IsStaged slot gate (record_bytes payload.now) (D.seen disk.old) (D.seen disk.new)) }
     ensures durable { OnOk result (Only (D.seen disk.new) (D.images disk.new)) }
     ensures any_moment { D.tells → Only (D.seen disk.old) (D.images disk.old)
         → LeavesOnly D.moment D.left_since disk.old disk.new
@@ -51,13 +52,45 @@ pub fn add<D: Disk>(disk: &mut D, slot: Slot, gate: u64, payload: &[u8]) -> Resu
     requires size { length payload.now ≤ 2097152 }
     requires place { gate < 2 ^ 60 }
     requires stands { D.tells → IsGoodTo slot gate (D.seen disk.old) }
-    ensures added { OnOk result (D.tells → With slot payload.now (D.seen disk.old) (D.seen disk.new)) }
+    ensures added { OnOk result (D.tells → With slot (payload.now ∷ []) (D.seen disk.old) (D.seen disk.new)) }
     ensures durable { OnOk result (Only (D.seen disk.new) (D.images disk.new)) }
     ensures any_moment { D.tells → Only (D.seen disk.old) (D.images disk.old)
-        → LeavesOnly D.moment D.left_since disk.old disk.new (WithOrWithout slot payload.now (D.seen disk.old)) }
+        → LeavesOnly D.moment D.left_since disk.old disk.new (WithOrWithout slot (payload.now ∷ []) (D.seen disk.old)) }
     ensures cause { HasCause (D.faults disk.old) (D.faults disk.new) result }
 {
     stage(disk, slot, gate, payload)?;
+    open_gate(disk, slot, gate)
+}
+
+/// Writes records behind a closed gate but for the gate of the first one, and a closed gate behind them, and syncs.
+pub fn stage_all<D: Disk>(disk: &mut D, slot: Slot, gate: u64, records: &[u8]) -> Result<(), Failed>
+    requires some { 0 < length records.now }
+    requires place { gate < 2 ^ 60 }
+    requires within { D.tells → gate < length (bytes_in (D.seen disk.old) slot) }
+    ensures staged { OnOk result (D.tells → IsStaged slot gate (records.now ++ 0 ∷ []) (D.seen disk.old) (D.seen disk.new)) }
+    ensures durable { OnOk result (Only (D.seen disk.new) (D.images disk.new)) }
+    ensures any_moment { D.tells → Only (D.seen disk.old) (D.images disk.old)
+        → LeavesOnly D.moment D.left_since disk.old disk.new
+        (Begins slot (take (gate + 1) (bytes_in (D.seen disk.old) slot)) (bytes_in (D.seen disk.old) (opposite slot))) }
+    ensures cause { HasCause (D.faults disk.old) (D.faults disk.new) result }
+{
+    disk.write_at(slot, gate + 1, records)?;
+    disk.write_at(slot, gate + 1 + records.len() as u64, &[0])?;
+    disk.sync()
+}
+
+/// Adds the records of a batch in place of a closed gate that ends the records of a slot.
+pub fn add_all<D: Disk>(disk: &mut D, slot: Slot, gate: u64, batch: &Batch) -> Result<(), Failed>
+    requires some { 0 < length batch.now }
+    requires place { gate < 2 ^ 60 }
+    requires stands { D.tells → IsGoodTo slot gate (D.seen disk.old) }
+    ensures added { OnOk result (D.tells → With slot batch.now (D.seen disk.old) (D.seen disk.new)) }
+    ensures durable { OnOk result (Only (D.seen disk.new) (D.images disk.new)) }
+    ensures any_moment { D.tells → Only (D.seen disk.old) (D.images disk.old)
+        → LeavesOnly D.moment D.left_since disk.old disk.new (WithOrWithout slot batch.now (D.seen disk.old)) }
+    ensures cause { HasCause (D.faults disk.old) (D.faults disk.new) result }
+{
+    stage_all(disk, slot, gate, batch.behind_first_gate())?;
     open_gate(disk, slot, gate)
 }
 

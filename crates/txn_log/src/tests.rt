@@ -1,5 +1,7 @@
 //! A store byte by byte, what a stop at each call leaves, and stores that are cut or altered.
-use crate::{Log, LogStop};
+ghost use Rattle.std.specs.Prelude.{◌<◌, length, IfOk};
+
+use crate::{Batch, Log, LogStop};
 use flow_disk::{Disk, MemDisk, Slot};
 use std::test::Fail;
 
@@ -77,6 +79,72 @@ fn a_stop_at_each_call_of_an_append(rt: HostRuntime) -> Result<(), Fail> {
             let records = records_of(&rt, &mut left)?;
             let wanted = stop > 6 || stop == 6 && (choice == 1 || choice == 215);
             assert_eq!(rt; records == 1, wanted);
+        }
+    }
+    Ok(())
+}
+
+/// A batch of two transactions that set the clock.
+fn two_clocks(rt: &HostRuntime) -> Result<Batch, Fail>
+    ensures { IfOk result (λ batch. 0 < length batch) }
+{
+    let mut batch = Batch::new(rt.alloc());
+    batch.push(&CLOCK)?;
+    batch.push(&CLOCK)?;
+    Ok(batch)
+}
+
+// Three writes and two syncs; the records stand as single ones do.
+#[test]
+fn a_batch_byte_by_byte(rt: HostRuntime) -> Result<(), Fail> {
+    let alloc = rt.alloc();
+    let mut single = MemDisk::new(alloc, &[])?;
+    let mut log = Log::make(alloc, &mut single, 1, 1_000_000)?;
+    log.append(&mut single, &CLOCK)?;
+    log.append(&mut single, &CLOCK)?;
+    log.append(&mut single, &CLOCK)?;
+    let mut disk = MemDisk::new(alloc, &[])?;
+    let mut log = Log::make(alloc, &mut disk, 1, 1_000_000)?;
+    let batch = two_clocks(&rt)?;
+    assert_eq!(rt; batch.len(), 2);
+    assert_eq!(rt; batch.size(), 44);
+    let before = disk.calls();
+    log.append_all(&mut disk, &batch)?;
+    assert_eq!(rt; disk.calls().checked_sub(before), Some(5));
+    log.append(&mut disk, &CLOCK)?;
+    assert_eq!(rt; disk.bytes(Slot::A), single.bytes(Slot::A));
+    assert_eq!(rt; records_of(&rt, &mut disk)?, 3);
+    Ok(())
+}
+
+/// How many records a stop at a call of an append of two leaves, and whether the append was done.
+fn left_of_two(rt: &HostRuntime, stop: u64, choice: u64) -> Result<(usize, bool), Fail> {
+    let mut disk = MemDisk::stopping(rt.alloc(), &MADE, &[], stop)?;
+    let opened = Log::reopen(rt.alloc(), &mut disk)?;
+    let mut log = opened.log;
+    if log.has_failed() || log.records() > 0 {
+        return Ok((0, false));
+    }
+    let batch = two_clocks(rt)?;
+    let is_done = log.append_all(&mut disk, &batch).is_ok();
+    let mut left = disk.crash(choice)?;
+    Ok((records_of(rt, &mut left)?, is_done))
+}
+
+// Of two records that are added together a crash leaves both or none: both where the gate was written.
+#[test]
+fn a_stop_at_each_call_of_a_batch(rt: HostRuntime) -> Result<(), Fail> {
+    let mut made = with_a(&rt, &MADE)?;
+    let opened = Log::reopen(rt.alloc(), &mut made)?;
+    assert!(rt; opened.records.is_empty());
+    let reopening = made.calls();
+    for stop in 1..7_u64 {
+        for choice in [0, 1, 215, 221] {
+            let from = reopening.saturating_add(stop);
+            let (records, is_done) = left_of_two(&rt, from, choice)?;
+            assert_eq!(rt; is_done, stop > 5);
+            let has_both = stop > 5 || stop == 5 && (choice == 1 || choice == 215);
+            assert_eq!(rt; records, if has_both { 2 } else { 0 });
         }
     }
     Ok(())

@@ -1,20 +1,20 @@
 use Rattle.std.proofs.Common.{◌≡◌, ◌∷◌, [], ◌++◌, ◌+◌, ◌∙◌, ap, length, arith, ℕ, length-append}
 use Rattle.flow_disk.proofs.Runs.{weaker}
-use Rattle.txn_log.specs.Standing.{MayHaveRecord}
+use Rattle.txn_log.specs.Standing.{MayHaveRecords}
 use Rattle.txn_log.specs.Steps.{WithOrWithout}
 use Rattle.txn_log.specs.Stores.{Counts}
-use Rattle.txn_log.proofs.Appended.{good_to, counts_more, has_record, may_have_record}
+use Rattle.txn_log.proofs.Appended.{good_to, counts_more, has_records, may_have_records}
 use Rattle.txn_log.proofs.log.Log.append.Goals as goal
 
 pub add-requires-clause-stands : goal.add-requires-clause-stands
 add-requires-clause-stands g c told =
     let s = c.requires.stands told in
-    good_to c.args.self.now.slot c.args.payload.now (g.D.Disk.seen c.args.disk.now) s.header s.payloads c.args.self.now.end s.counts
+    good_to c.args.self.now.slot (c.args.payload.now ∷ []) (g.D.Disk.seen c.args.disk.now) s.header s.payloads c.args.self.now.end s.counts
 
 pub returns-in-Ok-clause-stands : goal.returns-in-Ok-clause-stands
 returns-in-Ok-clause-stands g c told =
     let s = c.requires.stands told in
-    let more = counts_more c.args.self.now.slot c.args.payload.now (g.D.Disk.seen c.args.disk.now) s.header s.payloads c.args.self.now.end s.counts (g.D.Disk.seen c.add.new.disk) (c.in-Ok.ensures.added told) in
+    let more = counts_more c.args.self.now.slot (c.args.payload.now ∷ []) (g.D.Disk.seen c.args.disk.now) s.header s.payloads c.args.self.now.end s.counts (g.D.Disk.seen c.add.new.disk) (c.in-Ok.ensures.added told) in
     let place : c.args.self.now.end + 5 + length c.args.payload.now ≡ c.args.self.now.end + (5 + length c.args.payload.now) = omega arith in
     let count : length (s.payloads ++ c.args.payload.now ∷ []) ≡ c.args.self.now.records + 1 = length-append s.payloads (c.args.payload.now ∷ []) ∙ ap (λ (k : ℕ). k + 1) s.count in
     record { header = s.header; payloads = s.payloads ++ c.args.payload.now ∷ []; counts = more ∙ ap (λ (k : ℕ). Counts c.args.self.now.slot s.header (s.payloads ++ c.args.payload.now ∷ []) k) place; generation = s.generation; count = count }
@@ -22,21 +22,21 @@ returns-in-Ok-clause-stands g c told =
 pub returns-in-Ok-clause-added : goal.returns-in-Ok-clause-added
 returns-in-Ok-clause-added g c told =
     let s = c.requires.stands told in
-    has_record c.args.self.now.slot c.args.payload.now (g.D.Disk.seen c.args.disk.now) s.header s.payloads c.args.self.now.end s.counts (g.D.Disk.seen c.add.new.disk) (c.in-Ok.ensures.added told)
+    has_records c.args.self.now.slot (c.args.payload.now ∷ []) (g.D.Disk.seen c.args.disk.now) s.header s.payloads c.args.self.now.end s.counts (g.D.Disk.seen c.add.new.disk) (c.in-Ok.ensures.added told)
 
 pub returns-in-Ok-clause-any_moment : goal.returns-in-Ok-clause-any_moment
 returns-in-Ok-clause-any_moment g c told only =
     let d = g.D.Disk in
     let s = c.requires.stands told in
-    weaker d.moment d.left_since d.images c.args.disk.now c.add.new.disk (WithOrWithout c.args.self.now.slot c.args.payload.now (d.seen c.args.disk.now)) (MayHaveRecord c.args.payload.now (d.seen c.args.disk.now)) (c.add.ensures.any_moment told only)
-    (may_have_record c.args.self.now.slot c.args.payload.now (d.seen c.args.disk.now) s.header s.payloads c.args.self.now.end s.counts)
+    weaker d.moment d.left_since d.images c.args.disk.now c.add.new.disk (WithOrWithout c.args.self.now.slot (c.args.payload.now ∷ []) (d.seen c.args.disk.now)) (MayHaveRecords (c.args.payload.now ∷ []) (d.seen c.args.disk.now)) (c.add.ensures.any_moment told only)
+    (may_have_records c.args.self.now.slot (c.args.payload.now ∷ []) (d.seen c.args.disk.now) s.header s.payloads c.args.self.now.end s.counts)
 
 pub returns-in-Err-clause-any_moment : goal.returns-in-Err-clause-any_moment
 returns-in-Err-clause-any_moment g c told only =
     let d = g.D.Disk in
     let s = c.requires.stands told in
-    weaker d.moment d.left_since d.images c.args.disk.now c.add.new.disk (WithOrWithout c.args.self.now.slot c.args.payload.now (d.seen c.args.disk.now)) (MayHaveRecord c.args.payload.now (d.seen c.args.disk.now)) (c.add.ensures.any_moment told only)
-    (may_have_record c.args.self.now.slot c.args.payload.now (d.seen c.args.disk.now) s.header s.payloads c.args.self.now.end s.counts)
+    weaker d.moment d.left_since d.images c.args.disk.now c.add.new.disk (WithOrWithout c.args.self.now.slot (c.args.payload.now ∷ []) (d.seen c.args.disk.now)) (MayHaveRecords (c.args.payload.now ∷ []) (d.seen c.args.disk.now)) (c.add.ensures.any_moment told only)
+    (may_have_records c.args.self.now.slot (c.args.payload.now ∷ []) (d.seen c.args.disk.now) s.header s.payloads c.args.self.now.end s.counts)
 
 -- what a read gives is one of the images
 pub returns-in-Ok-clause-read : goal.returns-in-Ok-clause-read
@@ -44,11 +44,11 @@ returns-in-Ok-clause-read g c told only =
     let d = g.D.Disk in
     let s = c.requires.stands told in
     let each = (c.add.ensures.any_moment told only).each (d.seen c.add.new.disk) (g.met.D.Disk.counts_now c.add.new.disk (d.moment c.args.disk.now) (d.seen c.add.new.disk) (c.add.ensures.any_moment told only).later (g.met.D.Disk.honest c.add.new.disk told)) in
-    may_have_record c.args.self.now.slot c.args.payload.now (d.seen c.args.disk.now) s.header s.payloads c.args.self.now.end s.counts (d.seen c.add.new.disk) each
+    may_have_records c.args.self.now.slot (c.args.payload.now ∷ []) (d.seen c.args.disk.now) s.header s.payloads c.args.self.now.end s.counts (d.seen c.add.new.disk) each
 
 pub returns-in-Err-clause-read : goal.returns-in-Err-clause-read
 returns-in-Err-clause-read g c told only =
     let d = g.D.Disk in
     let s = c.requires.stands told in
     let each = (c.add.ensures.any_moment told only).each (d.seen c.add.new.disk) (g.met.D.Disk.counts_now c.add.new.disk (d.moment c.args.disk.now) (d.seen c.add.new.disk) (c.add.ensures.any_moment told only).later (g.met.D.Disk.honest c.add.new.disk told)) in
-    may_have_record c.args.self.now.slot c.args.payload.now (d.seen c.args.disk.now) s.header s.payloads c.args.self.now.end s.counts (d.seen c.add.new.disk) each
+    may_have_records c.args.self.now.slot (c.args.payload.now ∷ []) (d.seen c.args.disk.now) s.header s.payloads c.args.self.now.end s.counts (d.seen c.add.new.disk) each

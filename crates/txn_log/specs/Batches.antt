@@ -1,0 +1,20 @@
+-- Records that are added together, as the bytes that they will be.
+use Rattle.std.specs.Prelude.{◌≡◌, ℕ, List, [], ◌∷◌, ◌++◌, length}
+use Rattle.std.specs.List.{All}
+use Rattle.txn_log.specs.Records.{IsPayload, open_records}
+use Rattle.txn_log.specs.Stored.{Listed, Ends, Breaks, listed}
+
+-- the payloads that are listed; none where a list breaks
+abbrev pub payloads_listed : Listed → List (List ℕ)
+payloads_listed (Ends payloads end) = payloads
+payloads_listed (Breaks place) = []
+
+-- the payloads of records that are listed in bytes, where a closed gate stands behind these
+unfoldable pub payloads_in : List ℕ → List (List ℕ)
+payloads_in bytes = payloads_listed (listed 0 0 (bytes ++ 0 ∷ []))
+
+-- bytes are whole records with open gates, so many
+pub record AreRecords (bytes : List ℕ) (count : ℕ) : Type 0 where
+  pub whole : open_records (payloads_in bytes) ≡ bytes
+  pub allowed : All IsPayload (payloads_in bytes)
+  pub counted : length (payloads_in bytes) ≡ count
