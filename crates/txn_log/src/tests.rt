@@ -1,5 +1,5 @@
 //! A store byte by byte, what a stop at each call leaves, and stores that are cut or altered.
-ghost use Rattle.std.specs.Prelude.{◌<◌, length, IfOk};
+ghost use Rattle.std.specs.Prelude.{◌<◌, length};
 
 use crate::{Batch, Log, LogStop};
 use flow_disk::{Disk, MemDisk, Slot};
@@ -85,33 +85,46 @@ fn a_stop_at_each_call_of_an_append(rt: HostRuntime) -> Result<(), Fail> {
 }
 
 /// A batch of two transactions that set the clock.
-fn two_clocks(rt: &HostRuntime) -> Result<Batch, Fail>
-    ensures { IfOk result (λ batch. 0 < length batch) }
-{
+fn two_clocks(rt: &HostRuntime) -> Result<Batch, Fail> {
     let mut batch = Batch::new(rt.alloc());
     batch.push(&CLOCK)?;
     batch.push(&CLOCK)?;
     Ok(batch)
 }
 
+/// A store with three records, each added by itself.
+fn three_singly(rt: &HostRuntime) -> Result<MemDisk, Fail> {
+    let mut disk = MemDisk::new(rt.alloc(), &[])?;
+    let mut log = Log::make(rt.alloc(), &mut disk, 1, 1_000_000)?;
+    log.append(&mut disk, &CLOCK)?;
+    log.append(&mut disk, &CLOCK)?;
+    log.append(&mut disk, &CLOCK)?;
+    Ok(disk)
+}
+
+/// A store to which two records are added together, and then one; and how many calls the two took.
+fn two_and_one(rt: &HostRuntime, batch: &Batch) -> Result<(MemDisk, u64), Fail>
+    requires some { 0 < length batch.now }
+    requires few { length batch.now < 1000 }
+{
+    let mut disk = MemDisk::new(rt.alloc(), &[])?;
+    let mut log = Log::make(rt.alloc(), &mut disk, 1, 1_000_000)?;
+    let before = disk.calls();
+    log.append_all(&mut disk, batch)?;
+    let calls = disk.calls().saturating_sub(before);
+    log.append(&mut disk, &CLOCK)?;
+    Ok((disk, calls))
+}
+
 // Three writes and two syncs; the records stand as single ones do.
 #[test]
 fn a_batch_byte_by_byte(rt: HostRuntime) -> Result<(), Fail> {
-    let alloc = rt.alloc();
-    let mut single = MemDisk::new(alloc, &[])?;
-    let mut log = Log::make(alloc, &mut single, 1, 1_000_000)?;
-    log.append(&mut single, &CLOCK)?;
-    log.append(&mut single, &CLOCK)?;
-    log.append(&mut single, &CLOCK)?;
-    let mut disk = MemDisk::new(alloc, &[])?;
-    let mut log = Log::make(alloc, &mut disk, 1, 1_000_000)?;
     let batch = two_clocks(&rt)?;
     assert_eq!(rt; batch.len(), 2);
     assert_eq!(rt; batch.size(), 44);
-    let before = disk.calls();
-    log.append_all(&mut disk, &batch)?;
-    assert_eq!(rt; disk.calls().checked_sub(before), Some(5));
-    log.append(&mut disk, &CLOCK)?;
+    let single = three_singly(&rt)?;
+    let (mut disk, calls) = two_and_one(&rt, &batch)?;
+    assert_eq!(rt; calls, 5);
     assert_eq!(rt; disk.bytes(Slot::A), single.bytes(Slot::A));
     assert_eq!(rt; records_of(&rt, &mut disk)?, 3);
     Ok(())
@@ -122,10 +135,10 @@ fn left_of_two(rt: &HostRuntime, stop: u64, choice: u64) -> Result<(usize, bool)
     let mut disk = MemDisk::stopping(rt.alloc(), &MADE, &[], stop)?;
     let opened = Log::reopen(rt.alloc(), &mut disk)?;
     let mut log = opened.log;
-    if log.has_failed() || log.records() > 0 {
+    let batch = two_clocks(rt)?;
+    if log.has_failed() || log.records() > 0 || batch.len() == 0 {
         return Ok((0, false));
     }
-    let batch = two_clocks(rt)?;
     let is_done = log.append_all(&mut disk, &batch).is_ok();
     let mut left = disk.crash(choice)?;
     Ok((records_of(rt, &mut left)?, is_done))
