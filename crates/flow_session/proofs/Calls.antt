@@ -1,12 +1,13 @@
 -- Calls of a session, one after the other.
-use Rattle.std.proofs.Common.{◌≡◌, ⊎_elim, ℕ, zero, suc, List, [], ◌∷◌, ◌++◌, take, refl, sym, ap, subst, ◌∙◌}
+use Rattle.std.proofs.Common.{◌≡◌, ⊎_elim, ℕ, zero, suc, List, [], ◌∷◌, ◌++◌, length, take, refl, sym, ap, subst, ◌∙◌, arith}
+use Rattle.std.proofs.lemmas.List.{take_all}
 use Rattle.flow_disk.specs.Images.{Image}
 use Rattle.flow_disk.specs.Moments.{LeavesOnly}
 use Rattle.flow_disk.proofs.Runs.{weaker, joined}
 use Rattle.flow_model.specs.declared.transactions.Transaction.{Transaction}
 use Rattle.flow_core.specs.Summaries.{Summary, next}
 use Rattle.flow_session.specs.Histories.{StandsFor, StandsAfterSome, after}
-use Rattle.flow_session.specs.Serving.{Makes, WithOrWithout}
+use Rattle.flow_session.specs.Serving.{Makes, WithOrWithout, AllOrNone}
 use Rattle.flow_session.proofs.Keeping.{nothing_done}
 
 pub after_append : (s : Summary) (ts us : List Transaction) → after s (ts ++ us) ≡ after (after s ts) us
@@ -58,6 +59,20 @@ module _ {J : Type 0} (tells : Type 0) (moment : J → ℕ) (left_since : J → 
         weaker moment left_since (λ journal c. left_since journal 0 c) old new (WithOrWithout t s)
         (StandsAfterSome s (t ∷ [])) (leaves told)
         (λ c may. ⊎_elim (λ stands. (0, stands)) (λ stands. (1, stands)) may);
+    ended = ended;
+  }
+
+  -- a call that makes all of these together, or none
+  pub makes_all : (old new : J) (s : Summary) (ts : List Transaction) (IsEnd : List Transaction → Type 0)
+      → (tells → LeavesOnly moment left_since old new (AllOrNone ts s)) → IsEnd ts
+      → Makes tells moment left_since old new s IsEnd
+  makes_all old new s ts IsEnd leaves ended = record {
+    transactions = ts;
+    any_moment = λ told.
+        weaker moment left_since (λ journal c. left_since journal 0 c) old new (AllOrNone ts s)
+        (StandsAfterSome s ts) (leaves told)
+        (λ c may. ⊎_elim (λ stands. (0, stands))
+        (λ stands. (length ts, subst (λ us. StandsFor (after s us) c) (sym (take_all (length ts) ts (omega arith))) stands)) may);
     ended = ended;
   }
 

@@ -1,19 +1,21 @@
 -- What an image stands for after one step of a log.
-use Rattle.std.proofs.Common.{◌≡◌, inl, inr, ⊎_elim, ◌+◌, [], ◌∷◌, ◌++◌, length, sym, ap, ◌∙◌, arith}
+use Rattle.std.proofs.Common.{◌≡◌, inl, inr, ⊎_elim, ℕ, ◌+◌, ◌≤◌, List, [], ◌∷◌, ◌++◌, length, refl, sym, ap, ◌∙◌, arith}
+use Rattle.std.specs.List.{All}
+use Rattle.flow_model.specs.declared.transactions.Numbered.{Numbered}
 use Rattle.std.proofs.lemmas.List.{map-append}
 use Rattle.flow_disk.specs.declared.disk.Slot.{Slot}
 use Rattle.flow_disk.specs.Images.{Image}
 use Rattle.flow_model.specs.declared.transactions.Transaction.{Transaction}
 use Rattle.txn_log.specs.declared.header.Header.{Header}
 use Rattle.txn_log.specs.Records.{reach}
-use Rattle.txn_log.specs.Standing.{HasRecord, MayHaveRecord}
-use Rattle.txn_log.specs.Stores.{Counts, store_of, with_record}
+use Rattle.txn_log.specs.Standing.{HasRecord, MayHaveRecord, HasRecords, MayHaveRecords}
+use Rattle.txn_log.specs.Stores.{Counts, store_of, with_record, with_records}
 use Rattle.checkpoint.specs.Compacting.{IsCompacted, MayBeCompacted}
 use Rattle.flow_txn.specs.Records.{record_bytes}
-use Rattle.flow_core.specs.Summaries.{Summary, next, taken_up}
-use Rattle.flow_session.specs.Histories.{StandsFor, IsHeaderOf, payloads, under}
-use Rattle.flow_session.specs.Serving.{WithOrWithout}
-use Rattle.flow_session.proofs.Summaries.{live_with, all_append, taken_next, all_kept}
+use Rattle.flow_core.specs.Summaries.{Summary, next, taken_up, all_taken_up}
+use Rattle.flow_session.specs.Histories.{StandsFor, IsHeaderOf, IsLive, payloads, payloads_behind, under, after}
+use Rattle.flow_session.specs.Serving.{WithOrWithout, AllOrNone}
+use Rattle.flow_session.proofs.Summaries.{live_with, all_append, all_behind, taken_next, all_kept}
 
 pub same : (s : Summary) (old new : Image) → store_of new ≡ store_of old → StandsFor s old → StandsFor s new
 same s old new is stands = record { slot = stands.slot; header = stands.header; records = stands.records; end = stands.end; counts = is ∙ stands.counts; comes_to = stands.comes_to; later = stands.later; live = stands.live }
@@ -37,6 +39,59 @@ one_more s t old new stands has = record {
 
 pub with_or_without : (s : Summary) (t : Transaction) (old new : Image) → StandsFor s old → MayHaveRecord (record_bytes (s.transactions + 1) t) old new → WithOrWithout t s new
 with_or_without s t old new stands may = ⊎_elim (λ is. inl (same s old new is stands)) (λ has. inr (one_more s t old new stands has)) may
+
+-- ---- several transactions
+
+-- transactions under the numbers behind this one
+numbered : ℕ → List Transaction → List Numbered
+numbered k [] = []
+numbered k (t ∷ ts) = record { number = k + 1; transaction = t } ∷ numbered (k + 1) ts
+
+numbered_payloads : (k : ℕ) (ts : List Transaction) → payloads (numbered k ts) ≡ payloads_behind k ts
+numbered_payloads k [] = refl
+numbered_payloads k (t ∷ ts) = ap (λ ps. record_bytes (k + 1) t ∷ ps) (numbered_payloads (k + 1) ts)
+
+-- their records are taken up as those transactions
+numbered_taken : (kept : ℕ) (s : Summary) (ts : List Transaction) → kept ≤ s.transactions → all_taken_up kept (numbered s.transactions ts) s ≡ after s ts
+numbered_taken kept s [] le = refl
+numbered_taken kept s (t ∷ ts) le =
+    ap (all_taken_up kept (numbered (s.transactions + 1) ts)) (taken_next kept s t le)
+    ∙ numbered_taken kept (next t s) ts (omega (arith, le))
+
+pub after_counts : (s : Summary) (ts : List Transaction) → (after s ts).transactions ≡ s.transactions + length ts
+after_counts s [] = omega arith
+after_counts s (t ∷ ts) = after_counts (next t s) ts ∙ omega arith
+
+after_live : (s : Summary) (ts : List Transaction) → All (IsLive s) s.live → All (IsLive (after s ts)) (after s ts).live
+after_live s [] all = all
+after_live s (t ∷ ts) all = after_live (next t s) ts (live_with s (s.transactions + 1) (s.transactions + 1) t (omega arith) (omega arith) all)
+
+-- the records of the next transactions are there
+pub all_more : (s : Summary) (ts : List Transaction) (old new : Image) → StandsFor s old → HasRecords (payloads_behind s.transactions ts) old new → StandsFor (after s ts) new
+all_more s ts old new stands has =
+    record {
+      slot = stands.slot;
+      header = stands.header;
+      records = stands.records ++ numbered s.transactions ts;
+      end = reach stands.end (payloads_behind s.transactions ts);
+      counts = has ∙ ap (with_records (payloads_behind s.transactions ts)) stands.counts
+          ∙ ap (λ ps. Counts stands.slot stands.header ps (reach stands.end (payloads_behind s.transactions ts)))
+          (ap (λ ps. payloads stands.records ++ ps) (sym (numbered_payloads s.transactions ts))
+              ∙ sym (map-append (λ n. record_bytes n.number n.transaction) stands.records (numbered s.transactions ts)));
+      comes_to = all_behind stands.header.transactions stands.records (numbered s.transactions ts) (under stands.header)
+          ∙ ap (all_taken_up stands.header.transactions (numbered s.transactions ts)) stands.comes_to
+          ∙ numbered_taken stands.header.transactions s ts stands.later;
+      later = omega (arith, stands.later, after_counts s ts);
+      live = after_live s ts stands.live;
+    }
+
+pub all_or_none : (s : Summary) (ts : List Transaction) (old new : Image) → StandsFor s old → MayHaveRecords (payloads_behind s.transactions ts) old new → AllOrNone ts s new
+all_or_none s ts old new stands may = ⊎_elim (λ is. inl (same s old new is stands)) (λ has. inr (all_more s ts old new stands has)) may
+
+-- there is no payload only where there is no transaction
+pub none_behind : (k : ℕ) (ts : List Transaction) → payloads_behind k ts ≡ [] → ts ≡ []
+none_behind k [] is = refl
+none_behind k (t ∷ ts) is = absurd (cc)
 
 -- the live transactions alone, under a header that says the counts
 pub compacted : (s : Summary) (slot : Slot) (header : Header) (old new : Image) → StandsFor s old → IsHeaderOf header s → IsCompacted slot header (payloads s.live) new → StandsFor s new

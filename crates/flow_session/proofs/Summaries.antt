@@ -42,6 +42,10 @@ pub all_append : (kept : ℕ) (ns : List Numbered) (n : Numbered) (s : Summary) 
 all_append kept [] n s = refl
 all_append kept (m ∷ ns) n s = all_append kept ns n (taken_up kept m s)
 
+pub all_behind : (kept : ℕ) (ns ms : List Numbered) (s : Summary) → all_taken_up kept (ns ++ ms) s ≡ all_taken_up kept ms (all_taken_up kept ns s)
+all_behind kept [] ms s = refl
+all_behind kept (n ∷ ns) ms s = all_behind kept ns ms (taken_up kept n s)
+
 -- the record of the next transaction is taken up as that transaction
 pub taken_next : (kept : ℕ) (s : Summary) (t : Transaction) → kept ≤ s.transactions → taken_up kept (record { number = s.transactions + 1; transaction = t }) s ≡ next t s
 taken_next kept s t le = rw (lt-leb (s.transactions + 1) kept (omega (arith, le))) refl

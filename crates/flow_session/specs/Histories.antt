@@ -1,5 +1,5 @@
 -- What the bytes of a store stand for: a summary of a history.
-use Rattle.std.specs.Prelude.{◌≡◌, ℕ, ◌≤◌, None, List, [], ◌∷◌, map, take}
+use Rattle.std.specs.Prelude.{◌≡◌, ℕ, ◌+◌, ◌≤◌, None, List, [], ◌∷◌, map, take}
 use Rattle.std.specs.List.{All}
 use Rattle.flow_model.specs.declared.transactions.Transaction.{Transaction}
 use Rattle.flow_model.specs.declared.transactions.Numbered.{Numbered}
@@ -13,6 +13,11 @@ use Rattle.flow_core.specs.Summaries.{Summary, next, deleted, roots_after, all_t
 -- the payloads of numbered transactions
 abbrev pub payloads : List Numbered → List (List ℕ)
 payloads records = map (λ n. record_bytes n.number n.transaction) records
+
+-- the payloads of transactions, one after the other, under the numbers behind this one
+abbrev pub payloads_behind : ℕ → List Transaction → List (List ℕ)
+payloads_behind number [] = []
+payloads_behind number (t ∷ ts) = record_bytes (number + 1) t ∷ payloads_behind (number + 1) ts
 
 -- the summary under a header, before its records
 abbrev pub under : Header → Summary

@@ -4,11 +4,15 @@ use Rattle.flow_model.specs.declared.transactions.Transaction.{Transaction}
 use Rattle.flow_disk.specs.Images.{Image}
 use Rattle.flow_disk.specs.Moments.{LeavesOnly}
 use Rattle.flow_core.specs.Summaries.{Summary, next}
-use Rattle.flow_session.specs.Histories.{StandsFor, StandsAfterSome}
+use Rattle.flow_session.specs.Histories.{StandsFor, StandsAfterSome, after}
 
 -- an image stands for a summary, or for it with one transaction more
 abbrev pub WithOrWithout : Transaction → Summary → Image → Type 0
 WithOrWithout t s image = StandsFor s image ⊎ StandsFor (next t s) image
+
+-- an image stands for a summary, or for the one after all of these transactions
+abbrev pub AllOrNone : List Transaction → Summary → Image → Type 0
+AllOrNone ts s image = StandsFor s image ⊎ StandsFor (after s ts) image
 
 -- A call makes these transactions, one after the other: whatever a crash during the call leaves stands for the summary
 -- after some of them, from the first on, and at the end of the call this is so of all of them.

@@ -1,17 +1,19 @@
 //! The journal of a store: its log and its disk.
-ghost use Rattle.std.specs.Prelude.{◌≡◌, ◌+◌, false, length, IfOk, IfSome, MatchResult, OnOk, IsTrue, ◌↔◌};
+ghost use Rattle.std.specs.Prelude.{◌≡◌, ◌+◌, ◌<◌, List, false, length, IfOk, IfSome, MatchResult, OnOk, IsTrue, ◌↔◌};
 ghost use Rattle.std.specs.List.{All};
 ghost use Rattle.flow_disk.specs.Images.{opposite};
 ghost use Rattle.flow_disk.specs.Moments.{LeavesOnly, Only};
 ghost use Rattle.txn_log.specs.Records.{IsPayload, reach};
-ghost use Rattle.txn_log.specs.Standing.{HasRecord, IsAt, MayHaveRecord, StandsOn};
+ghost use Rattle.txn_log.specs.Standing.{HasRecord, HasRecords, IsAt, MayHaveRecord, MayHaveRecords, StandsOn};
 ghost use Rattle.txn_log.specs.Stored.{InRange};
 ghost use Rattle.checkpoint.specs.Compacting.{IsCompacted, MayBeCompacted};
-ghost use Rattle.flow_core.specs.Summaries.{summary};
+ghost use Rattle.flow_core.specs.Summaries.{Summary, summary};
+ghost use Rattle.flow_model.specs.declared.transactions.Transaction.{Transaction as TransactionOf};
 ghost use Rattle.live_history.specs.Rows.{present};
 ghost use Rattle.flow_session.specs.Checkpoints.{IsCheckpointed};
-ghost use Rattle.flow_session.specs.Histories.{payloads as payloads_of, IsHeaderOf};
+ghost use Rattle.flow_session.specs.Histories.{payloads as payloads_of, payloads_behind, after, IsHeaderOf};
 ghost use Rattle.flow_session.specs.Keeping.{IsOpen, rests};
+ghost use Rattle.flow_session.specs.Serving.{AllOrNone};
 ghost use Rattle.flow_session.specs.Stopping.{IsStopCause};
 
 use crate::journal::Journal;
@@ -22,7 +24,7 @@ use flow_disk::Disk;
 use flow_model::{Bytes, List, Numbered, Transaction};
 use flow_txn::encode;
 use std::alloc::{AllocError, Global};
-use txn_log::{Header, Log, MAX_PAYLOAD};
+use txn_log::{Batch, Header, Log, MAX_PAYLOAD};
 
 /// A log has fewer records.
 const MOST_RECORDS: u64 = 1 << 32;
@@ -106,6 +108,32 @@ impl<D: Disk + Drop> Stored<D> {
         } = self;
         disk
     }
+
+    /// Keeps the payloads of a batch, those of the next transactions one after the other, behind one gate; of none,
+    /// nothing is done.
+    ///
+    /// `StoreFault` comes exactly where the disk failed, so that they may not be kept; then a crash leaves the history
+    /// with all of them or with none. `NoMemory` comes where nothing was tried: the log has failed before, or it is
+    /// full, to neither of which a store of the program comes.
+    pub fn keep_all(&mut self, batch: &Batch) -> Result<(), Stop>
+        requires open { D.tells → (s : Summary) × IsOpen D.seen D.images self.old.log self.old.disk s }
+        ensures kept { (s : Summary) (ts : List TransactionOf) → D.tells
+            → IsOpen D.seen D.images self.old.log self.old.disk s → batch.now ≡ payloads_behind s.transactions ts
+            → OnOk result (IsOpen D.seen D.images self.new.log self.new.disk (after s ts)) }
+        ensures any_moment { (s : Summary) (ts : List TransactionOf) → D.tells
+            → IsOpen D.seen D.images self.old.log self.old.disk s → batch.now ≡ payloads_behind s.transactions ts
+            → LeavesOnly D.moment D.left_since self.old.disk self.new.disk (AllOrNone ts s) }
+        ensures place { (self.new.log.slot ≡ self.old.log.slot)
+            × (self.new.log.generation ≡ self.old.log.generation) }
+        ensures cause { MatchResult result (λ _. D.faults self.new.disk ≡ D.faults self.old.disk)
+            (IsStopCause (D.faults self.old.disk) (D.faults self.new.disk)) }
+    {
+        if batch.is_empty() {
+            return Ok(());
+        }
+        append_all(&mut self.log, &mut self.disk, batch)?;
+        Ok(())
+    }
 }
 
 /// Appends a payload to a log.
@@ -128,6 +156,32 @@ fn append<D: Disk>(log: &mut Log, disk: &mut D, payload: &[u8]) -> Result<(), St
         return Err(Stop::NoMemory);
     }
     match log.append(disk, payload) {
+        Ok(()) => Ok(()),
+        Err(_) => Err(Stop::StoreFault),
+    }
+}
+
+/// Appends the records of a batch to a log.
+///
+/// `StoreFault` comes exactly where the disk failed. `NoMemory` comes where nothing was tried: the log has failed
+/// before, or it is full, to neither of which a store of the program comes.
+fn append_all<D: Disk>(log: &mut Log, disk: &mut D, batch: &Batch) -> Result<(), Stop>
+    requires some { 0 < length batch.now }
+    requires stands { D.tells → StandsOn log.old (D.seen disk.old) }
+    ensures stands { OnOk result (D.tells → StandsOn log.new (D.seen disk.new)) }
+    ensures added { OnOk result (D.tells → HasRecords batch.now (D.seen disk.old) (D.seen disk.new)) }
+    ensures durable { OnOk result (Only (D.seen disk.new) (D.images disk.new)) }
+    ensures alive { OnOk result (log.new.failed ≡ false) }
+    ensures same { (log.new.slot ≡ log.old.slot) × (log.new.generation ≡ log.old.generation) }
+    ensures cause { MatchResult result (λ _. D.faults disk.new ≡ D.faults disk.old)
+        (IsStopCause (D.faults disk.old) (D.faults disk.new)) }
+    ensures any_moment { D.tells → Only (D.seen disk.old) (D.images disk.old)
+        → LeavesOnly D.moment D.left_since disk.old disk.new (MayHaveRecords batch.now (D.seen disk.old)) }
+{
+    if log.has_failed() || log.records() >= MOST_RECORDS {
+        return Err(Stop::NoMemory);
+    }
+    match log.append_all(disk, batch) {
         Ok(()) => Ok(()),
         Err(_) => Err(Stop::StoreFault),
     }

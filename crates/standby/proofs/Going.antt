@@ -1,5 +1,5 @@
 -- How following goes from stage to stage, and how it ends.
-use Rattle.std.proofs.Common.{◌≡◌, ◌∙◌, inl, inr, ℕ, ◌+◌, Bool, true, false, List, [], length, Option, Result, Ok, Err, IsOk, IfErr, OnOk, ap, sym, subst, refl, arith}
+use Rattle.std.proofs.Common.{◌≡◌, ◌∙◌, inl, inr, ⊎_elim, ℕ, ◌+◌, Bool, true, false, List, [], length, Option, Result, Ok, Err, IsOk, IfErr, OnOk, ap, sym, subst, refl, arith}
 use Rattle.std.specs.Io.KnownBytes.{prepend_known}
 use Rattle.std.specs.Result.{IsErrAnd}
 use Rattle.std.proofs.KnownBytes.{prepend_known-nil}
@@ -19,9 +19,10 @@ use Rattle.standby.specs.Frames.{StopsFrame, EndsThere}
 use Rattle.standby.specs.Fronts.{FrontJudged}
 use Rattle.standby.specs.Readers.{Reader, Gives, ahead}
 use Rattle.standby.specs.Reading.{Reads}
-use Rattle.standby.specs.Stages.{Takes, TakesPayload, StopsPayload, Stage, stage, Reaches, Further, Goes, IsEnded, StopsAt, FollowsFrames, ReadsFront, StopsBefore, PassesFront, IsDone, Follows, FollowsSource}
+use Rattle.standby.specs.Stages.{Takes, TakesPayload, StopsPayload, Stage, stage, Reaches, Further, Goes, IsEnded, StopsAt, StopsKept, UnlessFailed, FollowsFrames, FollowsHeld, ReadsFront, StopsBefore, PassesFront, IsDone, Follows, FollowsSource}
 use Rattle.standby.specs.Streams.{front_bytes, frame_bytes, end_bytes}
 use Rattle.standby.proofs.Ahead.{gives_kept}
+use Rattle.standby.proofs.Waiting.{unless_map}
 
 -- ---- states
 
@@ -79,30 +80,40 @@ one_further first s s' given payload reached same allowed frame place number tak
     })
 
 -- what stops at the last stage stops the call
-pub stops_frames : {T : Type 0} (first : Stage) (after : Option (List ℕ)) (c : Core) (taken : ℕ) (r : Result T FollowStop) (stop : FollowStop) → IsErrAnd r (λ y. y ≡ stop) → Goes first (λ last. StopsAt last after stop) → FollowsFrames first after c taken r
-stops_frames first after c taken (Ok x) stop is goes = absurd is
-stops_frames first after c taken (Err y) stop is goes = subst (λ (e : FollowStop). Goes first (λ last. StopsAt last after e)) (sym is) goes
+pub stops_frames : {T : Type 0} (IsKept : Core → Type 0) (first : Stage) (left : Option (List ℕ)) (held : List ℕ) (c : Core) (taken : ℕ) (r : Result T FollowStop) (stop : FollowStop) → IsErrAnd r (λ y. y ≡ stop) → (stop ≡ ReadFault → held ≡ []) → Goes first (λ last. StopsKept IsKept last (prepend_known held left) stop) → FollowsHeld IsKept first left c taken r
+stops_frames IsKept first left held c taken (Ok x) stop is dry goes = absurd is
+stops_frames IsKept first left held c taken (Err y) stop is dry goes = record {
+  held = held;
+  follows = subst (λ (e : FollowStop). Goes first (λ last. StopsKept IsKept last (prepend_known held left) e)) (sym is) goes;
+  dry = λ e. dry (sym is ∙ e);
+}
 
 -- what takes a payload never stops by a fault of the source
 no_fault : (disk disk' : ℕ) (P : Type 0) (stop : FollowStop) → FollowEnd 0 0 disk disk' stop → stop ≡ ReadFault → P
 no_fault disk disk' P stop end is = let fault : FollowEnd 0 0 disk disk' ReadFault = subst (FollowEnd 0 0 disk disk') is end in absurd (omega (arith, fault.0))
 
-pub never_dry : {T : Type 0} (disk disk' : ℕ) (P : Type 0) (r : Result T FollowStop) (stop : FollowStop) → IsErrAnd r (λ y. y ≡ stop) → FollowEnd 0 0 disk disk' stop → IfErr r (λ e. e ≡ ReadFault → P)
-never_dry disk disk' P (Ok x) stop is end = tt
-never_dry disk disk' P (Err y) stop is end = λ e. no_fault disk disk' P stop end (sym is ∙ e)
+pub never_dry : (disk disk' : ℕ) (P : Type 0) (stop : FollowStop) → FollowEnd 0 0 disk disk' stop → stop ≡ ReadFault → P
+never_dry disk disk' P stop end is = no_fault disk disk' P stop end is
 
 -- the end of the stream is read at a stage
-pub read_end : {T : Type 0} (first s : Stage) (at : ℕ) (mid after : Option (List ℕ)) (r : Result T FollowStop) → at ≡ s.place + 1 → Reaches first s → Gives s.place s.left mid end_bytes → EndsThere at mid after r → FollowsFrames first after s.core s.taken r
-read_end first s at mid after (Ok x) behind reached given ends = record { last = s; reached = reached; ended = ((gives_kept s.place s.left mid after end_bytes given ends.0, ends.1), refl, refl) }
-read_end first s at mid after (Err (Store stop)) behind reached given ends = absurd ends
-read_end first s at mid after (Err (Frame told)) behind reached given ends = record { last = s; reached = reached; ended = inr (inr (ends.0 ∙ behind, gives_kept s.place s.left mid after end_bytes given ends.1, ends.2)) }
-read_end first s at mid after (Err (Cut number)) behind reached given ends = absurd ends
-read_end first s at mid after (Err Other) behind reached given ends = absurd ends
-read_end first s at mid after (Err (Gap number)) behind reached given ends = absurd ends
-read_end first s at mid after (Err (NotAllowed number)) behind reached given ends = absurd ends
-read_end first s at mid after (Err ReadFault) behind reached given ends = record { last = s; reached = reached; ended = inr (gives_kept s.place s.left mid after end_bytes given ends) }
-read_end first s at mid after (Err TooLong) behind reached given ends = absurd ends
-read_end first s at mid after (Err NoMemory) behind reached given ends = absurd ends
+read_end : {T : Type 0} (IsKept : Core → Type 0) (first s : Stage) (at : ℕ) (mid after : Option (List ℕ)) (r : Result T FollowStop) → at ≡ s.place + 1 → Reaches first s → Gives s.place s.left mid end_bytes → IsKept s.core → EndsThere at mid after r → FollowsFrames IsKept first after s.core s.taken r
+read_end IsKept first s at mid after (Ok x) behind reached given kept ends = record { last = s; reached = reached; ended = ((gives_kept s.place s.left mid after end_bytes given ends.0, ends.1), refl, refl) }
+read_end IsKept first s at mid after (Err (Store stop)) behind reached given kept ends = absurd ends
+read_end IsKept first s at mid after (Err (Frame told)) behind reached given kept ends = record { last = s; reached = reached; ended = (inr (inr (ends.0 ∙ behind, gives_kept s.place s.left mid after end_bytes given ends.1, ends.2)), kept) }
+read_end IsKept first s at mid after (Err (Cut number)) behind reached given kept ends = absurd ends
+read_end IsKept first s at mid after (Err Other) behind reached given kept ends = absurd ends
+read_end IsKept first s at mid after (Err (Gap number)) behind reached given kept ends = absurd ends
+read_end IsKept first s at mid after (Err (NotAllowed number)) behind reached given kept ends = absurd ends
+read_end IsKept first s at mid after (Err ReadFault) behind reached given kept ends = record { last = s; reached = reached; ended = (inr (gives_kept s.place s.left mid after end_bytes given ends), kept) }
+read_end IsKept first s at mid after (Err TooLong) behind reached given kept ends = absurd ends
+read_end IsKept first s at mid after (Err NoMemory) behind reached given kept ends = absurd ends
+
+pub read_end_held : {T : Type 0} (IsKept : Core → Type 0) (first s : Stage) (at : ℕ) (mid left : Option (List ℕ)) (held : List ℕ) (r : Result T FollowStop) → at ≡ s.place + 1 → Reaches first s → Gives s.place s.left mid end_bytes → IsKept s.core → EndsThere at mid (prepend_known held left) r → IfErr r (λ stop. stop ≡ ReadFault → held ≡ []) → FollowsHeld IsKept first left s.core s.taken r
+read_end_held IsKept first s at mid left held r behind reached given kept ends dry = record {
+  held = held;
+  follows = read_end IsKept first s at mid (prepend_known held left) r behind reached given kept ends;
+  dry = dry;
+}
 
 -- ---- the front
 
@@ -133,13 +144,12 @@ front_unread left after reader bytes stop new reads =
 
 -- ---- what is kept
 
--- what is so where a call went well
-pub on_ok : {T E : Type 0} (r : Result T E) (P : Type 0) → IsOk r → OnOk r P → P
-on_ok (Ok x) P ok p = p
-on_ok (Err e) P ok p = absurd (cc)
+-- what is kept at a stage means this
+stops_as : (IsKept IsHeld : Core → Type 0) (s : Stage) (after : Option (List ℕ)) (stop : FollowStop) → ((x : Core) → IsKept x → IsHeld x) → StopsKept IsKept s after stop → StopsKept IsHeld s after stop
+stops_as IsKept IsHeld s after stop leads stops = (stops.0, unless_map stop (IsKept s.core) (IsHeld s.core) (leads s.core) stops.1)
 
 -- what is kept at the last stage means this
-pub follows_as : (IsKept IsHeld : Core → Type 0) (c : Core) (left left' : Option (List ℕ)) (r : Result Followed FollowStop) → ((x : Core) → IsOk r → IsKept x → IsHeld x) → FollowsSource IsKept c left left' r → FollowsSource IsHeld c left left' r
+pub follows_as : (IsKept IsHeld : Core → Type 0) (c : Core) (left left' : Option (List ℕ)) (r : Result Followed FollowStop) → ((x : Core) → IsKept x → IsHeld x) → FollowsSource IsKept c left left' r → FollowsSource IsHeld c left left' r
 follows_as IsKept IsHeld c left left' (Ok followed) leads f =
     let p : PassesFront c left (IsDone IsKept (prepend_known f.held left') followed) = f.follows in
     let done : IsDone IsKept (prepend_known f.held left') followed p.goes.last = p.goes.ended in
@@ -153,12 +163,29 @@ follows_as IsKept IsHeld c left left' (Ok followed) leads f =
         goes = record {
           last = p.goes.last;
           reached = p.goes.reached;
-          ended = record { ended = done.ended; number = done.number; taken = done.taken; kept = leads p.goes.last.core refl done.kept };
+          ended = record { ended = done.ended; number = done.number; taken = done.taken; kept = leads p.goes.last.core done.kept };
         };
       };
       dry = f.dry;
     }
-follows_as IsKept IsHeld c left left' (Err stop) leads f = record { held = f.held; follows = f.follows; dry = f.dry }
+follows_as IsKept IsHeld c left left' (Err stop) leads f = record {
+  held = f.held;
+  follows = ⊎_elim
+      (λ front. inl (front.0, unless_map stop (IsKept c) (IsHeld c) (leads c) front.1))
+      (λ (p : PassesFront c left (λ last. StopsKept IsKept last (prepend_known f.held left') stop)). inr (record {
+        front = p.front;
+        mid = p.mid;
+        read = p.read;
+        judged = p.judged;
+        goes = record {
+          last = p.goes.last;
+          reached = p.goes.reached;
+          ended = stops_as IsKept IsHeld p.goes.last (prepend_known f.held left') stop leads p.goes.ended;
+        };
+      }))
+      f.follows;
+  dry = f.dry;
+}
 
 -- what stops at the front, or behind it, stops the call
 pub stops_source : (IsKept : Core → Type 0) (c : Core) (left left' : Option (List ℕ)) (r : Result Followed FollowStop) (stop : FollowStop) (held : List ℕ) → IsErrAnd r (λ y. y ≡ stop) → Follows IsKept c left (prepend_known held left') (Err stop) → (stop ≡ ReadFault → held ≡ []) → FollowsSource IsKept c left left' r
@@ -188,8 +215,8 @@ pub judged_dry : (s : Summary) (bytes : List ℕ) (P : Type 0) (stop : FollowSto
 judged_dry s bytes P stop judged is = let no_way : FrontJudged s bytes (Err ReadFault) = subst (λ (e : FollowStop). FrontJudged s bytes (Err e)) is judged in absurd no_way
 
 -- the stream ends, and this is told
-pub done_source : (c now : Core) (taken : ℕ) (left left' : Option (List ℕ)) (held : List ℕ) (followed : Followed) → followed.number ≡ now.number → followed.taken ≡ taken → PassesFront c left (λ last. IsEnded last (prepend_known held left') × (last.core ≡ now) × (last.taken ≡ taken)) → FollowsSource (λ core. core ≡ now) c left left' (Ok followed)
-done_source c now taken left left' held followed number count p =
+pub done_source : (IsKept : Core → Type 0) (c now : Core) (taken : ℕ) (left left' : Option (List ℕ)) (held : List ℕ) (followed : Followed) → followed.number ≡ now.number → followed.taken ≡ taken → IsKept now → PassesFront c left (λ last. IsEnded last (prepend_known held left') × (last.core ≡ now) × (last.taken ≡ taken)) → FollowsSource IsKept c left left' (Ok followed)
+done_source IsKept c now taken left left' held followed number count kept p =
     let e = p.goes.ended in
     record {
       held = held;
@@ -201,7 +228,7 @@ done_source c now taken left left' held followed number count p =
         goes = record {
           last = p.goes.last;
           reached = p.goes.reached;
-          ended = record { ended = e.0; number = number ∙ sym (ap (λ (x : Core). x.number) e.1); taken = count ∙ sym e.2; kept = e.1 };
+          ended = record { ended = e.0; number = number ∙ sym (ap (λ (x : Core). x.number) e.1); taken = count ∙ sym e.2; kept = subst IsKept (sym e.1) kept };
         };
       };
       dry = λ is. absurd (cc);

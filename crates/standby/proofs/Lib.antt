@@ -6,3 +6,5 @@ mod Ahead
 mod Parts
 mod Going
 mod Unopened
+mod Framed
+mod Waiting

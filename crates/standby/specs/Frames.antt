@@ -1,9 +1,9 @@
 -- How a stream is taken frame by frame: what may stand at the front of the bytes that are to be read.
-use Rattle.std.specs.Prelude.{◌≡◌, ◌≢◌, ◌⊎◌, ℕ, ◌+◌, ◌^◌, ◌<◌, ◌≤◌, Bool, true, false, List, [], ◌∷◌, ◌++◌, length, Option, Result, Ok, Err}
+use Rattle.std.specs.Prelude.{◌≡◌, ◌≢◌, ◌⊎◌, ℕ, ◌+◌, ◌-◌, ◌^◌, ◌<◌, ◌≤◌, Bool, true, false, List, [], ◌∷◌, ◌++◌, length, Option, Result, Ok, Err}
 use Rattle.std.specs.Int.{w32, to_be_bytes}
 use Rattle.std.specs.Io.KnownBytes.{IsAtEnd, Keeps}
 use Rattle.txn_log.specs.Records.{IsPayload}
-use Rattle.standby.specs.Readers.{GoesOn, Gives}
+use Rattle.standby.specs.Readers.{Reader, GoesOn, Gives}
 use Rattle.standby.specs.Streams.{frame_bytes, end_bytes}
 use Rattle.standby.specs.declared.stops.FollowStop.{FollowStop}
 use Rattle.standby.specs.declared.stops.FollowStop.TheVariants as follow
@@ -99,3 +99,16 @@ EndsThere place before after (Ok x) = Keeps before after × IsAtEnd after
 EndsThere place before after (Err (follow.Frame at)) = (at ≡ place) × Keeps before after × GoesOn after
 EndsThere place before after (Err follow.ReadFault) = Keeps before after
 EndsThere place before after (Err stop) = ⊥
+
+-- ---- a frame that is held whole
+
+-- bytes begin with the frame of a payload
+pub record BeginsWithFrame (bytes payload : List ℕ) : Type 0 where
+  pub allowed : IsPayload payload
+  pub rest : List ℕ
+  pub whole : frame_bytes payload ++ rest ≡ bytes
+
+-- a reader holds the frame of a payload whole, as the next one, and a stream may have it
+pub record HoldsFrame (reader : Reader) (payload : List ℕ) : Type 0 where
+  pub begins : BeginsWithFrame reader.held payload
+  pub within : length (frame_bytes payload) ≤ 268435456 - reader.place

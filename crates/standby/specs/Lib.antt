@@ -8,3 +8,4 @@ pub mod Reading
 pub mod Frames
 pub mod Stages
 pub mod Followed
+pub mod Waiting

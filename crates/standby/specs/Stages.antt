@@ -1,5 +1,5 @@
 -- How following comes along a stream, frame by frame: the stages that it reaches, and why it ends at one.
-use Rattle.std.specs.Prelude.{◌≡◌, ◌⊎◌, ℕ, ◌+◌, ◌<◌, ◌≤◌, List, length, Option, Ok, Err, Result}
+use Rattle.std.specs.Prelude.{◌≡◌, ◌⊎◌, ℕ, ◌+◌, ◌<◌, ◌≤◌, List, [], length, Option, Ok, Err, Result, IfErr}
 use Rattle.std.specs.Io.KnownBytes.{IsAtEnd, prepend_known}
 use Rattle.txn_log.specs.Records.{IsPayload}
 use Rattle.txn_log.specs.declared.stops.LogStop.TheVariants.{StoreFault}
@@ -129,10 +129,26 @@ StopsAt s after ReadFault = ReadsPart IsCut s.place s.left after ⊎ ReadsAt s a
 StopsAt s after NoMemory = Unit {0}
 StopsAt s after stop = StopsFrameAt s after stop
 
+-- this is so where following stops, unless the store failed or there was no memory
+abbrev pub UnlessFailed : FollowStop → Type 0 → Type 0
+UnlessFailed (Store stop) P = Unit {0}
+UnlessFailed NoMemory P = Unit {0}
+UnlessFailed stop P = P
+
+-- following ends at a stage, and unless the store failed or there was no memory, the state there is kept
+abbrev pub StopsKept : (Core → Type 0) → Stage → Option (List ℕ) → FollowStop → Type 0
+StopsKept IsKept s after stop = StopsAt s after stop × UnlessFailed stop (IsKept s.core)
+
 -- the frames behind a stage are followed to a last stage, where the stream ends with this state and number of transactions taken, or following stops
-abbrev pub FollowsFrames : {T : Type 0} → Stage → Option (List ℕ) → Core → ℕ → Result T FollowStop → Type 0
-FollowsFrames s after c taken (Ok x) = Goes s (λ last. IsEnded last after × (last.core ≡ c) × (last.taken ≡ taken))
-FollowsFrames s after c taken (Err stop) = Goes s (λ last. StopsAt last after stop)
+abbrev pub FollowsFrames : {T : Type 0} → (Core → Type 0) → Stage → Option (List ℕ) → Core → ℕ → Result T FollowStop → Type 0
+FollowsFrames IsKept s after c taken (Ok x) = Goes s (λ last. IsEnded last after × (last.core ≡ c) × (last.taken ≡ taken))
+FollowsFrames IsKept s after c taken (Err stop) = Goes s (λ last. StopsKept IsKept last after stop)
+
+-- so it is for what a source has left: of the bytes that were taken from it some may not be read, but none where it failed
+pub record FollowsHeld {T : Type 0} (IsKept : Core → Type 0) (s : Stage) (left : Option (List ℕ)) (c : Core) (taken : ℕ) (result : Result T FollowStop) : Type 0 where
+  pub held : List ℕ
+  pub follows : FollowsFrames IsKept s (prepend_known held left) c taken result
+  pub dry : IfErr result (λ stop. stop ≡ ReadFault → held ≡ [])
 
 -- ---- a stream
 
@@ -173,10 +189,14 @@ pub record IsDone (IsKept : Core → Type 0) (after : Option (List ℕ)) (follow
   pub taken : followed.taken ≡ last.taken
   pub kept : IsKept last.core
 
--- A stream is followed from a state on. Where the stream ends, the state at its last stage is kept; else its front isn't read or is refused, or following ends at a stage.
+-- A stream is followed from a state on. Where the stream ends, the state at its last stage is kept; else its front isn't
+-- read or is refused, or following ends at a stage, and unless the store failed or there was no memory, the state there
+-- is kept.
 abbrev pub Follows : (Core → Type 0) → Core → Option (List ℕ) → Option (List ℕ) → Result Followed FollowStop → Type 0
 Follows IsKept c left after (Ok followed) = PassesFront c left (IsDone IsKept after followed)
-Follows IsKept c left after (Err stop) = StopsBefore left after stop ⊎ (RefusesFront c left stop ⊎ PassesFront c left (λ last. StopsAt last after stop))
+Follows IsKept c left after (Err stop) =
+    ((StopsBefore left after stop ⊎ RefusesFront c left stop) × UnlessFailed stop (IsKept c))
+    ⊎ PassesFront c left (λ last. StopsKept IsKept last after stop)
 
 -- so it is for the bytes that a source had left and those that it has left: of what was taken from it some may not be read, but none where it failed
 pub record FollowsSource (IsKept : Core → Type 0) (c : Core) (left left' : Option (List ℕ)) (result : Result Followed FollowStop) : Type 0 where

@@ -1,10 +1,12 @@
 //! A source read in blocks.
-ghost use Rattle.std.specs.Prelude.{◌≡◌, ◌≤◌, ◌<◌, ◌+◌, ◌-◌, ◌++◌, ℕ, [], min, take, drop, length, vec_len, IsTrue, IfOk, OnOk, OnErr, IfErr, MatchResult};
+ghost use Rattle.std.specs.Prelude.{◌≡◌, ◌≤◌, ◌<◌, ◌+◌, ◌-◌, ◌++◌, ℕ, [], min, take, drop, length, vec_len, IsTrue, IfOk, IfSome, OnOk, OnErr, IfErr, MatchResult};
 ghost use Rattle.standby.specs.Endings.{FollowEnd};
+ghost use Rattle.standby.specs.Frames.{HoldsFrame};
 ghost use Rattle.standby.specs.Readers.{ahead};
 ghost use Rattle.standby.specs.Reading.{Looks, ReadsSome, Reads};
 ghost use Rattle.standby.specs.declared.stops.FollowStop.TheVariants as stop;
 
+use crate::frames::framed;
 use crate::stops::FollowStop;
 use flow_io::Source;
 use std::alloc::{AllocError, Global};
@@ -64,6 +66,25 @@ impl Blocks {
         ensures { result ≡ length self.now.held }
     {
         self.to - self.from
+    }
+
+    /// The payload of the next frame, where the whole frame is held and a stream may have it.
+    pub fn held_frame(&self) -> Option<&[u8]>
+        ensures { IfSome result (λ payload. HoldsFrame self.now payload.now) }
+    {
+        let room = usize::try_from(MOST_BYTES.saturating_sub(self.place)).unwrap_or(usize::MAX);
+        let count = (self.to - self.from).min(room);
+        framed(&self.block[self.from..self.from + count])
+    }
+
+    /// Hands out so many held bytes.
+    pub fn skip(&mut self, count: usize)
+        requires held { count ≤ length self.old.held }
+        requires within { count ≤ 268435456 - self.old.place }
+        ensures { self.new ≡ record { held = drop count self.old.held; place = self.old.place + count } }
+    {
+        self.from += count;
+        self.place += count as u64;
     }
 
     /// Takes the next block where none is held.

@@ -1,9 +1,10 @@
 //! A stream taken into a store.
-ghost use Rattle.std.specs.Prelude.{◌≡◌, ◌⊎◌, ℕ, ◌+◌, ◌-◌, ◌^◌, ◌<◌, ◌≤◌, [], IfErr, IfOk, IsOk, MatchResult, OnOk};
+ghost use Rattle.std.specs.Prelude.{◌≡◌, ◌⊎◌, ℕ, Option, List, ◌+◌, ◌-◌, ◌^◌, ◌<◌, ◌≤◌, [], IfErr, IfOk, IsOk, MatchResult, OnErr, OnOk};
 ghost use Rattle.std.specs.Io.KnownBytes.{Keeps};
 ghost use Rattle.flow_disk.specs.Images.{Image};
 ghost use Rattle.flow_disk.specs.Moments.{Only};
 ghost use Rattle.flow_txn.specs.Records.{record_bytes};
+ghost use Rattle.txn_log.specs.Records.{IsPayload};
 ghost use Rattle.flow_model.specs.declared.transactions.Transaction.{Transaction as TransactionOf};
 ghost use Rattle.flow_core.specs.Admitting.{IsAdmitted};
 ghost use Rattle.flow_core.specs.Summaries.{summary};
@@ -20,7 +21,8 @@ ghost use Rattle.flow_session.specs.Refusing.{IsUnopened};
 ghost use Rattle.standby.specs.Followed.{FollowsOpened, IsNotOpened};
 ghost use Rattle.standby.specs.Fronts.{FrontJudged};
 ghost use Rattle.standby.specs.Readers.{ahead};
-ghost use Rattle.standby.specs.Stages.{FollowsFrames, FollowsSource, StopsPayload, StopsTaking, Takes, TakesPayload, stage};
+ghost use Rattle.standby.specs.Stages.{FollowsHeld, FollowsSource, Reaches, StopsPayload, StopsTaking, Takes, TakesPayload, UnlessFailed, stage};
+ghost use Rattle.standby.specs.Waiting.{IsFailure, IsUnchanged, TakesOn, WaitsBehind};
 ghost use Rattle.standby.specs.declared.stops.FollowStop.TheVariants as stop;
 
 use crate::blocks::Blocks;
@@ -31,10 +33,16 @@ use flow_core::{AdoptFault, Core};
 use flow_disk::Disk;
 use flow_io::Source;
 use flow_model::Numbered;
-use flow_session::{Journal, Stop, Stored, open};
+use flow_session::{Stop, Stored, open};
 use flow_txn::{RecordFault, decode};
 use std::alloc::Global;
-use txn_log::{Log, LogStop};
+use txn_log::{Batch, Log, LogStop};
+
+/// So many records at most are kept behind one gate.
+const BATCH: usize = 1000;
+
+/// A batch that takes so many bytes gets no more records.
+const BATCH_BYTES: usize = 1_048_576;
 
 /// What following came to: the number of the store's transactions, and how many of them were taken.
 #[derive(Clone, Copy, Debug, PartialEq, Eq)]
@@ -91,6 +99,7 @@ fn unkept(stop: Stop) -> FollowStop
     ensures cause { (source disk disk' : ℕ) → IsStopCause disk disk' stop → FollowEnd source source disk disk' result }
     ensures stops { (core : CoreOf) (number : ℕ) (t : TransactionOf) → core.number < number
         → IsAdmitted core number t → StopsTaking core number t result }
+    ensures failed { IsFailure result }
 {
     match stop {
         Stop::StoreFault => FollowStop::Store(LogStop::StoreFault),
@@ -98,25 +107,51 @@ fn unkept(stop: Stop) -> FollowStop
     }
 }
 
+/// What ends gathering: where there is no memory, so does following; for any other cause it ends at the frame that is
+/// read next.
+fn gathered(last: u64, stop: FollowStop) -> Result<u64, FollowStop>
+    ensures last { IfOk result (λ number. number ≡ last) }
+    ensures unchanged { OnOk result ((c c' : CoreOf) (taken taken' : ℕ) → IsUnchanged stop c taken c' taken'
+        → (c' ≡ c) × (taken' ≡ taken)) }
+    ensures memory { IfErr result (λ end. end ≡ stop.NoMemory) }
+{
+    match stop {
+        FollowStop::NoMemory => Err(FollowStop::NoMemory),
+        FollowStop::Store(_) => Ok(last),
+        FollowStop::Frame(_) => Ok(last),
+        FollowStop::Cut(_) => Ok(last),
+        FollowStop::Other => Ok(last),
+        FollowStop::Gap(_) => Ok(last),
+        FollowStop::NotAllowed(_) => Ok(last),
+        FollowStop::ReadFault => Ok(last),
+        FollowStop::TooLong => Ok(last),
+    }
+}
+
 impl<D: Disk + Drop> Standby<D> {
-    /// Takes a transaction: it is passed over where the store has it, else adopted and then appended.
-    fn take(&mut self, numbered: Numbered, payload: &[u8]) -> Result<(), FollowStop>
-        requires open { D.tells
-            → IsOpen D.seen D.images self.old.journal.log self.old.journal.disk (summary self.old.core) }
+    /// Takes a transaction: it is passed over where the store has it, else it is adopted, and its payload waits in the
+    /// batch.
+    fn take(
+        &mut self,
+        numbered: Numbered,
+        payload: &[u8],
+        batch: &mut Batch,
+    ) -> Result<(), FollowStop>
+        requires allowed { IsPayload payload.now }
         requires spelled { record_bytes numbered.number numbered.transaction ≡ payload.now }
         requires room { self.old.taken < 2 ^ 64 - 1 }
-        ensures kept { OnOk result (D.tells
-            → IsOpen D.seen D.images self.new.journal.log self.new.journal.disk (summary self.new.core)) }
-        ensures makes { MakesSteps D.tells D.moment D.left_since self.old.journal.disk self.new.journal.disk
-            self.old.core self.new.core result }
-        ensures cause { MatchResult result (λ _. D.faults self.new.journal.disk ≡ D.faults self.old.journal.disk)
-            (λ stop. (source : ℕ) → FollowEnd source source
-            (D.faults self.old.journal.disk) (D.faults self.new.journal.disk) stop) }
+        ensures journal { self.new.journal ≡ self.old.journal }
+        ensures waits { WaitsBehind self.old.core batch.old self.new.core batch.new result }
+        ensures passed { numbered.number ≤ self.old.core.number → batch.new ≡ batch.old }
+        ensures batch { OnErr result (batch.new ≡ batch.old) }
         ensures count { OnOk result (self.new.taken ≤ self.old.taken + 1) }
         ensures takes { IsRightCore self.old.core → OnOk result (Takes numbered.number numbered.transaction
             self.old.core self.old.taken self.new.core self.new.taken) }
         ensures stops { IsRightCore self.old.core
             → IfErr result (StopsTaking self.old.core numbered.number numbered.transaction) }
+        ensures unchanged { IfErr result (λ stop. IsUnchanged stop self.old.core self.old.taken
+            self.new.core self.new.taken) }
+        ensures cause { IfErr result (λ stop. (source disk : ℕ) → FollowEnd source source disk disk stop) }
     {
         let Numbered {
             number,
@@ -130,66 +165,128 @@ impl<D: Disk + Drop> Standby<D> {
             Err(AdoptFault::NotAllowed) => return Err(FollowStop::NotAllowed(number)),
             Err(AdoptFault::NoMemory) => return Err(FollowStop::NoMemory),
         }
-        match self.journal.keep(payload) {
+        match batch.push(payload) {
             Ok(()) => {}
-            Err(stop) => return Err(unkept(stop)),
+            Err(_) => return Err(FollowStop::NoMemory),
         }
         self.taken = self.taken.saturating_add(1);
         Ok(())
     }
 
     /// Takes the payload of the frame at a place, which has to be the record of this number.
-    fn take_payload(&mut self, place: u64, number: u64, payload: &[u8]) -> Result<(), FollowStop>
-        requires open { D.tells
-            → IsOpen D.seen D.images self.old.journal.log self.old.journal.disk (summary self.old.core) }
+    fn take_payload(
+        &mut self,
+        place: u64,
+        number: u64,
+        payload: &[u8],
+        batch: &mut Batch,
+    ) -> Result<(), FollowStop>
+        requires allowed { IsPayload payload.now }
         requires room { self.old.taken < 2 ^ 64 - 1 }
-        ensures kept { OnOk result (D.tells
-            → IsOpen D.seen D.images self.new.journal.log self.new.journal.disk (summary self.new.core)) }
-        ensures makes { MakesSteps D.tells D.moment D.left_since self.old.journal.disk self.new.journal.disk
-            self.old.core self.new.core result }
-        ensures cause { MatchResult result (λ _. D.faults self.new.journal.disk ≡ D.faults self.old.journal.disk)
-            (λ stop. (source : ℕ) → FollowEnd source source
-            (D.faults self.old.journal.disk) (D.faults self.new.journal.disk) stop) }
+        ensures journal { self.new.journal ≡ self.old.journal }
+        ensures waits { WaitsBehind self.old.core batch.old self.new.core batch.new result }
+        ensures passed { number ≤ self.old.core.number → batch.new ≡ batch.old }
+        ensures batch { OnErr result (batch.new ≡ batch.old) }
         ensures count { OnOk result (self.new.taken ≤ self.old.taken + 1) }
         ensures takes { IsRightCore self.old.core → OnOk result (TakesPayload number payload.now
             self.old.core self.old.taken self.new.core self.new.taken) }
         ensures stops { IsRightCore self.old.core
             → IfErr result (StopsPayload place number payload.now self.old.core) }
+        ensures unchanged { IfErr result (λ stop. IsUnchanged stop self.old.core self.old.taken
+            self.new.core self.new.taken) }
+        ensures cause { IfErr result (λ stop. (source disk : ℕ) → FollowEnd source source disk disk stop) }
     {
         match decode(self.alloc, payload) {
-            Ok(numbered) if numbered.number == number => self.take(numbered, payload),
+            Ok(numbered) if numbered.number == number => self.take(numbered, payload, batch),
             Ok(_) => Err(FollowStop::Frame(place)),
             Err(RecordFault::BadRecord) => Err(FollowStop::Frame(place)),
             Err(RecordFault::NoMemory) => Err(FollowStop::NoMemory),
         }
     }
 
-    /// Takes the payload of the frame at a place, which has to be the record of the number behind the last one;
-    /// answers that number.
-    fn take_next(&mut self, place: u64, last: u64, payload: &[u8]) -> Result<u64, FollowStop>
+    /// Takes the frames behind the last one that are held whole, up to a full batch, or to one that isn't taken;
+    /// answers the number of the last one then. The source isn't read.
+    fn gather(
+        &mut self,
+        last: u64,
+        blocks: &mut Blocks,
+        batch: &mut Batch,
+    ) -> Result<u64, FollowStop>
+        requires counted { self.old.taken ≤ blocks.old.place }
+        ensures journal { self.new.journal ≡ self.old.journal }
+        ensures waits { WaitsBehind self.old.core batch.old self.new.core batch.new result }
+        ensures counted { OnOk result (self.new.taken ≤ blocks.new.place) }
+        ensures on { OnOk result (blocks.old.place ≤ blocks.new.place) }
+        ensures reaches { IsRightCore self.old.core → IfOk result (λ number. (left : Option (List ℕ))
+            → Reaches (stage self.old.core self.old.taken last blocks.old left)
+            (stage self.new.core self.new.taken number blocks.new left)) }
+        ensures memory { IfErr result (λ end. end ≡ stop.NoMemory) }
+    {
+        let mut number = last;
+        'held: while batch.len() < BATCH && batch.size() < BATCH_BYTES {
+            let Some(payload) = blocks.held_frame() else {
+                return Ok(number);
+            };
+            let Some(next) = number.checked_add(1) else {
+                return Ok(number);
+            };
+            match self.take_payload(blocks.place(), next, payload, batch) {
+                Ok(()) => {}
+                Err(stop) => return gathered(number, stop),
+            }
+            let count = 5 + payload.len();
+            blocks.skip(count);
+            number = next;
+        }
+        Ok(number)
+    }
+
+    /// Takes the payload of the frame at a place, which has to be the record of the number behind the last one, and
+    /// where it is new, the frames behind it that are held whole; keeps all of them behind one gate, and answers the
+    /// number of the last one. Nothing waits where the source is read or a frame is refused.
+    fn take_next(
+        &mut self,
+        place: u64,
+        last: u64,
+        payload: &[u8],
+        blocks: &mut Blocks,
+    ) -> Result<u64, FollowStop>
         requires open { D.tells
             → IsOpen D.seen D.images self.old.journal.log self.old.journal.disk (summary self.old.core) }
-        requires room { self.old.taken < 2 ^ 64 - 1 }
+        requires allowed { IsPayload payload.now }
+        requires counted { self.old.taken ≤ place }
+        requires within { place ≤ 268435456 }
+        requires further { place < blocks.old.place }
         ensures kept { OnOk result (D.tells
             → IsOpen D.seen D.images self.new.journal.log self.new.journal.disk (summary self.new.core)) }
+        ensures left { IfErr result (λ stop. UnlessFailed stop (self.new.journal ≡ self.old.journal)) }
         ensures makes { MakesSteps D.tells D.moment D.left_since self.old.journal.disk self.new.journal.disk
             self.old.core self.new.core result }
         ensures cause { MatchResult result (λ _. D.faults self.new.journal.disk ≡ D.faults self.old.journal.disk)
             (λ stop. (source : ℕ) → FollowEnd source source
             (D.faults self.old.journal.disk) (D.faults self.new.journal.disk) stop) }
-        ensures count { OnOk result (self.new.taken ≤ self.old.taken + 1) }
-        ensures takes { IsRightCore self.old.core → OnOk result (TakesPayload (last + 1) payload.now
-            self.old.core self.old.taken self.new.core self.new.taken) }
+        ensures counted { OnOk result (self.new.taken ≤ blocks.new.place) }
+        ensures on { OnOk result (blocks.old.place ≤ blocks.new.place) }
+        ensures takes { IsRightCore self.old.core → IfOk result (λ number. TakesOn last payload.now
+            blocks.old self.old.core self.old.taken number blocks.new self.new.core self.new.taken) }
         ensures stops { IsRightCore self.old.core
             → IfErr result (StopsPayload place (last + 1) payload.now self.old.core) }
-        ensures number { IfOk result (λ number. number ≡ last + 1) }
     {
         let Some(number) = last.checked_add(1) else {
             return Err(FollowStop::Frame(place));
         };
-        match self.take_payload(place, number, payload) {
-            Ok(()) => Ok(number),
-            Err(stop) => Err(stop),
+        let mut batch = Batch::new(self.alloc);
+        match self.take_payload(place, number, payload, &mut batch) {
+            Ok(()) => {}
+            Err(stop) => return Err(stop),
+        }
+        if batch.is_empty() {
+            return Ok(number);
+        }
+        let end = self.gather(number, blocks, &mut batch);
+        match self.journal.keep_all(&batch) {
+            Ok(()) => end,
+            Err(stop) => Err(unkept(stop)),
         }
     }
 
@@ -213,7 +310,7 @@ impl<D: Disk + Drop> Standby<D> {
         Ok(front)
     }
 
-    /// Takes all frames of a stream, each before the next is read.
+    /// Takes all frames of a stream.
     fn take_frames<S: Source>(
         &mut self,
         src: &mut S,
@@ -231,10 +328,10 @@ impl<D: Disk + Drop> Standby<D> {
             × (D.faults self.new.journal.disk ≡ D.faults self.old.journal.disk))
             (FollowEnd (S.faults src.old) (S.faults src.new)
             (D.faults self.old.journal.disk) (D.faults self.new.journal.disk)) }
-        ensures follows { IsRightCore self.old.core
-            → FollowsFrames (stage self.old.core self.old.taken from blocks.old (S.left src.old))
-            (ahead blocks.new (S.left src.new)) self.new.core self.new.taken result }
-        ensures dry { IfErr result (λ e. e ≡ stop.ReadFault → blocks.new.held ≡ []) }
+        ensures follows { IsRightCore self.old.core → FollowsHeld (λ core. D.tells
+            → IsOpen D.seen D.images self.new.journal.log self.new.journal.disk (summary core))
+            (stage self.old.core self.old.taken from blocks.old (S.left src.old))
+            (S.left src.new) self.new.core self.new.taken result }
     {
         let mut payload = Vec::new(self.alloc);
         let mut number = from;
@@ -243,7 +340,7 @@ impl<D: Disk + Drop> Standby<D> {
             if !read_frame(src, blocks, self.core.number(), &mut payload)? {
                 return at_end(src, blocks);
             }
-            number = self.take_next(place, number, &payload)?;
+            number = self.take_next(place, number, &payload, blocks)?;
         }
     }
 
@@ -260,7 +357,8 @@ impl<D: Disk + Drop> Standby<D> {
             × (D.faults self.new.journal.disk ≡ D.faults self.old.journal.disk))
             (FollowEnd (S.faults src.old) (S.faults src.new)
             (D.faults self.old.journal.disk) (D.faults self.new.journal.disk)) }
-        ensures follows { IsRightCore self.old.core → FollowsSource (λ core. core ≡ self.new.core)
+        ensures follows { IsRightCore self.old.core → FollowsSource (λ core. D.tells
+            → IsOpen D.seen D.images self.new.journal.log self.new.journal.disk (summary core))
             self.old.core (S.left src.old) (S.left src.new) result }
     {
         let mut blocks = Blocks::new(self.alloc)?;
@@ -277,7 +375,9 @@ impl<D: Disk + Drop> Standby<D> {
 
 /// Takes a stream into a store, and gives the disk back.
 ///
-/// The store is opened first. A refusal comes at the first place of the stream where one holds, and what was
+/// The store is opened first. Up to 1,000 transactions are kept behind one gate: one, and those behind it whose
+/// frames were read with it; a crash leaves all of them or none. All that was taken is kept before the source is read
+/// again and before anything is answered. A refusal comes at the first place of the stream where one holds, and what was
 /// taken before it stays. In the front of the stream they are judged in the order `Frame`, `Cut`, `Other`,
 /// `Gap`; of a frame its first byte and its length are judged before `Cut`, and its payload where it is whole.
 /// `Store` with `StoreFault` comes where the disk failed, `ReadFault` where the source did.

@@ -1,10 +1,12 @@
 //! The front and the frames of a stream as bytes.
-ghost use Rattle.std.specs.Prelude.{◌≡◌, ◌<◌, ◌^◌, ◌∷◌, ◌++◌, length, drop, OnOk, MatchOption, IsTrue, ◌↔◌};
+ghost use Rattle.std.specs.Prelude.{◌≡◌, ◌<◌, ◌^◌, ◌∷◌, ◌++◌, length, drop, OnOk, IfSome, MatchOption, IsTrue, ◌↔◌};
 ghost use Rattle.std.specs.Int.{w32, w64, to_be_bytes};
+ghost use Rattle.standby.specs.Frames.{BeginsWithFrame};
 ghost use Rattle.standby.specs.Fronts.{Agrees};
 ghost use Rattle.standby.specs.Streams.{front_bytes, frame_bytes, end_bytes};
 
 use std::alloc::AllocError;
+use txn_log::MAX_PAYLOAD;
 
 /// The bytes with which each stream begins.
 pub const MAGIC: &[u8] = b"FLOWSHP1";
@@ -66,6 +68,20 @@ pub fn front_of(bytes: &[u8]) -> Option<Front>
         limit: number_of(&bytes[9..17]),
         from: number_of(&bytes[17..25]),
     })
+}
+
+/// The payload of the frame with which bytes begin, where that frame is whole.
+pub fn framed(bytes: &[u8]) -> Option<&[u8]>
+    ensures { IfSome result (λ payload. BeginsWithFrame bytes.now payload.now) }
+{
+    if bytes.len() < 5 || bytes[0] != FRAME {
+        return None;
+    }
+    let len = length_of(&bytes[1..5])? as usize;
+    if len < 1 || len > MAX_PAYLOAD || len > bytes.len() - 5 {
+        return None;
+    }
+    Some(&bytes[5..5 + len])
 }
 
 /// Appends the front of a stream.

@@ -1,11 +1,9 @@
-use Rattle.std.proofs.Common.{◌≡◌, sym, subst}
 use Rattle.flow_core.specs.Summaries.{summary}
-use Rattle.flow_core.specs.declared.state.Core.{Core}
 use Rattle.flow_disk.specs.Images.{Image}
 use Rattle.flow_session.specs.Histories.{StandsFor}
-use Rattle.flow_session.specs.Keeping.{rests}
+use Rattle.flow_session.specs.Keeping.{IsOpen, rests}
 use Rattle.flow_session.proofs.Runs.{served_to_end}
-use Rattle.standby.proofs.Going.{follows_as, on_ok}
+use Rattle.standby.proofs.Going.{follows_as}
 use Rattle.standby.proofs.following.follow_from.Goals as goal
 
 pub returns-clause-makes : goal.returns-clause-makes
@@ -19,6 +17,7 @@ returns-clause-cause g c = rw c.into_disk.ensures (rw c.new.ensures.1 at c.take_
 pub returns-clause-follows : goal.returns-clause-follows
 returns-clause-follows g c right =
     let f = c.take_stream-followed in
-    rw c.into_disk.ensures (follows_as (λ core. core ≡ f.new.self.core) (λ core. g.D.Disk.tells → (image : Image) → g.D.Disk.images f.new.self.journal.disk image → StandsFor (summary core) image) c.args.core (g.S.Source.left c.args.src.now) (g.S.Source.left f.new.src) f.result
-    (λ core ok same told image left. subst (λ (x : Core). StandsFor (summary x) image) (sym same) (rests g.D.Disk.seen g.D.Disk.images f.new.self.journal.log f.new.self.journal.disk (summary f.new.self.core) image (on_ok f.result _ ok f.ensures.kept told) left))
+    let d = g.D.Disk in
+    rw c.into_disk.ensures (follows_as (λ core. d.tells → IsOpen d.seen d.images f.new.self.journal.log f.new.self.journal.disk (summary core)) (λ core. d.tells → (image : Image) → d.images f.new.self.journal.disk image → StandsFor (summary core) image) c.args.core (g.S.Source.left c.args.src.now) (g.S.Source.left f.new.src) f.result
+    (λ core is told image left. rests d.seen d.images f.new.self.journal.log f.new.self.journal.disk (summary core) image (is told) left)
     (f.ensures.follows right))

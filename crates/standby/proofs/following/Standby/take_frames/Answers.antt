@@ -8,7 +8,9 @@ use Rattle.standby.specs.Stages.{Stage, Here, stage}
 use Rattle.standby.specs.Streams.{frame_bytes}
 use Rattle.standby.proofs.Taken.{untouched}
 use Rattle.standby.proofs.Ended.{end_since, stops}
-use Rattle.standby.proofs.Going.{right_after, unread_frame, untaken_at, one_further, stops_frames, never_dry, read_end}
+use Rattle.flow_session.specs.Keeping.{IsOpen}
+use Rattle.standby.proofs.Going.{unread_frame, untaken_at, one_further, stops_frames, never_dry, read_end_held}
+use Rattle.standby.proofs.Waiting.{reaches_on, unless_failed, unless_map}
 use Rattle.standby.proofs.following.Standby.take_frames.Goals as goal
 
 pub frames-init : goal.frames-init
@@ -43,12 +45,13 @@ pub frames-preserved : goal.frames-preserved
 frames-preserved g c =
     let i = c.frames.invariant in
     let e = c.in_ok-number.ensures in
+    let left = g.S.Source.left c.read_frame.new.src in
     let first : Stage = stage c.args.self.now.core c.args.self.now.taken c.args.from c.args.blocks.now (g.S.Source.left c.args.src.now) in
     let old : Stage = stage c.frames.self.core c.frames.self.taken c.frames.number c.frames.blocks (g.S.Source.left c.frames.src) in
-    let new : Stage = stage c.take_next.new.self.core c.take_next.new.self.taken c.in_ok-number.number c.read_frame.new.blocks (g.S.Source.left c.read_frame.new.src) in
+    let new : Stage = stage c.take_next.new.self.core c.take_next.new.self.taken c.in_ok-number.number c.take_next.new.blocks (g.S.Source.left c.read_frame.new.src) in
     let payload = c.read_frame.new.payload.items in
     let reads = rw c.if-not-branch.false at c.in_ok-read_frame.ensures.reads in
-    let place : new.place ≡ old.place + length (frame_bytes payload) = c.in_ok-read_frame.ensures.place c.if-not-branch.false in
+    let place : c.read_frame.new.blocks.place ≡ old.place + length (frame_bytes payload) = c.in_ok-read_frame.ensures.place c.if-not-branch.false in
     record {
       open' = e.kept;
       makes =
@@ -57,9 +60,13 @@ frames-preserved g c =
           c.take_next.new.self.core i.makes e.makes;
       source = c.in_ok-read_frame.ensures.cause ∙ i.source;
       disk = e.cause ∙ i.disk;
-      counted = omega (arith, i.counted, e.count, place);
-      right = λ right. let takes = e.takes (i.right right) in right_after (c.frames.number + 1) takes.transaction old.core old.taken new.core new.taken takes.takes (i.right right);
-      reached = λ right. one_further first old new c.deref.result.now payload (i.reached right) c.deref.ensures.value reads.0 reads.1 place e.number (e.takes (i.right right));
+      counted = e.counted;
+      right = λ right. e.makes.ended.right (i.right right);
+      reached = λ right.
+          let on = e.takes (i.right right) in
+          let mid : Stage = stage on.mid on.count (c.frames.number + 1) c.read_frame.new.blocks (g.S.Source.left c.read_frame.new.src) in
+          reaches_on first mid new
+          (one_further first old mid c.deref.result.now payload (i.reached right) c.deref.ensures.value reads.0 reads.1 place refl on.first) (on.behind left);
     }
 
 pub returns-in_err-read_frame-clause-cause : goal.returns-in_err-read_frame-clause-cause
@@ -78,8 +85,8 @@ returns-in_err-read_frame-clause-follows g c right =
     let s : Stage = stage c.frames.self.core c.frames.self.taken c.frames.number c.frames.blocks (g.S.Source.left c.frames.src) in
     let after = ahead c.read_frame.new.blocks (g.S.Source.left c.read_frame.new.src) in
     let stop = c.in_err-read_frame.field-0.0 in
-    stops_frames first after c.frames.self.core c.frames.self.taken c.from_residual.result stop c.from_residual.ensures.1
-    (record { last = s; reached = c.frames.invariant.reached right; ended = unread_frame s after stop (rw c.number.ensures at c.in_err-read_frame.ensures.reads) })
+    stops_frames _ first (g.S.Source.left c.read_frame.new.src) c.read_frame.new.blocks.held c.frames.self.core c.frames.self.taken c.from_residual.result stop c.from_residual.ensures.1 c.in_err-read_frame.ensures.dry
+    (record { last = s; reached = c.frames.invariant.reached right; ended = (unread_frame s after stop (rw c.number.ensures at c.in_err-read_frame.ensures.reads), unless_failed stop _ c.frames.invariant.open') })
 
 pub returns-in_err-number-clause-cause : goal.returns-in_err-number-clause-cause
 returns-in_err-number-clause-cause g c =
@@ -94,23 +101,21 @@ returns-in_err-number-clause-cause g c =
 pub returns-in_err-number-clause-follows : goal.returns-in_err-number-clause-follows
 returns-in_err-number-clause-follows g c right =
     let i = c.frames.invariant in
+    let d = g.D.Disk in
     let first : Stage = stage c.args.self.now.core c.args.self.now.taken c.args.from c.args.blocks.now (g.S.Source.left c.args.src.now) in
     let s : Stage = stage c.frames.self.core c.frames.self.taken c.frames.number c.frames.blocks (g.S.Source.left c.frames.src) in
     let after = ahead c.read_frame.new.blocks (g.S.Source.left c.read_frame.new.src) in
     let stop = c.in_err-number.field-0.0 in
     let reads = rw c.if-not-branch.false at c.in_ok-read_frame.ensures.reads in
-    stops_frames first after c.take_next.new.self.core c.take_next.new.self.taken c.from_residual-in_err-number.result stop c.from_residual-in_err-number.ensures.1
-    (record { last = s; reached = i.reached right; ended = untaken_at s c.place-place.result after c.deref.result.now c.read_frame.new.payload.items stop c.place-place.ensures.at c.deref.ensures.value reads.0 reads.1 (c.in_err-number.ensures.stops (i.right right)) })
-
-pub returns-in_err-number-clause-dry : goal.returns-in_err-number-clause-dry
-returns-in_err-number-clause-dry g c =
-    never_dry (g.D.Disk.faults c.frames.self.journal.disk) (g.D.Disk.faults c.take_next.new.self.journal.disk) (c.read_frame.new.blocks.held ≡ []) c.from_residual-in_err-number.result c.in_err-number.field-0.0 c.from_residual-in_err-number.ensures.1 (c.in_err-number.ensures.cause 0)
+    let kept = unless_map stop _ (d.tells → IsOpen d.seen d.images c.take_next.new.self.journal.log c.take_next.new.self.journal.disk (summary c.frames.self.core)) (λ same. rw same i.open') c.in_err-number.ensures.left in
+    stops_frames _ first (g.S.Source.left c.read_frame.new.src) c.read_frame.new.blocks.held c.take_next.new.self.core c.take_next.new.self.taken c.from_residual-in_err-number.result stop c.from_residual-in_err-number.ensures.1
+    (never_dry (d.faults c.frames.self.journal.disk) (d.faults c.take_next.new.self.journal.disk) (c.read_frame.new.blocks.held ≡ []) stop (c.in_err-number.ensures.cause 0))
+    (record { last = s; reached = i.reached right; ended = (untaken_at s c.place-place.result after c.deref.result.now c.read_frame.new.payload.items stop c.place-place.ensures.at c.deref.ensures.value reads.0 reads.1 (c.in_err-number.ensures.stops (i.right right)), kept) })
 
 pub returns-then-not-branch-clause-follows : goal.returns-then-not-branch-clause-follows
 returns-then-not-branch-clause-follows g c right =
     let first : Stage = stage c.args.self.now.core c.args.self.now.taken c.args.from c.args.blocks.now (g.S.Source.left c.args.src.now) in
     let s : Stage = stage c.frames.self.core c.frames.self.taken c.frames.number c.frames.blocks (g.S.Source.left c.frames.src) in
     let mid = ahead c.read_frame.new.blocks (g.S.Source.left c.read_frame.new.src) in
-    let after = ahead c.at_end.new.blocks (g.S.Source.left c.at_end.new.src) in
     let given = rw c.if-not-branch.true at c.in_ok-read_frame.ensures.reads in
-    read_end first s c.read_frame.new.blocks.place mid after c.at_end.result (c.in_ok-read_frame.ensures.end c.if-not-branch.true) (c.frames.invariant.reached right) given c.at_end.ensures.ends
+    read_end_held _ first s c.read_frame.new.blocks.place mid (g.S.Source.left c.at_end.new.src) c.at_end.new.blocks.held c.at_end.result (c.in_ok-read_frame.ensures.end c.if-not-branch.true) (c.frames.invariant.reached right) given c.frames.invariant.open' c.at_end.ensures.ends c.at_end.ensures.dry

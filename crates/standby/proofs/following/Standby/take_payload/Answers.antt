@@ -1,13 +1,11 @@
-use Rattle.std.proofs.Common.{rules}
-use Rattle.flow_core.specs.Summaries.{summary}
-use Rattle.standby.proofs.Taken.{untouched}
+use Rattle.standby.proofs.Waiting.{waits_none}
 use Rattle.standby.proofs.following.Standby.take_payload.Goals as goal
 
-pub returns-in-Ok-2-clause-makes : goal.returns-in-Ok-2-clause-makes
-returns-in-Ok-2-clause-makes g c = untouched g.D.Disk.tells g.D.Disk.moment g.D.Disk.left_since g.D.Disk.seen g.D.Disk.images g.met.D.Disk.only_now c.args.self.now.journal.log c.args.self.now.journal.disk (summary c.args.self.now.core) _ c.requires.open (search rules)
+pub returns-in-Ok-2-clause-waits : goal.returns-in-Ok-2-clause-waits
+returns-in-Ok-2-clause-waits g c = (c.args.self.now.core, waits_none c.args.self.now.core c.args.batch.now)
 
-pub returns-in-Err-BadRecord-clause-makes : goal.returns-in-Err-BadRecord-clause-makes
-returns-in-Err-BadRecord-clause-makes g c = untouched g.D.Disk.tells g.D.Disk.moment g.D.Disk.left_since g.D.Disk.seen g.D.Disk.images g.met.D.Disk.only_now c.args.self.now.journal.log c.args.self.now.journal.disk (summary c.args.self.now.core) _ c.requires.open (search rules)
+pub returns-in-Err-BadRecord-clause-waits : goal.returns-in-Err-BadRecord-clause-waits
+returns-in-Err-BadRecord-clause-waits g c = (c.args.self.now.core, waits_none c.args.self.now.core c.args.batch.now)
 
-pub returns-in-Err-NoMemory-clause-makes : goal.returns-in-Err-NoMemory-clause-makes
-returns-in-Err-NoMemory-clause-makes g c = untouched g.D.Disk.tells g.D.Disk.moment g.D.Disk.left_since g.D.Disk.seen g.D.Disk.images g.met.D.Disk.only_now c.args.self.now.journal.log c.args.self.now.journal.disk (summary c.args.self.now.core) _ c.requires.open (search rules)
+pub returns-in-Err-NoMemory-clause-waits : goal.returns-in-Err-NoMemory-clause-waits
+returns-in-Err-NoMemory-clause-waits g c = (c.args.self.now.core, waits_none c.args.self.now.core c.args.batch.now)

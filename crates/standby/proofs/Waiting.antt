@@ -1,0 +1,145 @@
+-- Transactions that wait in a batch, one after the other.
+use Rattle.std.proofs.Common.{◌≡◌, ◌∙◌, ⊎_elim, ℕ, ◌+◌, ◌<◌, ◌≤◌, List, [], ◌∷◌, ◌++◌, length, Option, Result, Ok, Err, IfErr, IfOk, OnErr, OnOk, MatchResult, refl, sym, ap, subst, arith, append-nil, append_assoc}
+use Rattle.core_laws.specs.RightStates.{IsRightCore}
+use Rattle.flow_core.specs.Admitting.{IsAdmitted}
+use Rattle.flow_core.specs.Summaries.{Summary, summary}
+use Rattle.flow_core.specs.declared.state.Core.{Core}
+use Rattle.flow_model.specs.declared.transactions.Transaction.{Transaction}
+use Rattle.flow_txn.specs.Records.{record_bytes}
+use Rattle.flow_session.specs.Histories.{after, payloads_behind}
+use Rattle.flow_session.specs.Leading.{LeadsBy}
+use Rattle.flow_session.proofs.Histories.{after_counts}
+use Rattle.flow_session.proofs.Leading.{leads_none, leads_more}
+use Rattle.standby.specs.Readers.{Reader}
+use Rattle.standby.specs.Stages.{Stage, Reaches, Here, Further, IsRecord, StopsPayload, StopsTaking, Takes, TakesPayload, UnlessFailed, stage}
+use Rattle.standby.specs.Waiting.{IsFailure, IsUnchanged, Waits, WaitsBehind}
+use Rattle.standby.specs.declared.stops.FollowStop.{FollowStop}
+use Rattle.standby.specs.declared.stops.FollowStop.TheVariants.{Store, Frame, Cut, Other, Gap, NotAllowed, ReadFault, TooLong, NoMemory}
+
+-- ---- a batch
+
+pub waits_none : (c : Core) (batch : List (List ℕ)) → Waits c batch c batch
+waits_none c batch = record { transactions = []; leads = leads_none c; put = sym (append-nil batch) }
+
+-- the record of the next transaction is put behind the others
+pub waits_one : (c c' : Core) (number : ℕ) (t : Transaction) (payload : List ℕ) (old new : List (List ℕ)) → number ≡ c.number + 1 → record_bytes number t ≡ payload → LeadsBy c (t ∷ []) c' → new ≡ old ++ payload ∷ [] → Waits c old c' new
+waits_one c c' number t payload old new is spelled leads put = record {
+  transactions = t ∷ [];
+  leads = leads;
+  put = put ∙ ap (λ (p : List ℕ). old ++ p ∷ []) (sym spelled ∙ ap (λ (n : ℕ). record_bytes n t) is);
+}
+
+behind_append : (k : ℕ) (ts us : List Transaction) → payloads_behind k (ts ++ us) ≡ payloads_behind k ts ++ payloads_behind (k + length ts) us
+behind_append k [] us = let same : k ≡ k + 0 = omega arith in ap (λ (n : ℕ). payloads_behind n us) same
+behind_append k (t ∷ ts) us =
+    let same : k + 1 + length ts ≡ k + (1 + length ts) = omega arith in
+    ap (λ (ps : List (List ℕ)). record_bytes (k + 1) t ∷ ps)
+    (behind_append (k + 1) ts us ∙ ap (λ (n : ℕ). payloads_behind (k + 1) ts ++ payloads_behind n us) same)
+
+pub waits_more : (c d e : Core) (old mid new : List (List ℕ)) → Waits c old d mid → Waits d mid e new → Waits c old e new
+waits_more c d e old mid new first second =
+    let counted : d.number ≡ c.number + length first.transactions = ap (λ (s : Summary). s.transactions) first.leads.came ∙ after_counts (summary c) first.transactions in
+    record {
+      transactions = first.transactions ++ second.transactions;
+      leads = leads_more c d e first.transactions second.transactions first.leads second.leads;
+      put = second.put
+          ∙ (ap (λ (ps : List (List ℕ)). ps ++ payloads_behind d.number second.transactions) first.put
+          ∙ (append_assoc old (payloads_behind c.number first.transactions) (payloads_behind d.number second.transactions)
+          ∙ ap (λ (ps : List (List ℕ)). old ++ ps)
+          (ap (λ (n : ℕ). payloads_behind c.number first.transactions ++ payloads_behind n second.transactions) counted
+          ∙ sym (behind_append c.number first.transactions second.transactions))));
+    }
+
+pub waits_behind : {T E : Type 0} (r : Result T E) (c d e : Core) (old mid new : List (List ℕ)) → Waits c old d mid → WaitsBehind d mid e new r → WaitsBehind c old e new r
+waits_behind (Ok x) c d e old mid new first second = waits_more c d e old mid new first second
+waits_behind (Err x) c d e old mid new first second = (second.0, waits_more c d second.0 old mid new first second.1)
+
+-- what waits where there was nothing before: the payloads of the next transactions, which lead to the state where the call succeeds
+pub waits_all : {T E : Type 0} (r : Result T E) (c e : Core) (new : List (List ℕ)) → WaitsBehind c [] e new r → (ts : List Transaction) × (new ≡ payloads_behind c.number ts) × OnOk r (LeadsBy c ts e)
+waits_all (Ok x) c e new waits = (waits.transactions, waits.put, waits.leads)
+waits_all (Err x) c e new waits = (waits.1.transactions, waits.1.put, tt)
+
+-- nothing waits, so nothing was adopted
+pub waits_nothing : (c e : Core) (new : List (List ℕ)) → new ≡ [] → Waits c [] e new → LeadsBy c [] e
+waits_nothing c e new none waits = subst (λ (ts : List Transaction). LeadsBy c ts e) (no_payload c.number waits.transactions (sym waits.put ∙ none)) waits.leads
+  where
+    no_payload : (k : ℕ) (ts : List Transaction) → payloads_behind k ts ≡ [] → ts ≡ []
+    no_payload k [] is = refl
+    no_payload k (t ∷ ts) is = absurd (cc)
+
+-- ---- stages
+
+pub reaches_on : (a b c : Stage) → Reaches a b → Reaches b c → Reaches a c
+reaches_on a b c first Here = first
+reaches_on a b c first (Further second passes) = Further (reaches_on a b _ first second) passes
+
+-- ---- the end of gathering
+
+-- a stop for want of memory, or nothing has changed
+pub stop_unchanged : {T : Type 0} (r : Result T FollowStop) (stop : FollowStop) (c c' : Core) (taken taken' : ℕ) → OnOk r ((d d' : Core) (n n' : ℕ) → IsUnchanged stop d n d' n' → (d' ≡ d) × (n' ≡ n)) → IsUnchanged stop c taken c' taken' → OnOk r ((c' ≡ c) × (taken' ≡ taken))
+stop_unchanged (Ok x) stop c c' taken taken' so unchanged = so c c' taken taken' unchanged
+stop_unchanged (Err e) stop c c' taken taken' so unchanged = tt
+
+pub stop_waits : {T E : Type 0} (r : Result T E) (c d e : Core) (taken taken' : ℕ) (old mid new : List (List ℕ)) → Waits c old d mid → OnOk r ((e ≡ d) × (taken' ≡ taken)) → new ≡ mid → WaitsBehind c old e new r
+stop_waits (Ok x) c d e taken taken' old mid new waits same batch = subst (λ (x : Core). Waits c old x new) (sym same.0) (subst (Waits c old d) (sym batch) waits)
+stop_waits (Err x) c d e taken taken' old mid new waits same batch = (d, subst (Waits c old d) (sym batch) waits)
+
+pub stop_reaches : {E : Type 0} (r : Result ℕ E) (first : Option (List ℕ) → Stage) (c c' : Core) (taken taken' number : ℕ) (reader : Reader) → OnOk r ((c' ≡ c) × (taken' ≡ taken)) → IfOk r (λ n. n ≡ number) → ((left : Option (List ℕ)) → Reaches (first left) (stage c taken number reader left)) → IfOk r (λ n. (left : Option (List ℕ)) → Reaches (first left) (stage c' taken' n reader left))
+stop_reaches (Ok n) first c c' taken taken' number reader same is reached = λ left.
+    subst (λ (k : ℕ). Reaches (first left) (stage c' taken' k reader left)) (sym is)
+    (subst (λ (k : ℕ). Reaches (first left) (stage c' k number reader left)) (sym same.1)
+    (subst (λ (x : Core). Reaches (first left) (stage x taken number reader left)) (sym same.0) (reached left)))
+stop_reaches (Err e) first c c' taken taken' number reader same is reached = tt
+
+-- ---- stops
+
+pub unless_failed : (stop : FollowStop) (P : Type 0) → P → UnlessFailed stop P
+unless_failed (Store stop) P p = tt
+unless_failed (Frame at) P p = p
+unless_failed (Cut number) P p = p
+unless_failed Other P p = p
+unless_failed (Gap number) P p = p
+unless_failed (NotAllowed number) P p = p
+unless_failed ReadFault P p = p
+unless_failed TooLong P p = p
+unless_failed NoMemory P p = tt
+
+pub unless_map : (stop : FollowStop) (P Q : Type 0) → (P → Q) → UnlessFailed stop P → UnlessFailed stop Q
+unless_map (Store stop) P Q leads p = tt
+unless_map (Frame at) P Q leads p = leads p
+unless_map (Cut number) P Q leads p = leads p
+unless_map Other P Q leads p = leads p
+unless_map (Gap number) P Q leads p = leads p
+unless_map (NotAllowed number) P Q leads p = leads p
+unless_map ReadFault P Q leads p = leads p
+unless_map TooLong P Q leads p = leads p
+unless_map NoMemory P Q leads p = tt
+
+pub failed_so : (stop : FollowStop) (P : Type 0) → IsFailure stop → UnlessFailed stop P
+failed_so (Store stop) P failed = tt
+failed_so (Frame at) P failed = absurd failed
+failed_so (Cut number) P failed = absurd failed
+failed_so Other P failed = absurd failed
+failed_so (Gap number) P failed = absurd failed
+failed_so (NotAllowed number) P failed = absurd failed
+failed_so ReadFault P failed = absurd failed
+failed_so TooLong P failed = absurd failed
+failed_so NoMemory P failed = tt
+
+-- why a transaction isn't taken, as why its payload isn't
+pub payload_stops : (place number : ℕ) (payload : List ℕ) (c : Core) (t : Transaction) (stop : FollowStop) → IsRecord number t payload → StopsTaking c number t stop → StopsPayload place number payload c stop
+payload_stops place number payload c t (Store stop) is stops = (t, is, stops)
+payload_stops place number payload c t (Frame at) is stops = absurd stops
+payload_stops place number payload c t (Cut n) is stops = absurd stops
+payload_stops place number payload c t Other is stops = absurd stops
+payload_stops place number payload c t (Gap n) is stops = absurd stops
+payload_stops place number payload c t (NotAllowed n) is stops = (t, is, stops)
+payload_stops place number payload c t ReadFault is stops = absurd stops
+payload_stops place number payload c t TooLong is stops = absurd stops
+payload_stops place number payload c t NoMemory is stops = tt
+
+-- what was put in a batch is new, and admitted
+pub new_stops : (place number : ℕ) (payload : List ℕ) (c : Core) (taken : ℕ) (c' : Core) (taken' : ℕ) (stop : FollowStop) → TakesPayload number payload c taken c' taken' → (number ≤ c.number → ⊥) → ((t : Transaction) → c.number < number → IsAdmitted c number t → StopsTaking c number t stop) → StopsPayload place number payload c stop
+new_stops place number payload c taken c' taken' stop takes fresh stops =
+    payload_stops place number payload c takes.transaction stop takes.is
+    (⊎_elim (λ had. absurd (fresh had.0)) (λ new. stops takes.transaction new.0.beyond new.0.admitted) takes.takes)

@@ -1,0 +1,53 @@
+use Rattle.std.proofs.Common.{◌≡◌, ◌∙◌, ◌+◌, ap, length, refl, arith}
+use Rattle.standby.specs.Readers.{Reader}
+use Rattle.standby.specs.Stages.{Here, Further, stage}
+use Rattle.standby.proofs.Framed.{passes_held}
+use Rattle.standby.proofs.Waiting.{waits_none, waits_more, stop_unchanged, stop_waits, stop_reaches}
+use Rattle.standby.proofs.following.Standby.gather.Goals as goal
+
+pub held-init : goal.held-init
+held-init g c = record {
+  journal = refl;
+  waits = waits_none c.args.self.now.core c.args.batch.now;
+  counted = c.requires.counted;
+  on = omega arith;
+  right = λ right. right;
+  reached = λ _ left. Here;
+}
+
+pub held-preserved : goal.held-preserved
+held-preserved g c =
+    let i = c.held.invariant in
+    let e = c.in-Ok.ensures in
+    let payload = c.in-Some.payload.now in
+    let holds = c.in-Some.ensures in
+    let count : c.count ≡ 5 + length payload = omega (arith, c.len.ensures) in
+    let place : c.skip.new.self.place ≡ c.held.blocks.place + c.count = ap (λ (r : Reader). r.place) c.skip.ensures in
+    record {
+      journal = c.take_payload.ensures.journal ∙ i.journal;
+      waits = waits_more c.args.self.now.core c.held.self.core c.take_payload.new.self.core c.args.batch.now c.held.batch c.take_payload.new.batch i.waits e.waits;
+      counted = omega (arith, i.counted, e.count, place, count);
+      on = omega (arith, i.on, place);
+      right = λ right. e.waits.leads.right (i.right right);
+      reached = λ right left.
+          Further (i.reached right left)
+          (passes_held c.held.self.core c.held.self.taken c.held.number c.held.blocks
+          c.take_payload.new.self.core c.take_payload.new.self.taken c.in-Some-2.next c.skip.new.self
+          payload payload c.count left holds refl count c.skip.ensures c.in-Some-2.ensures (e.takes (i.right right)));
+    }
+
+-- where a frame isn't taken
+pub returns-in-Err-clause-waits : goal.returns-in-Err-clause-waits
+returns-in-Err-clause-waits g c =
+    let i = c.held.invariant in
+    let new = c.take_payload.new.self in
+    let same = stop_unchanged c.gathered.result c.in-Err.stop c.held.self.core new.core c.held.self.taken new.taken c.gathered.ensures.unchanged c.in-Err.ensures.unchanged in
+    stop_waits c.gathered.result c.args.self.now.core c.held.self.core new.core c.held.self.taken new.taken c.args.batch.now c.held.batch c.take_payload.new.batch i.waits same c.in-Err.ensures.batch
+
+pub returns-in-Err-clause-reaches : goal.returns-in-Err-clause-reaches
+returns-in-Err-clause-reaches g c right =
+    let i = c.held.invariant in
+    let new = c.take_payload.new.self in
+    let same = stop_unchanged c.gathered.result c.in-Err.stop c.held.self.core new.core c.held.self.taken new.taken c.gathered.ensures.unchanged c.in-Err.ensures.unchanged in
+    stop_reaches c.gathered.result (λ left. stage c.args.self.now.core c.args.self.now.taken c.args.last c.args.blocks.now left)
+    c.held.self.core new.core c.held.self.taken new.taken c.held.number c.held.blocks same c.gathered.ensures.last (i.reached right)

@@ -1,0 +1,40 @@
+-- Transactions that are adopted and wait to be kept.
+use Rattle.std.specs.Prelude.{◌≡◌, ℕ, ◌+◌, List, ◌++◌, Option, Result, MatchResult}
+use Rattle.flow_core.specs.declared.state.Core.{Core}
+use Rattle.flow_model.specs.declared.transactions.Transaction.{Transaction}
+use Rattle.flow_session.specs.Histories.{payloads_behind}
+use Rattle.flow_session.specs.Leading.{LeadsBy}
+use Rattle.standby.specs.Readers.{Reader}
+use Rattle.standby.specs.Stages.{Reaches, TakesPayload, stage}
+use Rattle.standby.specs.declared.stops.FollowStop.{FollowStop}
+use Rattle.standby.specs.declared.stops.FollowStop.TheVariants.{Store, NoMemory}
+
+-- transactions lead from a state to another, and their payloads stand in a batch behind those that were there
+pub record Waits (c : Core) (old : List (List ℕ)) (c' : Core) (new : List (List ℕ)) : Type 0 where
+  pub transactions : List Transaction
+  pub leads : LeadsBy c transactions c'
+  pub put : new ≡ old ++ payloads_behind c.number transactions
+
+-- so it is for the state after a call that succeeds, and else for some state
+abbrev pub WaitsBehind : {T E : Type 0} → Core → List (List ℕ) → Core → List (List ℕ) → Result T E → Type 0
+WaitsBehind c old c' new result = MatchResult result (λ _. Waits c old c' new) (λ _. (d : Core) × Waits c old d new)
+
+-- The payload of the frame behind a number is taken, and from there on frames that are held: wherever the source is.
+pub record TakesOn (last : ℕ) (payload : List ℕ) (reader : Reader) (c : Core) (taken : ℕ)
+    (last' : ℕ) (reader' : Reader) (c' : Core) (taken' : ℕ) : Type 0 where
+  pub mid : Core
+  pub count : ℕ
+  pub first : TakesPayload (last + 1) payload c taken mid count
+  pub behind : (left : Option (List ℕ))
+      → Reaches (stage mid count (last + 1) reader left) (stage c' taken' last' reader' left)
+
+-- a stop for which nothing more may be kept: the store failed, or there was no memory
+abbrev pub IsFailure : FollowStop → Type 0
+IsFailure (Store stop) = Unit {0}
+IsFailure NoMemory = Unit {0}
+IsFailure stop = ⊥
+
+-- a state and the number of transactions taken are unchanged by what stops, unless there was no memory
+abbrev pub IsUnchanged : FollowStop → Core → ℕ → Core → ℕ → Type 0
+IsUnchanged NoMemory c taken c' taken' = Unit {0}
+IsUnchanged stop c taken c' taken' = (c' ≡ c) × (taken' ≡ taken)
