@@ -1,6 +1,5 @@
-use Rattle.std.proofs.Common.{◌≡◌, inl, sym, subst, ap, ◌∙◌, List}
+use Rattle.std.proofs.Common.{◌≡◌, [], inl, sym, subst, ◌∙◌, rules}
 use Rattle.flow_disk.proofs.Runs.{weaker}
-use Rattle.flow_model.specs.declared.transactions.Transaction.{Transaction}
 use Rattle.txn_log.specs.Standing.{HasRecords, MayHaveRecords}
 use Rattle.flow_session.specs.Histories.{after}
 use Rattle.flow_session.specs.Keeping.{IsOpen, rests}
@@ -10,7 +9,10 @@ use Rattle.flow_session.proofs.Keeping.{nothing_done}
 use Rattle.flow_session.proofs.store.Stored.keep_all.Goals as goal
 
 pub returns-then-is_empty-clause-kept : goal.returns-then-is_empty-clause-kept
-returns-then-is_empty-clause-kept g c s ts told is spelled = ?
+returns-then-is_empty-clause-kept g c s ts told is spelled =
+    let d = g.D.Disk in
+    let empty : c.args.batch.now ≡ [] = search rules in
+    subst (λ us. IsOpen d.seen d.images c.args.self.now.log c.args.self.now.disk (after s us)) (sym (none_behind s.transactions ts (sym spelled ∙ empty))) is
 
 pub returns-then-is_empty-clause-any_moment : goal.returns-then-is_empty-clause-any_moment
 returns-then-is_empty-clause-any_moment g c s ts told is spelled =
