@@ -3,7 +3,8 @@ use Rattle.std.proofs.Common.{◌≡◌, ◌∙◌, ℕ, ◌+◌, ◌-◌, ◌^�
 use Rattle.std.specs.Int.{w32, to_be_bytes}
 use Rattle.std.specs.Io.KnownBytes.{prepend_known}
 use Rattle.std.proofs.KnownBytes.{prepend_known-read, Keeps-refl}
-use Rattle.std.proofs.lemmas.List.{length-take, length-take-le, length-drop, take_at}
+use Rattle.std.specs.List.{slice_range}
+use Rattle.std.proofs.lemmas.List.{length-take, length-take-le, length-drop, take_at, take-take}
 use Rattle.standby.specs.Frames.{BeginsWithFrame, HoldsFrame}
 use Rattle.standby.specs.Readers.{Reader, Gives, ahead}
 use Rattle.standby.specs.Stages.{TakesPayload, Passes, stage}
@@ -28,6 +29,12 @@ framed_is bytes four payload len long first is_four spells is some most fits =
 
 pub frame_long : (payload : List ℕ) → length (frame_bytes payload) ≡ 5 + length payload
 frame_long payload = let four : length (to_be_bytes w32 (min (length payload) (2 ^ 32 - 1))) ≡ 4 = refl in simp length-append (omega arith)
+
+-- the first of the bytes that are held
+pub held_front : (items : List ℕ) (from to n : ℕ) → n ≤ to - from → take (from + n - from) (drop from items) ≡ take n (slice_range items from to)
+held_front items from to n fits =
+    let same : from + n - from ≡ n = omega arith in
+    ap (λ (k : ℕ). take k (drop from items)) same ∙ sym (take-take n (to - from) (drop from items) fits)
 
 -- what the held bytes within the limit begin with
 pub holds_frame : (reader : Reader) (count : ℕ) (payload : List ℕ) → count ≤ 268435456 - reader.place → BeginsWithFrame (take count reader.held) payload → HoldsFrame reader payload

@@ -10,9 +10,10 @@ use Rattle.flow_session.specs.Histories.{after, payloads_behind}
 use Rattle.flow_session.specs.Leading.{LeadsBy}
 use Rattle.flow_session.proofs.Histories.{after_counts}
 use Rattle.flow_session.proofs.Leading.{leads_none, leads_more}
+use Rattle.standby.specs.Endings.{FollowEnd}
 use Rattle.standby.specs.Readers.{Reader}
 use Rattle.standby.specs.Stages.{Stage, Reaches, Here, Further, IsRecord, StopsPayload, StopsTaking, Takes, TakesPayload, UnlessFailed, stage}
-use Rattle.standby.specs.Waiting.{IsFailure, IsUnchanged, Waits, WaitsBehind}
+use Rattle.standby.specs.Waiting.{IsFailure, IsUnchanged, TakesOn, Waits, WaitsBehind}
 use Rattle.standby.specs.declared.stops.FollowStop.{FollowStop}
 use Rattle.standby.specs.declared.stops.FollowStop.TheVariants.{Store, Frame, Cut, Other, Gap, NotAllowed, ReadFault, TooLong, NoMemory}
 
@@ -143,3 +144,41 @@ pub new_stops : (place number : ℕ) (payload : List ℕ) (c : Core) (taken : �
 new_stops place number payload c taken c' taken' stop takes fresh stops =
     payload_stops place number payload c takes.transaction stop takes.is
     (⊎_elim (λ had. absurd (fresh had.0)) (λ new. stops takes.transaction new.0.beyond new.0.admitted) takes.takes)
+
+-- ---- a batch that is kept
+
+pub so_ok : {T E : Type 0} (r : Result T E) (P : Type 0) → P → OnOk r P
+so_ok (Ok x) P so = so
+so_ok (Err e) P so = tt
+
+-- what is kept is so of the state that comes of it, where the call succeeds
+pub kept_on : {T E : Type 0} (r : Result T E) (c e : Core) (ts : List Transaction) (IsHeld : Summary → Type 0) → IsHeld (after (summary c) ts) → OnOk r (LeadsBy c ts e) → OnOk r (IsHeld (summary e))
+kept_on (Ok x) c e ts IsHeld held leads = subst IsHeld (sym leads.came) held
+kept_on (Err x) c e ts IsHeld held leads = tt
+
+-- the first frame is taken, and those behind it that are held
+pub takes_on : {E : Type 0} (r : Result ℕ E) (last number : ℕ) (payload : List ℕ) (reader reader' : Reader) (c mid c' : Core) (taken count taken' : ℕ)
+    → number ≡ last + 1 → TakesPayload number payload c taken mid count
+    → IfOk r (λ n. (left : Option (List ℕ)) → Reaches (stage mid count number reader left) (stage c' taken' n reader' left))
+    → IfOk r (λ n. TakesOn last payload reader c taken n reader' c' taken')
+takes_on (Ok n) last number payload reader reader' c mid c' taken count taken' is first behind = record {
+  mid = mid;
+  count = count;
+  first = subst (λ (k : ℕ). TakesPayload k payload c taken mid count) is first;
+  behind = λ left. subst (λ (k : ℕ). Reaches (stage mid count k reader left) (stage c' taken' n reader' left)) is (behind left);
+}
+takes_on (Err e) last number payload reader reader' c mid c' taken count taken' is first behind = tt
+
+-- ---- a stop for want of memory alone
+
+pub memory_left : {T : Type 0} (r : Result T FollowStop) (P : Type 0) → IfErr r (λ end. end ≡ NoMemory) → IfErr r (λ stop. UnlessFailed stop P)
+memory_left (Ok x) P is = tt
+memory_left (Err e) P is = subst (λ (stop : FollowStop). UnlessFailed stop P) (sym is) tt
+
+pub memory_ends : {T : Type 0} (r : Result T FollowStop) (disk disk' : ℕ) → disk' ≡ disk → IfErr r (λ end. end ≡ NoMemory) → MatchResult r (λ _. disk' ≡ disk) (λ stop. (source : ℕ) → FollowEnd source source disk disk' stop)
+memory_ends (Ok x) disk disk' same is = same
+memory_ends (Err e) disk disk' same is = λ source. subst (FollowEnd source source disk disk') (sym is) (refl, same)
+
+pub memory_stops : {T : Type 0} (r : Result T FollowStop) (place number : ℕ) (payload : List ℕ) (c : Core) → IfErr r (λ end. end ≡ NoMemory) → IfErr r (StopsPayload place number payload c)
+memory_stops (Ok x) place number payload c is = tt
+memory_stops (Err e) place number payload c is = subst (StopsPayload place number payload c) (sym is) tt

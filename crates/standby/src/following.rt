@@ -109,13 +109,13 @@ fn unkept(stop: Stop) -> FollowStop
 
 /// What ends gathering: where there is no memory, so does following; for any other cause it ends at the frame that is
 /// read next.
-fn gathered(last: u64, stop: FollowStop) -> Result<u64, FollowStop>
+fn gathered(last: u64, cause: FollowStop) -> Result<u64, FollowStop>
     ensures last { IfOk result (λ number. number ≡ last) }
-    ensures unchanged { OnOk result ((c c' : CoreOf) (taken taken' : ℕ) → IsUnchanged stop c taken c' taken'
+    ensures unchanged { OnOk result ((c c' : CoreOf) (taken taken' : ℕ) → IsUnchanged cause c taken c' taken'
         → (c' ≡ c) × (taken' ≡ taken)) }
     ensures memory { IfErr result (λ end. end ≡ stop.NoMemory) }
 {
-    match stop {
+    match cause {
         FollowStop::NoMemory => Err(FollowStop::NoMemory),
         FollowStop::Store(_) => Ok(last),
         FollowStop::Frame(_) => Ok(last),
