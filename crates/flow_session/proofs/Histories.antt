@@ -43,7 +43,7 @@ with_or_without s t old new stands may = ⊎_elim (λ is. inl (same s old new is
 -- ---- several transactions
 
 -- transactions under the numbers behind this one
-numbered : ℕ → List Transaction → List Numbered
+abbrev numbered : ℕ → List Transaction → List Numbered
 numbered k [] = []
 numbered k (t ∷ ts) = record { number = k + 1; transaction = t } ∷ numbered (k + 1) ts
 

@@ -1,5 +1,5 @@
 -- Transactions that wait in a batch, one after the other.
-use Rattle.std.proofs.Common.{◌≡◌, ◌∙◌, ⊎_elim, ℕ, ◌+◌, ◌<◌, ◌≤◌, List, [], ◌∷◌, ◌++◌, length, Option, Result, Ok, Err, IfErr, IfOk, OnErr, OnOk, MatchResult, refl, sym, ap, subst, arith, append-nil, append_assoc}
+use Rattle.std.proofs.Common.{◌≡◌, ◌∙◌, ⊎_elim, ℕ, suc, ◌+◌, ◌<◌, ◌≤◌, List, [], ◌∷◌, ◌++◌, length, Option, Result, Ok, Err, IfErr, IfOk, OnErr, OnOk, MatchResult, refl, sym, ap, subst, arith, append-nil, append_assoc}
 use Rattle.core_laws.specs.RightStates.{IsRightCore}
 use Rattle.flow_core.specs.Admitting.{IsAdmitted}
 use Rattle.flow_core.specs.Summaries.{Summary, summary}
@@ -33,7 +33,7 @@ waits_one c c' number t payload old new is spelled leads put = record {
 behind_append : (k : ℕ) (ts us : List Transaction) → payloads_behind k (ts ++ us) ≡ payloads_behind k ts ++ payloads_behind (k + length ts) us
 behind_append k [] us = let same : k ≡ k + 0 = omega arith in ap (λ (n : ℕ). payloads_behind n us) same
 behind_append k (t ∷ ts) us =
-    let same : k + 1 + length ts ≡ k + (1 + length ts) = omega arith in
+    let same : k + 1 + length ts ≡ k + suc (length ts) = omega arith in
     ap (λ (ps : List (List ℕ)). record_bytes (k + 1) t ∷ ps)
     (behind_append (k + 1) ts us ∙ ap (λ (n : ℕ). payloads_behind (k + 1) ts ++ payloads_behind n us) same)
 
@@ -182,3 +182,22 @@ memory_ends (Err e) disk disk' same is = λ source. subst (FollowEnd source sour
 pub memory_stops : {T : Type 0} (r : Result T FollowStop) (place number : ℕ) (payload : List ℕ) (c : Core) → IfErr r (λ end. end ≡ NoMemory) → IfErr r (StopsPayload place number payload c)
 memory_stops (Ok x) place number payload c is = tt
 memory_stops (Err e) place number payload c is = subst (StopsPayload place number payload c) (sym is) tt
+
+-- ---- a payload that was read
+
+-- its transaction is taken
+pub payload_taken : {T E : Type 0} (r : Result T E) (read number : ℕ) (t : Transaction) (payload : List ℕ) (c : Core) (taken : ℕ) (c' : Core) (taken' : ℕ)
+    → read ≡ number → IsRecord read t payload → OnOk r (Takes read t c taken c' taken') → OnOk r (TakesPayload number payload c taken c' taken')
+payload_taken (Ok x) read number t payload c taken c' taken' same is takes = record {
+  transaction = t;
+  is = subst (λ (n : ℕ). IsRecord n t payload) same is;
+  takes = subst (λ (n : ℕ). Takes n t c taken c' taken') same takes;
+}
+payload_taken (Err e) read number t payload c taken c' taken' same is takes = tt
+
+-- its transaction isn't taken
+pub payload_untaken : {T : Type 0} (r : Result T FollowStop) (place read number : ℕ) (t : Transaction) (payload : List ℕ) (c : Core)
+    → read ≡ number → IsRecord read t payload → IfErr r (StopsTaking c read t) → IfErr r (StopsPayload place number payload c)
+payload_untaken (Ok x) place read number t payload c same is stops = tt
+payload_untaken (Err stop) place read number t payload c same is stops =
+    payload_stops place number payload c t stop (subst (λ (n : ℕ). IsRecord n t payload) same is) (subst (λ (n : ℕ). StopsTaking c n t stop) same stops)
