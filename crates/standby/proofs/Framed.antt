@@ -58,13 +58,6 @@ gives_held reader payload left holds =
       within = omega (arith, holds.within, length-take (length (frame_bytes payload)) reader.held);
     })
 
--- so many bytes are held as a frame has, and a stream may have them
-pub held_whole : (reader : Reader) (payload : List ℕ) (count : ℕ) → HoldsFrame reader payload → count ≡ 5 + length payload → (count ≤ length reader.held) × (count ≤ 268435456 - reader.place)
-held_whole reader payload count holds is =
-    let long = frame_long payload in
-    let all : length (frame_bytes payload) + length holds.begins.rest ≡ length reader.held = sym (length-append (frame_bytes payload) holds.begins.rest) ∙ ap length holds.begins.whole in
-    (omega (arith, is, long, all), omega (arith, is, long, holds.within))
-
 -- ---- a frame that is held, taken
 
 -- a stage is reached by a frame that is held

@@ -1,14 +1,12 @@
 -- How following goes from stage to stage, and how it ends.
-use Rattle.std.proofs.Common.{◌≡◌, ◌∙◌, inl, inr, ⊎_elim, ℕ, ◌+◌, Bool, true, false, List, [], length, Option, Result, Ok, Err, IsOk, IfErr, OnOk, ap, sym, subst, refl, arith}
+use Rattle.std.proofs.Common.{◌≡◌, ◌∙◌, inl, inr, ⊎_elim, ℕ, ◌+◌, Bool, true, false, List, [], length, Option, Result, Ok, Err, IfErr, ap, sym, subst, refl, arith}
 use Rattle.std.specs.Io.KnownBytes.{prepend_known}
 use Rattle.std.specs.Result.{IsErrAnd}
 use Rattle.std.proofs.KnownBytes.{prepend_known-nil}
-use Rattle.core_laws.proofs.Making.{core_right}
 use Rattle.core_laws.specs.RightStates.{IsRightCore}
 use Rattle.flow_core.specs.Refusals.{IsInOrder}
 use Rattle.flow_core.specs.Summaries.{Summary, summary}
 use Rattle.flow_core.specs.declared.state.Core.{Core}
-use Rattle.flow_model.specs.declared.transactions.Transaction.{Transaction}
 use Rattle.txn_log.specs.Records.{IsPayload}
 use Rattle.standby.specs.declared.following.Followed.{Followed}
 use Rattle.standby.specs.declared.stops.FollowStop.{FollowStop}
@@ -19,7 +17,7 @@ use Rattle.standby.specs.Frames.{StopsFrame, EndsThere}
 use Rattle.standby.specs.Fronts.{FrontJudged}
 use Rattle.standby.specs.Readers.{Reader, Gives, ahead}
 use Rattle.standby.specs.Reading.{Reads}
-use Rattle.standby.specs.Stages.{Takes, TakesPayload, StopsPayload, Stage, stage, Reaches, Further, Goes, IsEnded, StopsAt, StopsKept, UnlessFailed, FollowsFrames, FollowsHeld, ReadsFront, StopsBefore, PassesFront, IsDone, Follows, FollowsSource}
+use Rattle.standby.specs.Stages.{TakesPayload, StopsPayload, Stage, stage, Reaches, Further, Goes, IsEnded, StopsAt, StopsKept, FollowsFrames, FollowsHeld, ReadsFront, StopsBefore, PassesFront, IsDone, Follows, FollowsSource}
 use Rattle.standby.specs.Streams.{front_bytes, frame_bytes, end_bytes}
 use Rattle.standby.proofs.Ahead.{gives_kept}
 use Rattle.standby.proofs.Waiting.{unless_map}
@@ -29,11 +27,6 @@ use Rattle.standby.proofs.Waiting.{unless_map}
 -- a state that is right is in order
 pub in_order : (c : Core) → IsRightCore c → IsInOrder c
 in_order c right = right.1.indexed
-
--- a state is right after a transaction is taken
-pub right_after : (number : ℕ) (t : Transaction) (c : Core) (taken : ℕ) (c' : Core) (taken' : ℕ) → Takes number t c taken c' taken' → IsRightCore c → IsRightCore c'
-right_after number t c taken c' taken' (inl had) right = subst IsRightCore (sym had.1) right
-right_after number t c taken c' taken' (inr new) right = core_right c c' t new.0.makes right
 
 -- ---- the end of the frames
 

@@ -1,6 +1,5 @@
 -- Transactions that wait in a batch, one after the other.
-use Rattle.std.proofs.Common.{◌≡◌, ◌∙◌, ⊎_elim, ℕ, suc, ◌+◌, ◌<◌, ◌≤◌, List, [], ◌∷◌, ◌++◌, length, Option, Result, Ok, Err, IfErr, IfOk, OnErr, OnOk, MatchResult, refl, sym, ap, subst, arith, append-nil, append_assoc}
-use Rattle.core_laws.specs.RightStates.{IsRightCore}
+use Rattle.std.proofs.Common.{◌≡◌, ◌∙◌, ⊎_elim, ℕ, suc, ◌+◌, ◌<◌, ◌≤◌, List, [], ◌∷◌, ◌++◌, length, Option, Result, Ok, Err, IfErr, IfOk, OnOk, refl, sym, ap, subst, arith, append-nil, append_assoc}
 use Rattle.flow_core.specs.Admitting.{IsAdmitted}
 use Rattle.flow_core.specs.Summaries.{Summary, summary}
 use Rattle.flow_core.specs.declared.state.Core.{Core}
@@ -10,10 +9,9 @@ use Rattle.flow_session.specs.Histories.{after, payloads_behind}
 use Rattle.flow_session.specs.Leading.{LeadsBy}
 use Rattle.flow_session.proofs.Histories.{after_counts}
 use Rattle.flow_session.proofs.Leading.{leads_none, leads_more}
-use Rattle.standby.specs.Endings.{FollowEnd}
 use Rattle.standby.specs.Readers.{Reader}
 use Rattle.standby.specs.Stages.{Stage, Reaches, Here, Further, IsRecord, StopsPayload, StopsTaking, Takes, TakesPayload, UnlessFailed, stage}
-use Rattle.standby.specs.Waiting.{IsFailure, IsUnchanged, TakesOn, Waits, WaitsBehind}
+use Rattle.standby.specs.Waiting.{IsUnchanged, TakesOn, Waits, WaitsBehind}
 use Rattle.standby.specs.declared.stops.FollowStop.{FollowStop}
 use Rattle.standby.specs.declared.stops.FollowStop.TheVariants.{Store, Frame, Cut, Other, Gap, NotAllowed, ReadFault, TooLong, NoMemory}
 
@@ -116,17 +114,6 @@ unless_map ReadFault P Q leads p = leads p
 unless_map TooLong P Q leads p = leads p
 unless_map NoMemory P Q leads p = tt
 
-pub failed_so : (stop : FollowStop) (P : Type 0) → IsFailure stop → UnlessFailed stop P
-failed_so (Store stop) P failed = tt
-failed_so (Frame at) P failed = absurd failed
-failed_so (Cut number) P failed = absurd failed
-failed_so Other P failed = absurd failed
-failed_so (Gap number) P failed = absurd failed
-failed_so (NotAllowed number) P failed = absurd failed
-failed_so ReadFault P failed = absurd failed
-failed_so TooLong P failed = absurd failed
-failed_so NoMemory P failed = tt
-
 -- why a transaction isn't taken, as why its payload isn't
 pub payload_stops : (place number : ℕ) (payload : List ℕ) (c : Core) (t : Transaction) (stop : FollowStop) → IsRecord number t payload → StopsTaking c number t stop → StopsPayload place number payload c stop
 payload_stops place number payload c t (Store stop) is stops = (t, is, stops)
@@ -147,10 +134,6 @@ new_stops place number payload c taken c' taken' stop takes fresh stops =
 
 -- ---- a batch that is kept
 
-pub so_ok : {T E : Type 0} (r : Result T E) (P : Type 0) → P → OnOk r P
-so_ok (Ok x) P so = so
-so_ok (Err e) P so = tt
-
 -- what is kept is so of the state that comes of it, where the call succeeds
 pub kept_on : {T E : Type 0} (r : Result T E) (c e : Core) (ts : List Transaction) (IsHeld : Summary → Type 0) → IsHeld (after (summary c) ts) → OnOk r (LeadsBy c ts e) → OnOk r (IsHeld (summary e))
 kept_on (Ok x) c e ts IsHeld held leads = subst IsHeld (sym leads.came) held
@@ -168,20 +151,6 @@ takes_on (Ok n) last number payload reader reader' c mid c' taken count taken' i
   behind = λ left. subst (λ (k : ℕ). Reaches (stage mid count k reader left) (stage c' taken' n reader' left)) is (behind left);
 }
 takes_on (Err e) last number payload reader reader' c mid c' taken count taken' is first behind = tt
-
--- ---- a stop for want of memory alone
-
-pub memory_left : {T : Type 0} (r : Result T FollowStop) (P : Type 0) → IfErr r (λ end. end ≡ NoMemory) → IfErr r (λ stop. UnlessFailed stop P)
-memory_left (Ok x) P is = tt
-memory_left (Err e) P is = subst (λ (stop : FollowStop). UnlessFailed stop P) (sym is) tt
-
-pub memory_ends : {T : Type 0} (r : Result T FollowStop) (disk disk' : ℕ) → disk' ≡ disk → IfErr r (λ end. end ≡ NoMemory) → MatchResult r (λ _. disk' ≡ disk) (λ stop. (source : ℕ) → FollowEnd source source disk disk' stop)
-memory_ends (Ok x) disk disk' same is = same
-memory_ends (Err e) disk disk' same is = λ source. subst (FollowEnd source source disk disk') (sym is) (refl, same)
-
-pub memory_stops : {T : Type 0} (r : Result T FollowStop) (place number : ℕ) (payload : List ℕ) (c : Core) → IfErr r (λ end. end ≡ NoMemory) → IfErr r (StopsPayload place number payload c)
-memory_stops (Ok x) place number payload c is = tt
-memory_stops (Err e) place number payload c is = subst (StopsPayload place number payload c) (sym is) tt
 
 -- ---- a payload that was read
 

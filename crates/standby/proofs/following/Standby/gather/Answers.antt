@@ -1,4 +1,4 @@
-use Rattle.std.proofs.Common.{◌≡◌, ◌∙◌, ◌+◌, ap, length, refl, arith, rules}
+use Rattle.std.proofs.Common.{◌∙◌, ◌+◌, ap, length, refl, arith, rules}
 use Rattle.standby.specs.Readers.{Reader}
 use Rattle.standby.specs.Stages.{Here, Further, stage}
 use Rattle.standby.proofs.Framed.{passes_held}
@@ -21,7 +21,7 @@ held-preserved g c =
     let e = c.in-Ok.ensures in
     let payload = c.in-Some.payload.now in
     let holds = c.in-Some.ensures in
-    let place : c.skip.new.self.place ≡ c.held.blocks.place + (5 + length payload) = ap (λ (r : Reader). r.place) c.skip.ensures in
+    let place = ap (λ (r : Reader). r.place) c.skip.ensures in
     record {
       journal = c.take_payload.ensures.journal ∙ i.journal;
       waits = waits_more c.args.self.now.core c.held.self.core c.take_payload.new.self.core c.args.batch.now c.held.batch c.take_payload.new.batch i.waits e.waits;
@@ -30,7 +30,7 @@ held-preserved g c =
       right = λ right. e.waits.leads.right (i.right right);
       reached = λ right left.
           Further (i.reached right left)
-          (passes_held c.held.self.core c.held.self.taken c.held.number c.held.blocks
+          (passes_held c.held.self.core c.held.self.taken c.held.number _
           c.take_payload.new.self.core c.take_payload.new.self.taken c.in-Some-checked_add.next c.skip.new.self
           payload payload (5 + length payload) left holds refl refl c.skip.ensures (search rules) (e.takes (i.right right)));
     }

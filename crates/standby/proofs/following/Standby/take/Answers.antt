@@ -1,4 +1,4 @@
-use Rattle.std.proofs.Common.{◌≡◌, ◌∙◌, ◌+◌, ◌<◌, [], ◌∷◌, inr, ap, refl, arith}
+use Rattle.std.proofs.Common.{◌∙◌, ◌<◌, [], ◌∷◌, inr, ap, refl, arith}
 use Rattle.flow_core.specs.Summaries.{Summary, summary}
 use Rattle.machine_laws.specs.Applied.{Applied}
 use Rattle.machine_laws.specs.Viewed.{view}
