@@ -77,7 +77,7 @@ all_more s ts old new stands has =
       counts = has ∙ ap (with_records (payloads_behind s.transactions ts)) stands.counts
           ∙ ap (λ ps. Counts stands.slot stands.header ps (reach stands.end (payloads_behind s.transactions ts)))
           (ap (λ ps. payloads stands.records ++ ps) (sym (numbered_payloads s.transactions ts))
-              ∙ sym (map-append (λ n. record_bytes n.number n.transaction) stands.records (numbered s.transactions ts)));
+          ∙ sym (map-append (λ n. record_bytes n.number n.transaction) stands.records (numbered s.transactions ts)));
       comes_to = all_behind stands.header.transactions stands.records (numbered s.transactions ts) (under stands.header)
           ∙ ap (all_taken_up stands.header.transactions (numbered s.transactions ts)) stands.comes_to
           ∙ numbered_taken stands.header.transactions s ts stands.later;

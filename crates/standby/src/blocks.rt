@@ -90,7 +90,8 @@ impl Blocks {
     /// Takes the next block where none is held.
     fn take_block<S: Source>(&mut self, src: &mut S) -> Result<bool, FollowStop>
         requires { self.old.held ≡ [] }
-        ensures cause { MatchResult result (λ _. S.faults src.new ≡ S.faults src.old) (λ stop. (disk : ℕ) → FollowEnd (S.faults src.old) (S.faults src.new) disk disk stop) }
+        ensures cause { MatchResult result (λ _. S.faults src.new ≡ S.faults src.old)
+            (λ stop. (disk : ℕ) → FollowEnd (S.faults src.old) (S.faults src.new) disk disk stop) }
         ensures looks { Looks (ahead self.old (S.left src.old)) (ahead self.new (S.left src.new)) result }
         ensures held { IfOk result (λ more. IsTrue more → 0 < length self.new.held) }
         ensures dry { OnErr result (self.new.held ≡ []) }
@@ -109,7 +110,8 @@ impl Blocks {
 
     /// Whether there is a byte more; takes the next block where none is held.
     pub fn has_more<S: Source>(&mut self, src: &mut S) -> Result<bool, FollowStop>
-        ensures cause { MatchResult result (λ _. S.faults src.new ≡ S.faults src.old) (λ stop. (disk : ℕ) → FollowEnd (S.faults src.old) (S.faults src.new) disk disk stop) }
+        ensures cause { MatchResult result (λ _. S.faults src.new ≡ S.faults src.old)
+            (λ stop. (disk : ℕ) → FollowEnd (S.faults src.old) (S.faults src.new) disk disk stop) }
         ensures looks { Looks (ahead self.old (S.left src.old)) (ahead self.new (S.left src.new)) result }
         ensures held { IfOk result (λ more. IsTrue more → 0 < length self.new.held) }
         ensures dry { OnErr result (self.new.held ≡ []) }
@@ -125,7 +127,8 @@ impl Blocks {
     fn hand_out(&mut self, most: usize, out: &mut Vec<u8>) -> Result<usize, AllocError>
         ensures count { IfOk result (λ n. n ≡ min most (min (length self.old.held) (268435456 - self.old.place))) }
         ensures given { IfOk result (λ n. out.new.items ≡ out.old.items ++ take n self.old.held) }
-        ensures after { IfOk result (λ n. self.new ≡ record { held = drop n self.old.held; place = self.old.place + n }) }
+        ensures after { IfOk result
+            (λ n. self.new ≡ record { held = drop n self.old.held; place = self.old.place + n }) }
     {
         let room = usize::try_from(MOST_BYTES.saturating_sub(self.place)).unwrap_or(usize::MAX);
         let count = most.min(self.to - self.from).min(room);
@@ -144,8 +147,10 @@ impl Blocks {
         out: &mut Vec<u8>,
     ) -> Result<usize, FollowStop>
         requires { 0 < most }
-        ensures cause { MatchResult result (λ _. S.faults src.new ≡ S.faults src.old) (λ stop. (disk : ℕ) → FollowEnd (S.faults src.old) (S.faults src.new) disk disk stop) }
-        ensures reads { ReadsSome most self.old.place (ahead self.old (S.left src.old)) (ahead self.new (S.left src.new)) out.old.items out.new.items result }
+        ensures cause { MatchResult result (λ _. S.faults src.new ≡ S.faults src.old)
+            (λ stop. (disk : ℕ) → FollowEnd (S.faults src.old) (S.faults src.new) disk disk stop) }
+        ensures reads { ReadsSome most self.old.place (ahead self.old (S.left src.old))
+            (ahead self.new (S.left src.new)) out.old.items out.new.items result }
         ensures dry { IfErr result (λ e. e ≡ stop.ReadFault → self.new.held ≡ []) }
         ensures place { IfOk result (λ n. self.new.place ≡ self.old.place + n) }
     {
@@ -165,8 +170,10 @@ impl Blocks {
         count: usize,
         out: &mut Vec<u8>,
     ) -> Result<bool, FollowStop>
-        ensures cause { MatchResult result (λ _. S.faults src.new ≡ S.faults src.old) (λ stop. (disk : ℕ) → FollowEnd (S.faults src.old) (S.faults src.new) disk disk stop) }
-        ensures reads { Reads count self.old.place (ahead self.old (S.left src.old)) (ahead self.new (S.left src.new)) out.new.items result }
+        ensures cause { MatchResult result (λ _. S.faults src.new ≡ S.faults src.old)
+            (λ stop. (disk : ℕ) → FollowEnd (S.faults src.old) (S.faults src.new) disk disk stop) }
+        ensures reads { Reads count self.old.place (ahead self.old (S.left src.old))
+            (ahead self.new (S.left src.new)) out.new.items result }
         ensures dry { IfErr result (λ e. e ≡ stop.ReadFault → self.new.held ≡ []) }
         ensures place { OnOk result (self.new.place ≡ self.old.place + length out.new.items) }
     {

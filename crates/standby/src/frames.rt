@@ -41,7 +41,8 @@ fn number_of(bytes: &[u8]) -> u64
 
 /// The number that four bytes write; None where there are fewer or more.
 pub fn length_of(bytes: &[u8]) -> Option<u32>
-    ensures { MatchOption result (length bytes.now ≡ 4 → ⊥) (λ len. (len < 2 ^ 32) × (to_be_bytes w32 len ≡ bytes.now)) }
+    ensures { MatchOption result (length bytes.now ≡ 4 → ⊥)
+        (λ len. (len < 2 ^ 32) × (to_be_bytes w32 len ≡ bytes.now)) }
 {
     match bytes {
         [a, b, c, d] => Some(u32::from_be_bytes([*a, *b, *c, *d])),
@@ -58,7 +59,8 @@ pub fn agrees(bytes: &[u8]) -> bool
 
 /// What the front of a stream says behind its magic; None where it isn't whole.
 pub fn front_of(bytes: &[u8]) -> Option<Front>
-    ensures { MatchOption result (length bytes.now ≡ 25 → ⊥) (λ front. drop 8 bytes.now ≡ front.queues ∷ to_be_bytes w64 front.limit ++ to_be_bytes w64 front.from) }
+    ensures { MatchOption result (length bytes.now ≡ 25 → ⊥)
+        (λ front. drop 8 bytes.now ≡ front.queues ∷ to_be_bytes w64 front.limit ++ to_be_bytes w64 front.from) }
 {
     if bytes.len() != FRONT {
         return None;

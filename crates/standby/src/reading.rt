@@ -19,8 +19,10 @@ fn read_first<S: Source>(
     number: u64,
     bytes: &mut Vec<u8>,
 ) -> Result<bool, FollowStop>
-    ensures cause { MatchResult result (λ _. S.faults src.new ≡ S.faults src.old) (λ stop. (disk : ℕ) → FollowEnd (S.faults src.old) (S.faults src.new) disk disk stop) }
-    ensures reads { ReadsFirst blocks.old.place number (ahead blocks.old (S.left src.old)) (ahead blocks.new (S.left src.new)) result }
+    ensures cause { MatchResult result (λ _. S.faults src.new ≡ S.faults src.old)
+        (λ stop. (disk : ℕ) → FollowEnd (S.faults src.old) (S.faults src.new) disk disk stop) }
+    ensures reads { ReadsFirst blocks.old.place number (ahead blocks.old (S.left src.old))
+        (ahead blocks.new (S.left src.new)) result }
     ensures dry { IfErr result (λ e. e ≡ stop.ReadFault → blocks.new.held ≡ []) }
     ensures place { OnOk result (blocks.new.place ≡ blocks.old.place + 1) }
 {
@@ -43,9 +45,11 @@ fn read_length<S: Source>(
     bytes: &mut Vec<u8>,
 ) -> Result<usize, FollowStop>
     requires { blocks.old.place ≡ place + 1 }
-    ensures cause { MatchResult result (λ _. S.faults src.new ≡ S.faults src.old) (λ stop. (disk : ℕ) → FollowEnd (S.faults src.old) (S.faults src.new) disk disk stop) }
+    ensures cause { MatchResult result (λ _. S.faults src.new ≡ S.faults src.old)
+        (λ stop. (disk : ℕ) → FollowEnd (S.faults src.old) (S.faults src.new) disk disk stop) }
     ensures reads { (before : Option (List ℕ)) → Gives place before (ahead blocks.old (S.left src.old)) (1 ∷ [])
-        → MatchResult result (λ len. Gives place before (ahead blocks.new (S.left src.new)) (head_bytes len)) (StopsFrame place number before (ahead blocks.new (S.left src.new))) }
+        → MatchResult result (λ len. Gives place before (ahead blocks.new (S.left src.new)) (head_bytes len))
+        (StopsFrame place number before (ahead blocks.new (S.left src.new))) }
     ensures allowed { IfOk result IsLength }
     ensures dry { IfErr result (λ e. e ≡ stop.ReadFault → blocks.new.held ≡ []) }
     ensures place { OnOk result (blocks.new.place ≡ place + 5) }
@@ -70,9 +74,13 @@ fn read_payload<S: Source>(
     payload: &mut Vec<u8>,
 ) -> Result<(), FollowStop>
     requires { IsLength len }
-    ensures cause { MatchResult result (λ _. S.faults src.new ≡ S.faults src.old) (λ stop. (disk : ℕ) → FollowEnd (S.faults src.old) (S.faults src.new) disk disk stop) }
-    ensures reads { (before : Option (List ℕ)) (place : ℕ) → Gives place before (ahead blocks.old (S.left src.old)) (head_bytes len) → blocks.old.place ≡ place + 5
-        → MatchResult result (λ _. Gives place before (ahead blocks.new (S.left src.new)) (frame_bytes payload.new.items)) (StopsFrame place number before (ahead blocks.new (S.left src.new))) }
+    ensures cause { MatchResult result (λ _. S.faults src.new ≡ S.faults src.old)
+        (λ stop. (disk : ℕ) → FollowEnd (S.faults src.old) (S.faults src.new) disk disk stop) }
+    ensures reads { (before : Option (List ℕ)) (place : ℕ)
+        → Gives place before (ahead blocks.old (S.left src.old)) (head_bytes len) → blocks.old.place ≡ place + 5
+        → MatchResult result
+        (λ _. Gives place before (ahead blocks.new (S.left src.new)) (frame_bytes payload.new.items))
+        (StopsFrame place number before (ahead blocks.new (S.left src.new))) }
     ensures whole { OnOk result (length payload.new.items ≡ len) }
     ensures dry { IfErr result (λ e. e ≡ stop.ReadFault → blocks.new.held ≡ []) }
     ensures place { OnOk result (blocks.new.place ≡ blocks.old.place + len) }
@@ -90,10 +98,13 @@ pub fn read_frame<S: Source>(
     number: u64,
     payload: &mut Vec<u8>,
 ) -> Result<bool, FollowStop>
-    ensures cause { MatchResult result (λ _. S.faults src.new ≡ S.faults src.old) (λ stop. (disk : ℕ) → FollowEnd (S.faults src.old) (S.faults src.new) disk disk stop) }
-    ensures reads { ReadsFrame blocks.old.place number (ahead blocks.old (S.left src.old)) (ahead blocks.new (S.left src.new)) payload.new.items result }
+    ensures cause { MatchResult result (λ _. S.faults src.new ≡ S.faults src.old)
+        (λ stop. (disk : ℕ) → FollowEnd (S.faults src.old) (S.faults src.new) disk disk stop) }
+    ensures reads { ReadsFrame blocks.old.place number (ahead blocks.old (S.left src.old))
+        (ahead blocks.new (S.left src.new)) payload.new.items result }
     ensures dry { IfErr result (λ e. e ≡ stop.ReadFault → blocks.new.held ≡ []) }
-    ensures place { IfOk result (λ more. IsTrue more → blocks.new.place ≡ blocks.old.place + length (frame_bytes payload.new.items)) }
+    ensures place { IfOk result (λ more. IsTrue more
+        → blocks.new.place ≡ blocks.old.place + length (frame_bytes payload.new.items)) }
     ensures end { IfOk result (λ more. more ≡ false → blocks.new.place ≡ blocks.old.place + 1) }
 {
     let place = blocks.place();
@@ -107,8 +118,10 @@ pub fn read_frame<S: Source>(
 
 /// Behind the end byte there is nothing.
 pub fn at_end<S: Source>(src: &mut S, blocks: &mut Blocks) -> Result<(), FollowStop>
-    ensures cause { MatchResult result (λ _. S.faults src.new ≡ S.faults src.old) (λ stop. (disk : ℕ) → FollowEnd (S.faults src.old) (S.faults src.new) disk disk stop) }
-    ensures ends { EndsThere blocks.old.place (ahead blocks.old (S.left src.old)) (ahead blocks.new (S.left src.new)) result }
+    ensures cause { MatchResult result (λ _. S.faults src.new ≡ S.faults src.old)
+        (λ stop. (disk : ℕ) → FollowEnd (S.faults src.old) (S.faults src.new) disk disk stop) }
+    ensures ends { EndsThere blocks.old.place (ahead blocks.old (S.left src.old))
+        (ahead blocks.new (S.left src.new)) result }
     ensures dry { IfErr result (λ e. e ≡ stop.ReadFault → blocks.new.held ≡ []) }
 {
     if blocks.has_more(src)? {

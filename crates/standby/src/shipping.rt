@@ -22,7 +22,8 @@ const BLOCK: usize = 65536;
 
 /// Puts a piece.
 fn put<K: Sink>(out: &mut K, piece: &[u8]) -> Result<(), ShipStop>
-    ensures cause { MatchResult result (λ _. K.faults out.new ≡ K.faults out.old) (PutEnd (K.faults out.old) (K.faults out.new)) }
+    ensures cause { MatchResult result (λ _. K.faults out.new ≡ K.faults out.old)
+        (PutEnd (K.faults out.old) (K.faults out.new)) }
     ensures whole { OnOk result (Appends (K.held out.old) (K.held out.new) piece.now) }
     ensures part { IfErr result (λ _. PutsPart (K.held out.old) (K.held out.new) piece.now) }
 {
@@ -34,9 +35,13 @@ fn put<K: Sink>(out: &mut K, piece: &[u8]) -> Result<(), ShipStop>
 
 /// Appends a frame to the piece, and puts that where it has a block.
 fn put_frame<K: Sink>(out: &mut K, piece: &mut Vec<u8>, payload: &[u8]) -> Result<(), ShipStop>
-    ensures cause { MatchResult result (λ _. K.faults out.new ≡ K.faults out.old) (PutEnd (K.faults out.old) (K.faults out.new)) }
-    ensures under_way { OnOk result ((left : List ℕ) → IsUnderWay (K.held out.old) (K.held out.new) piece.new.items left (piece.old.items ++ frame_bytes payload.now ++ left)) }
-    ensures part { IfErr result (λ _. PutsPart (K.held out.old) (K.held out.new) (piece.old.items ++ frame_bytes payload.now)) }
+    ensures cause { MatchResult result (λ _. K.faults out.new ≡ K.faults out.old)
+        (PutEnd (K.faults out.old) (K.faults out.new)) }
+    ensures under_way { OnOk result ((left : List ℕ)
+        → IsUnderWay (K.held out.old) (K.held out.new) piece.new.items left
+        (piece.old.items ++ frame_bytes payload.now ++ left)) }
+    ensures part { IfErr result (λ _. PutsPart (K.held out.old) (K.held out.new)
+        (piece.old.items ++ frame_bytes payload.now)) }
 {
     write_frame(piece, payload)?;
     if piece.len() < BLOCK {
@@ -49,7 +54,8 @@ fn put_frame<K: Sink>(out: &mut K, piece: &mut Vec<u8>, payload: &[u8]) -> Resul
 
 /// Puts the last piece, with the end of the stream behind it.
 fn put_end<K: Sink>(out: &mut K, piece: &mut Vec<u8>) -> Result<(), ShipStop>
-    ensures cause { MatchResult result (λ _. K.faults out.new ≡ K.faults out.old) (PutEnd (K.faults out.old) (K.faults out.new)) }
+    ensures cause { MatchResult result (λ _. K.faults out.new ≡ K.faults out.old)
+        (PutEnd (K.faults out.old) (K.faults out.new)) }
     ensures whole { OnOk result (Appends (K.held out.old) (K.held out.new) (piece.old.items ++ end_bytes)) }
     ensures part { IfErr result (λ _. PutsPart (K.held out.old) (K.held out.new) (piece.old.items ++ end_bytes)) }
 {
@@ -64,9 +70,12 @@ fn put_stream<K: Sink>(
     front: Front,
     records: &[Record],
 ) -> Result<(), ShipStop>
-    ensures cause { MatchResult result (λ _. K.faults out.new ≡ K.faults out.old) (PutEnd (K.faults out.old) (K.faults out.new)) }
-    ensures whole { OnOk result (Appends (K.held out.old) (K.held out.new) (stream_bytes front (payloads_of records.now))) }
-    ensures part { IfErr result (λ _. PutsPart (K.held out.old) (K.held out.new) (stream_bytes front (payloads_of records.now))) }
+    ensures cause { MatchResult result (λ _. K.faults out.new ≡ K.faults out.old)
+        (PutEnd (K.faults out.old) (K.faults out.new)) }
+    ensures whole { OnOk result (Appends (K.held out.old) (K.held out.new)
+        (stream_bytes front (payloads_of records.now))) }
+    ensures part { IfErr result (λ _. PutsPart (K.held out.old) (K.held out.new)
+        (stream_bytes front (payloads_of records.now))) }
 {
     let mut piece = Vec::new(alloc);
     write_front(&mut piece, front)?;
@@ -95,7 +104,8 @@ fn ship_opened<K: Sink>(
     from: u64,
     out: &mut K,
 ) -> Result<u64, ShipStop>
-    ensures cause { MatchResult result (λ _. K.faults out.new ≡ K.faults out.old) (ShipEnd from (K.faults out.old) (K.faults out.new)) }
+    ensures cause { MatchResult result (λ _. K.faults out.new ≡ K.faults out.old)
+        (ShipEnd from (K.faults out.old) (K.faults out.new)) }
     ensures ships { Ships opened.now number from (K.held out.old) (K.held out.new) result }
 {
     if from < opened.header.transactions {
@@ -127,9 +137,12 @@ pub fn ship<K: Sink, D: Disk>(
     from: u64,
     out: &mut K,
 ) -> Result<u64, ShipStop>
-    ensures kept { D.tells → Only (D.seen disk.old) (D.images disk.old) → KeepsStore D.moment D.left_since D.seen disk.old disk.new }
-    ensures cause { MatchResult result (λ _. K.faults out.new ≡ K.faults out.old) (ShipEnd from (K.faults out.old) (K.faults out.new)) }
-    ensures ships { MatchResult result (λ _. ⊥) (IsUnopened (λ stop. D.tells → IsRefusedStore (D.seen disk.old) stop)) × Keeps (K.held out.old) (K.held out.new)
+    ensures kept { D.tells → Only (D.seen disk.old) (D.images disk.old)
+        → KeepsStore D.moment D.left_since D.seen disk.old disk.new }
+    ensures cause { MatchResult result (λ _. K.faults out.new ≡ K.faults out.old)
+        (ShipEnd from (K.faults out.old) (K.faults out.new)) }
+    ensures ships { MatchResult result (λ _. ⊥) (IsUnopened (λ stop. D.tells → IsRefusedStore (D.seen disk.old) stop))
+        × Keeps (K.held out.old) (K.held out.new)
         ⊎ ShipsOpened D.tells (D.seen disk.old) from (K.held out.old) (K.held out.new) result }
 {
     match open(alloc, disk) {

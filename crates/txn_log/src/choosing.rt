@@ -66,7 +66,8 @@ fn beside_good(a: Body, b: Judged) -> Result<Chosen, LogStop>
 
 /// The one of two good slots that has the greater generation.
 fn newer(a: Body, b: Body) -> Result<Chosen, LogStop>
-    ensures { IsChoice result (judged_store (Good a.header (payloads_of a.records) a.end) (Good b.header (payloads_of b.records) b.end)) }
+    ensures { IsChoice result (judged_store (Good a.header (payloads_of a.records) a.end)
+        (Good b.header (payloads_of b.records) b.end)) }
 {
     if a.header.generation == b.header.generation {
         return Err(LogStop::Damaged(Slot::B, 9));

@@ -98,7 +98,8 @@ fn len_at(rest: &[u8]) -> usize
 
 /// The length of the whole record behind a gate, or 0.
 fn whole_len(rest: &[u8]) -> usize
-    ensures some { 0 < result → (is_whole rest.now ≡ true) × (result ≡ length_at rest.now) × (4 + result < length rest.now) }
+    ensures some { 0 < result → (is_whole rest.now ≡ true) × (result ≡ length_at rest.now)
+        × (4 + result < length rest.now) }
     ensures none { result ≡ 0 → is_whole rest.now ≡ false }
     ensures most { result ≤ 2097152 }
 {

@@ -55,7 +55,8 @@ impl Log {
         ensures durable { OnOk result (Only (D.seen disk.new) (D.images disk.new)) }
         ensures any_moment { D.tells → Only (D.seen disk.old) (D.images disk.old)
             → LeavesOnly D.moment D.left_since disk.old disk.new (MayHaveRecord payload.now (D.seen disk.old)) }
-        ensures read { D.tells → Only (D.seen disk.old) (D.images disk.old) → MayHaveRecord payload.now (D.seen disk.old) (D.seen disk.new) }
+        ensures read { D.tells → Only (D.seen disk.old) (D.images disk.old)
+            → MayHaveRecord payload.now (D.seen disk.old) (D.seen disk.new) }
         ensures cause { HasCause (D.faults disk.old) (D.faults disk.new) result }
         ensures failed { IsTrue self.new.failed ↔ IsErr result }
         ensures same { (self.new.slot ≡ self.old.slot) × (self.new.generation ≡ self.old.generation) }
@@ -89,7 +90,8 @@ impl Log {
         ensures durable { OnOk result (Only (D.seen disk.new) (D.images disk.new)) }
         ensures any_moment { D.tells → Only (D.seen disk.old) (D.images disk.old)
             → LeavesOnly D.moment D.left_since disk.old disk.new (MayHaveRecords batch.now (D.seen disk.old)) }
-        ensures read { D.tells → Only (D.seen disk.old) (D.images disk.old) → MayHaveRecords batch.now (D.seen disk.old) (D.seen disk.new) }
+        ensures read { D.tells → Only (D.seen disk.old) (D.images disk.old)
+            → MayHaveRecords batch.now (D.seen disk.old) (D.seen disk.new) }
         ensures cause { HasCause (D.faults disk.old) (D.faults disk.new) result }
         ensures failed { IsTrue self.new.failed ↔ IsErr result }
         ensures same { (self.new.slot ≡ self.old.slot) × (self.new.generation ≡ self.old.generation) }
@@ -139,7 +141,8 @@ impl Log {
     /// Marks the log as one that isn't used any more, since the disk failed.
     pub fn fail(&mut self)
         ensures failed { self.new.failed ≡ true }
-        ensures same { (self.new.slot ≡ self.old.slot) × (self.new.generation ≡ self.old.generation) × (self.new.records ≡ self.old.records) × (self.new.end ≡ self.old.end) }
+        ensures same { (self.new.slot ≡ self.old.slot) × (self.new.generation ≡ self.old.generation)
+            × (self.new.records ≡ self.old.records) × (self.new.end ≡ self.old.end) }
     {
         self.failed = true;
     }

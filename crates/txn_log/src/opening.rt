@@ -82,7 +82,8 @@ fn fill_a<D: Disk>(disk: &mut D, header: &Header) -> Result<(), Failed>
     ensures made { OnOk result (D.tells → Stands Slot.A (Good header.now [] 42) (D.seen disk.old).b (D.seen disk.new)) }
     ensures durable { OnOk result (Only (D.seen disk.new) (D.images disk.new)) }
     ensures any_moment { D.tells → Only (D.seen disk.old) (D.images disk.old)
-        → LeavesOnly D.moment D.left_since disk.old disk.new (StandsOrUnmade Slot.A (Good header.now [] 42) (D.seen disk.old).b) }
+        → LeavesOnly D.moment D.left_since disk.old disk.new
+        (StandsOrUnmade Slot.A (Good header.now [] 42) (D.seen disk.old).b) }
     ensures cause { HasCause (D.faults disk.old) (D.faults disk.new) result }
 {
     let from = shut(disk, Slot::A)?;
@@ -95,7 +96,8 @@ fn make_new<D: Disk>(disk: &mut D, queues: u8, limit: u64) -> Result<Log, LogSto
     requires queues { (1 ≤ queues) × (queues ≤ 16) }
     requires limit { (1 ≤ limit) × (limit ≤ 10000000) }
     requires none { D.tells → store_of (D.seen disk.old) ≡ NoStore }
-    ensures made { IfOk result (λ log. D.tells → store_of (D.seen disk.new) ≡ Counts Slot.A (first_header queues limit) [] 42) }
+    ensures made { IfOk result (λ log. D.tells
+        → store_of (D.seen disk.new) ≡ Counts Slot.A (first_header queues limit) [] 42) }
     ensures stands { IfOk result (λ log. D.tells → StandsOn log (D.seen disk.new)) }
     ensures log { IfOk result (IsAt Slot.A 1 0 42) }
     ensures only_fault { IfErr result (λ stop. stop ≡ StoreFault) }
@@ -157,7 +159,8 @@ impl Log {
         requires limit { (1 ≤ limit) × (limit ≤ 10000000) }
         ensures stands { IfOk result (λ log. D.tells → StandsOn log (D.seen disk.new)) }
         ensures was { OnOk result (D.tells → store_of (D.seen disk.old) ≡ NoStore) }
-        ensures made { IfOk result (λ log. D.tells → store_of (D.seen disk.new) ≡ Counts Slot.A (first_header queues limit) [] 42) }
+        ensures made { IfOk result (λ log. D.tells
+            → store_of (D.seen disk.new) ≡ Counts Slot.A (first_header queues limit) [] 42) }
         ensures log { IfOk result (IsAt Slot.A 1 0 42) }
         ensures refused { IfErr result (λ stop. D.tells → IsMakeRefusal stop (store_of (D.seen disk.old))) }
         ensures durable { OnOk result (Only (D.seen disk.new) (D.images disk.new)) }

@@ -24,7 +24,8 @@ pub fn read_slot<D: Disk>(alloc: Global, disk: &mut D, slot: Slot) -> Result<Vec
     ensures bytes { IfOk result (λ v. D.tells → v.items ≡ bytes_in (D.seen disk.old) slot) }
     ensures seen { D.seen disk.new ≡ D.seen disk.old }
     ensures crash { Within (D.images disk.old) (D.images disk.new) }
-    ensures time { Elapses (D.moment disk.old) (D.moment disk.new) (D.left_since disk.old) (D.left_since disk.new) (D.images disk.old) }
+    ensures time { Elapses (D.moment disk.old) (D.moment disk.new) (D.left_since disk.old) (D.left_since disk.new)
+        (D.images disk.old) }
     ensures cause { IsCause (D.faults disk.old) (D.faults disk.new) result }
 {
     let mut block = new_block(alloc)?;
@@ -43,7 +44,8 @@ fn read_by<D: Disk>(
     ensures bytes { IfOk result (λ v. D.tells → v.items ≡ bytes_in (D.seen disk.old) slot) }
     ensures seen { D.seen disk.new ≡ D.seen disk.old }
     ensures crash { Within (D.images disk.old) (D.images disk.new) }
-    ensures time { Elapses (D.moment disk.old) (D.moment disk.new) (D.left_since disk.old) (D.left_since disk.new) (D.images disk.old) }
+    ensures time { Elapses (D.moment disk.old) (D.moment disk.new) (D.left_since disk.old) (D.left_since disk.new)
+        (D.images disk.old) }
     ensures cause { IsCause (D.faults disk.old) (D.faults disk.new) result }
 {
     let mut bytes = Vec::new(alloc);

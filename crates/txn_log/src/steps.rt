@@ -19,7 +19,8 @@ pub fn stage<D: Disk>(disk: &mut D, slot: Slot, gate: u64, payload: &[u8]) -> Re
     requires size { length payload.now ≤ 2097152 }
     requires place { gate < 2 ^ 60 }
     requires within { D.tells → gate < length (bytes_in (D.seen disk.old) slot) }
-    ensures staged { OnOk result (D.tells → IsStaged slot gate (record_bytes payload.now) (D.seen disk.old) (D.seen disk.new)) }
+    ensures staged { OnOk result (D.tells
+        → IsStaged slot gate (record_bytes payload.now) (D.seen disk.old) (D.seen disk.new)) }
     ensures durable { OnOk result (Only (D.seen disk.new) (D.images disk.new)) }
     ensures any_moment { D.tells → Only (D.seen disk.old) (D.images disk.old)
         → LeavesOnly D.moment D.left_since disk.old disk.new
@@ -36,7 +37,8 @@ pub fn stage<D: Disk>(disk: &mut D, slot: Slot, gate: u64, payload: &[u8]) -> Re
 /// Opens a gate, and syncs.
 pub fn open_gate<D: Disk>(disk: &mut D, slot: Slot, gate: u64) -> Result<(), Failed>
     requires within { D.tells → gate < length (bytes_in (D.seen disk.old) slot) }
-    ensures opened { OnOk result (D.tells → D.seen disk.new ≡ put_in (D.seen disk.old) slot (spliced (bytes_in (D.seen disk.old) slot) gate (1 ∷ []))) }
+    ensures opened { OnOk result (D.tells
+        → D.seen disk.new ≡ put_in (D.seen disk.old) slot (spliced (bytes_in (D.seen disk.old) slot) gate (1 ∷ []))) }
     ensures durable { OnOk result (Only (D.seen disk.new) (D.images disk.new)) }
     ensures any_moment { D.tells → Only (D.seen disk.old) (D.images disk.old)
         → LeavesOnly D.moment D.left_since disk.old disk.new (GateDiffers slot gate (D.seen disk.old)) }
@@ -67,7 +69,8 @@ pub fn stage_all<D: Disk>(disk: &mut D, slot: Slot, gate: u64, records: &[u8]) -
     requires some { 0 < length records.now }
     requires place { gate < 2 ^ 60 }
     requires within { D.tells → gate < length (bytes_in (D.seen disk.old) slot) }
-    ensures staged { OnOk result (D.tells → IsStaged slot gate (records.now ++ 0 ∷ []) (D.seen disk.old) (D.seen disk.new)) }
+    ensures staged { OnOk result (D.tells
+        → IsStaged slot gate (records.now ++ 0 ∷ []) (D.seen disk.old) (D.seen disk.new)) }
     ensures durable { OnOk result (Only (D.seen disk.new) (D.images disk.new)) }
     ensures any_moment { D.tells → Only (D.seen disk.old) (D.images disk.old)
         → LeavesOnly D.moment D.left_since disk.old disk.new
@@ -104,10 +107,12 @@ pub fn write_body<D: Disk>(
     requires from { (from ≡ 1) ⊎ (from ≡ 8) }
     requires shut { D.tells → IsShut slot from (D.seen disk.old) }
     ensures body { OnOk result (D.tells → HasBody slot header.now [] 42 (D.seen disk.new)) }
-    ensures other { OnOk result (D.tells → bytes_in (D.seen disk.new) (opposite slot) ≡ bytes_in (D.seen disk.old) (opposite slot)) }
+    ensures other { OnOk result (D.tells
+        → bytes_in (D.seen disk.new) (opposite slot) ≡ bytes_in (D.seen disk.old) (opposite slot)) }
     ensures durable { OnOk result (Only (D.seen disk.new) (D.images disk.new)) }
     ensures any_moment { D.tells → Only (D.seen disk.old) (D.images disk.old)
-        → LeavesOnly D.moment D.left_since disk.old disk.new (Stands slot Unmade (bytes_in (D.seen disk.old) (opposite slot))) }
+        → LeavesOnly D.moment D.left_since disk.old disk.new
+        (Stands slot Unmade (bytes_in (D.seen disk.old) (opposite slot))) }
     ensures cause { HasCause (D.faults disk.old) (D.faults disk.new) result }
 {
     let text = header_bytes(header);
@@ -121,12 +126,14 @@ pub fn write_body<D: Disk>(
 pub fn open_body<D: Disk>(disk: &mut D, slot: Slot, header: &Header) -> Result<(), Failed>
     requires range { InRange header.now }
     requires within { D.tells → 0 < length (bytes_in (D.seen disk.old) slot) }
-    ensures made { OnOk result (D.tells → (ps : List (List ℕ)) (end : ℕ) → HasBody slot header.now ps end (D.seen disk.old)
+    ensures made { OnOk result (D.tells → (ps : List (List ℕ)) (end : ℕ)
+        → HasBody slot header.now ps end (D.seen disk.old)
         → Stands slot (Good header.now ps end) (bytes_in (D.seen disk.old) (opposite slot)) (D.seen disk.new)) }
     ensures durable { OnOk result (Only (D.seen disk.new) (D.images disk.new)) }
     ensures any_moment { D.tells → Only (D.seen disk.old) (D.images disk.old)
         → (ps : List (List ℕ)) (end : ℕ) → HasBody slot header.now ps end (D.seen disk.old)
-        → LeavesOnly D.moment D.left_since disk.old disk.new (StandsOrUnmade slot (Good header.now ps end) (bytes_in (D.seen disk.old) (opposite slot))) }
+        → LeavesOnly D.moment D.left_since disk.old disk.new
+        (StandsOrUnmade slot (Good header.now ps end) (bytes_in (D.seen disk.old) (opposite slot))) }
     ensures cause { HasCause (D.faults disk.old) (D.faults disk.new) result }
 {
     open_gate(disk, slot, 0)?;
@@ -138,10 +145,12 @@ pub fn fill<D: Disk>(disk: &mut D, slot: Slot, from: u64, header: &Header) -> Re
     requires from { (from ≡ 1) ⊎ (from ≡ 8) }
     requires range { InRange header.now }
     requires shut { D.tells → IsShut slot from (D.seen disk.old) }
-    ensures made { OnOk result (D.tells → Stands slot (Good header.now [] 42) (bytes_in (D.seen disk.old) (opposite slot)) (D.seen disk.new)) }
+    ensures made { OnOk result (D.tells
+        → Stands slot (Good header.now [] 42) (bytes_in (D.seen disk.old) (opposite slot)) (D.seen disk.new)) }
     ensures durable { OnOk result (Only (D.seen disk.new) (D.images disk.new)) }
     ensures any_moment { D.tells → Only (D.seen disk.old) (D.images disk.old)
-        → LeavesOnly D.moment D.left_since disk.old disk.new (StandsOrUnmade slot (Good header.now [] 42) (bytes_in (D.seen disk.old) (opposite slot))) }
+        → LeavesOnly D.moment D.left_since disk.old disk.new
+        (StandsOrUnmade slot (Good header.now [] 42) (bytes_in (D.seen disk.old) (opposite slot))) }
     ensures cause { HasCause (D.faults disk.old) (D.faults disk.new) result }
 {
     write_body(disk, slot, from, header)?;
@@ -151,7 +160,8 @@ pub fn fill<D: Disk>(disk: &mut D, slot: Slot, from: u64, header: &Header) -> Re
 
 // From which byte on a slot is written whose gate can be used as it stands.
 fn as_it_stands(size: u64, first: u8) -> Option<u64>
-    ensures { MatchOption result ((size ≤ 1) ⊎ (first ≡ 1)) (λ from. (1 < size) × (((from ≡ 1) × (first ≡ 0)) ⊎ ((from ≡ 8) × (first ≢ 0) × (first ≢ 1)))) }
+    ensures { MatchOption result ((size ≤ 1) ⊎ (first ≡ 1))
+        (λ from. (1 < size) × (((from ≡ 1) × (first ≡ 0)) ⊎ ((from ≡ 8) × (first ≢ 0) × (first ≢ 1)))) }
 {
     if size <= 1 {
         return None;
@@ -170,10 +180,14 @@ fn shut_gate<D: Disk>(disk: &mut D, slot: Slot, size: u64, first: u8) -> Result<
     requires ours { D.tells → IsOurs (slot_state (bytes_in (D.seen disk.old) slot)) }
     ensures shut { IfOk result (λ from. D.tells → IsShut slot from (D.seen disk.new)) }
     ensures from { IfOk result (λ from. (from ≡ 1) ⊎ (from ≡ 8)) }
-    ensures other { OnOk result (D.tells → bytes_in (D.seen disk.new) (opposite slot) ≡ bytes_in (D.seen disk.old) (opposite slot)) }
-    ensures durable { OnOk result (Only (D.seen disk.old) (D.images disk.old) → Only (D.seen disk.new) (D.images disk.new)) }
+    ensures other { OnOk result (D.tells
+        → bytes_in (D.seen disk.new) (opposite slot) ≡ bytes_in (D.seen disk.old) (opposite slot)) }
+    ensures durable { OnOk result (Only (D.seen disk.old) (D.images disk.old)
+        → Only (D.seen disk.new) (D.images disk.new)) }
     ensures any_moment { D.tells → Only (D.seen disk.old) (D.images disk.old)
-        → LeavesOnly D.moment D.left_since disk.old disk.new (StandsOrUnmade slot (slot_state (bytes_in (D.seen disk.old) slot)) (bytes_in (D.seen disk.old) (opposite slot))) }
+        → LeavesOnly D.moment D.left_since disk.old disk.new
+        (StandsOrUnmade slot (slot_state (bytes_in (D.seen disk.old) slot))
+        (bytes_in (D.seen disk.old) (opposite slot))) }
     ensures cause { HasCause (D.faults disk.old) (D.faults disk.new) result }
 {
     if let Some(from) = as_it_stands(size, first) {
@@ -197,7 +211,8 @@ pub fn other_slot(slot: Slot) -> Slot
 /// The size of a slot, and its first byte where it has more than one.
 fn front<D: Disk>(disk: &mut D, slot: Slot) -> Result<(u64, u8), Failed>
     ensures size { IfOk result (λ front. D.tells → front.0 ≡ length (bytes_in (D.seen disk.old) slot)) }
-    ensures first { IfOk result (λ front. D.tells → 1 < front.0 → front.1 ≡ slice_index (bytes_in (D.seen disk.old) slot) 0) }
+    ensures first { IfOk result (λ front. D.tells → 1 < front.0
+        → front.1 ≡ slice_index (bytes_in (D.seen disk.old) slot) 0) }
     ensures seen { D.seen disk.new ≡ D.seen disk.old }
     ensures crash { Within (D.images disk.old) (D.images disk.new) }
     ensures any_moment { LeavesOnly D.moment D.left_since disk.old disk.new (D.images disk.old) }
@@ -219,10 +234,14 @@ pub fn shut<D: Disk>(disk: &mut D, slot: Slot) -> Result<u64, Failed>
     requires ours { D.tells → IsOurs (slot_state (bytes_in (D.seen disk.old) slot)) }
     ensures shut { IfOk result (λ from. D.tells → IsShut slot from (D.seen disk.new)) }
     ensures from { IfOk result (λ from. (from ≡ 1) ⊎ (from ≡ 8)) }
-    ensures other { OnOk result (D.tells → bytes_in (D.seen disk.new) (opposite slot) ≡ bytes_in (D.seen disk.old) (opposite slot)) }
-    ensures durable { OnOk result (Only (D.seen disk.old) (D.images disk.old) → Only (D.seen disk.new) (D.images disk.new)) }
+    ensures other { OnOk result (D.tells
+        → bytes_in (D.seen disk.new) (opposite slot) ≡ bytes_in (D.seen disk.old) (opposite slot)) }
+    ensures durable { OnOk result (Only (D.seen disk.old) (D.images disk.old)
+        → Only (D.seen disk.new) (D.images disk.new)) }
     ensures any_moment { D.tells → Only (D.seen disk.old) (D.images disk.old)
-        → LeavesOnly D.moment D.left_since disk.old disk.new (StandsOrUnmade slot (slot_state (bytes_in (D.seen disk.old) slot)) (bytes_in (D.seen disk.old) (opposite slot))) }
+        → LeavesOnly D.moment D.left_since disk.old disk.new
+        (StandsOrUnmade slot (slot_state (bytes_in (D.seen disk.old) slot))
+        (bytes_in (D.seen disk.old) (opposite slot))) }
     ensures cause { HasCause (D.faults disk.old) (D.faults disk.new) result }
 {
     let (size, first) = front(disk, slot)?;

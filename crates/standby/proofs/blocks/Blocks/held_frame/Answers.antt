@@ -15,7 +15,7 @@ returns c =
     let within : n ≤ 268435456 - s.place = omega (arith, c.min-count.ensures, room) in
     let reader : Reader = record { held = slice_range s.block.items s.from s.to; place = s.place } in
     IfSome_then c.framed.result c.framed.ensures (λ payload begins.
-        subst (λ (r : Reader). HoldsFrame r payload.now) c.self.view_is
-        (holds_frame reader n payload.now within
-        (subst (λ (xs : List ℕ). BeginsWithFrame xs payload.now) (held_front s.block.items s.from s.to n fits)
-        (subst (λ (xs : List ℕ). BeginsWithFrame (take (s.from + n - s.from) (drop s.from xs)) payload.now) c.deref.ensures.value begins))))
+    subst (λ (r : Reader). HoldsFrame r payload.now) c.self.view_is
+    (holds_frame reader n payload.now within
+    (subst (λ (xs : List ℕ). BeginsWithFrame xs payload.now) (held_front s.block.items s.from s.to n fits)
+    (subst (λ (xs : List ℕ). BeginsWithFrame (take (s.from + n - s.from) (drop s.from xs)) payload.now) c.deref.ensures.value begins))))

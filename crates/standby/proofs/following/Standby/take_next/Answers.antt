@@ -128,8 +128,8 @@ returns-clause-stops g c right =
     let takes = subst (λ (n : ℕ). TakesPayload n c.args.payload.now core c.args.self.now.taken mid.core mid.taken) is (c.in-Ok.ensures.takes right) in
     new_stops c.args.place (c.args.last + 1) c.args.payload.now core c.args.self.now.taken mid.core mid.taken c.unkept.result takes
     (λ le.
-        let had : c.in-Some.number ≤ core.number = subst (λ (n : ℕ). n ≤ core.number) (sym is) le in
-        let none : c.take_payload.new.batch ≡ [] = c.take_payload.ensures.passed had ∙ c.new-batch.ensures in
-        let clash : ◌≡◌ {A = Bool} true false = sym (c.is_empty.ensures.1 none) ∙ no in
-        absurd (cc))
+    let had : c.in-Some.number ≤ core.number = subst (λ (n : ℕ). n ≤ core.number) (sym is) le in
+    let none : c.take_payload.new.batch ≡ [] = c.take_payload.ensures.passed had ∙ c.new-batch.ensures in
+    let clash : ◌≡◌ {A = Bool} true false = sym (c.is_empty.ensures.1 none) ∙ no in
+    absurd (cc))
     (λ t lt admitted. c.unkept.ensures.stops core (c.args.last + 1) t lt admitted)
