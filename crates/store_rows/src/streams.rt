@@ -7,7 +7,7 @@ use std::alloc::Global;
 use std::test::Fail;
 
 /// The stream of a store with one queue and the default limit, whose one transaction sets the clock to 5.
-const STREAM: [u8; 48] = [
+pub(crate) const STREAM: [u8; 48] = [
     0x46, 0x4c, 0x4f, 0x57, 0x53, 0x48, 0x50, 0x31, 0x01, 0x00, 0x00, 0x00, 0x00, 0x00, 0x0f, 0x42,
     0x40, 0x00, 0x00, 0x00, 0x00, 0x00, 0x00, 0x00, 0x00, 0x01, 0x00, 0x00, 0x00, 0x11, 0x00, 0x00,
     0x00, 0x00, 0x00, 0x00, 0x00, 0x01, 0x0f, 0x00, 0x00, 0x00, 0x00, 0x00, 0x00, 0x00, 0x05, 0x00,
@@ -27,17 +27,17 @@ const CHANGED: [(usize, &str); 9] = [
 ];
 
 /// Runs a word over the two files of a disk.
-fn ran(alloc: Global, word: &str, input: &[u8], disk: MemDisk) -> Result<Outcome, Fail> {
+pub(crate) fn ran(alloc: Global, word: &str, input: &[u8], disk: MemDisk) -> Result<Outcome, Fail> {
     Ok(run_over(alloc, &[word, "a", "b"], input, (&[], &[]), disk)?)
 }
 
 /// Ships the transactions above a number.
-fn shipped(alloc: Global, from: &str, disk: MemDisk) -> Result<Outcome, Fail> {
+pub(crate) fn shipped(alloc: Global, from: &str, disk: MemDisk) -> Result<Outcome, Fail> {
     Ok(run_over(alloc, &["ship", "a", "b", from], b"", (&[], &[]), disk)?)
 }
 
 /// A disk with a new store.
-fn new_disk(alloc: Global) -> Result<MemDisk, Fail> {
+pub(crate) fn new_disk(alloc: Global) -> Result<MemDisk, Fail> {
     Ok(new_store(alloc)?.disk(alloc)?)
 }
 
