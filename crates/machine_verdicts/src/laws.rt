@@ -1,0 +1,39 @@
+//! The laws: the keys of the engine are those of the machine, and so are its verdicts.
+ghost use Rattle.machine_verdicts.specs.Keyed.{BlanksAreKeyed, KeysStay, KeysStayAdopted, VerdictsHaveFreeKeys};
+ghost use Rattle.machine_verdicts.specs.Keyed.{AdmittedHaveFreeKeys};
+ghost use Rattle.machine_verdicts.specs.Verdicts.{VerdictsAreSeen, NotesAreSeen};
+
+/// Law: before any transaction the keys are the machine's.
+pub fn blanks_are_keyed()
+    ensures { BlanksAreKeyed }
+{}
+
+/// Law: in a right state they stay so with what `apply` says of a transaction that may come.
+pub fn keys_stay()
+    ensures { KeysStay }
+{}
+
+/// Law: they stay so with what `adopt` says of a record that may come.
+pub fn keys_stay_adopted()
+    ensures { KeysStayAdopted }
+{}
+
+/// Law: the transaction to which a command is judged names no key that a live root has.
+pub fn verdicts_have_free_keys()
+    ensures { VerdictsHaveFreeKeys }
+{}
+
+/// Law: nor does the transaction of a record that is admitted.
+pub fn admitted_have_free_keys()
+    ensures { AdmittedHaveFreeKeys }
+{}
+
+/// Law: the verdict of a command over the engine's state is its verdict over the machine's.
+pub fn verdicts_are_seen()
+    ensures { VerdictsAreSeen }
+{}
+
+/// Law: what a reply names by the engine's states is what it names by the machine's.
+pub fn notes_are_seen()
+    ensures { NotesAreSeen }
+{}
