@@ -1,6 +1,6 @@
 -- The engine's table of keys says what the live transactions say: before any transaction, and after each one more.
-use Rattle.std.proofs.Common.{◌≡◌, ℕ, ◌+◌, ◌==◌, Bool, true, false, ◌||◌, if◌then◌else◌, not, List, [], ◌∷◌, ◌++◌, Option}
-use Rattle.std.proofs.Common.{Some, None, IfSome, All, refl, sym, ap, subst, ◌∙◌, inl, inr, bytes_eq, filter}
+use Rattle.std.proofs.Common.{◌≡◌, ℕ, ◌+◌, ◌==◌, Bool, true, false, ◌||◌, if◌then◌else◌, List, [], ◌∷◌, ◌++◌, Option}
+use Rattle.std.proofs.Common.{Some, None, All, refl, sym, ap, subst, ◌∙◌, inl, inr, bytes_eq}
 use Rattle.std.specs.BTreeMap as tree
 use Rattle.std.specs.Ordering.{nat_cmp}
 use Rattle.std.specs.Option.{option_or, option_map, option_and_then}
@@ -11,9 +11,8 @@ use Rattle.std.proofs.lemmas.Slice.Eq.{bytes_eq-Decides}
 use Rattle.core_laws.specs.RightStates.{IsRightState, has_start}
 use Rattle.flow_core.specs.Admitting.{root_with, IsAdmitted}
 use Rattle.flow_core.specs.Allowing.{IsAllowed, IsBlank, IsFree}
-use Rattle.flow_core.specs.Driving.{IsNewestVersion}
 use Rattle.flow_core.specs.Judgements.{IsVerdict}
-use Rattle.flow_core.specs.Keys.{holder, key_of, is_key, HasKeys, KeepsKeys, StartsKey, FreesKey, KeysAfter}
+use Rattle.flow_core.specs.Keys.{holder, key_of, is_key, KeepsKeys, StartsKey, FreesKey, KeysAfter}
 use Rattle.flow_core.specs.Refusals.{same_root}
 use Rattle.flow_core.specs.Summaries.{Summary, root_about, is_root, started, without_root, live_after}
 use Rattle.flow_core.specs.declared.judging.Verdict.TheVariants.{Do}
@@ -362,7 +361,8 @@ module _ (c c' : Core) (keyed : AreKeyed c) where
         | inl is ↦ absurd (none-some key (sym (first_so (root == r) None (key_of c r) is.0) ∙ has))
         | inr other ↦
             let named : key_of c r ≡ Some key = sym (second_so (root == r) None (key_of c r) other.0) ∙ has in
-            let unlike : is_key key (key_of c root) ≡ false = go r key named other.1 (is_key key (key_of c root)) refl in
+            let unlike : is_key key (key_of c root) ≡ false =
+            go r key named other.1 (is_key key (key_of c root)) refl in
             frees.holders key
             ∙ (second_so (is_key key (key_of c root)) None (holder c key) unlike ∙ keyed.held r key named)
       ]

@@ -9,11 +9,9 @@ use Rattle.flow_core.specs.Refusals.{IsNamed}
 use Rattle.flow_core.specs.declared.state.Core.{Core}
 use Rattle.flow_model.specs.declared.graphs.DoneBy.{DoneBy}
 use Rattle.flow_model.specs.declared.graphs.DoneBy.TheVariants as by
-use Rattle.flow_model.specs.declared.instances.Mode.{Mode}
 use Rattle.flow_model.specs.declared.instances.Path.{Path}
 use Rattle.flow_model.specs.declared.instances.SourceEnd.{SourceEnd}
 use Rattle.flow_model.specs.declared.instances.SourceEnd.TheVariants as end
-use Rattle.flow_model.specs.declared.names.Name.{Name}
 use Rattle.machine.specs.Items.{program_in}
 use Rattle.machine.specs.Rows.{Standing}
 use Rattle.machine_scopes.specs.Seen.{standing_of}

@@ -20,7 +20,6 @@ use Rattle.flow_model.specs.declared.commands.Command.TheVariants as asked
 use Rattle.flow_model.specs.declared.commands.Outcome.{Outcome}
 use Rattle.flow_model.specs.declared.commands.RawSetting.{RawSetting}
 use Rattle.flow_model.specs.declared.graphs.PersonDef.{PersonDef}
-use Rattle.flow_model.specs.declared.instances.Fate.{Fate}
 use Rattle.flow_model.specs.declared.instances.Fate.TheVariants as fate
 use Rattle.flow_model.specs.declared.instances.Mode.{Mode}
 use Rattle.flow_model.specs.declared.instances.Path.{Path}

@@ -1,5 +1,4 @@
 -- The verdict of a command over the engine's state is its verdict over the state of the machine.
-use Rattle.std.specs.Prelude.{ℕ}
 use Rattle.flow_core.specs.Allowing.{IsAllowed}
 use Rattle.flow_core.specs.Judgements as engine
 use Rattle.flow_core.specs.Refusals.{IsInOrder}
