@@ -2,6 +2,8 @@
 ghost use Rattle.machine_verdicts.specs.Keyed.{BlanksAreKeyed, KeysStay, KeysStayAdopted, VerdictsHaveFreeKeys};
 ghost use Rattle.machine_verdicts.specs.Keyed.{AdmittedHaveFreeKeys};
 ghost use Rattle.machine_verdicts.specs.Verdicts.{VerdictsAreSeen, NotesAreSeen};
+ghost use Rattle.machine_verdicts.specs.Answers.{QueuesAreSeen, AuditsAreSeen, TemplatesAreSeen, OutputsAreSeen};
+ghost use Rattle.machine_verdicts.specs.Answers.{InputsAreSeen};
 
 /// Law: before any transaction the keys are the machine's.
 pub fn blanks_are_keyed()
@@ -36,4 +38,29 @@ pub fn verdicts_are_seen()
 /// Law: what a reply names by the engine's states is what it names by the machine's.
 pub fn notes_are_seen()
     ensures { NotesAreSeen }
+{}
+
+/// Law: the reply to QUEUE over the engine's state is its reply over the machine's.
+pub fn queues_are_seen()
+    ensures { QueuesAreSeen }
+{}
+
+/// Law: so it is of AUDIT.
+pub fn audits_are_seen()
+    ensures { AuditsAreSeen }
+{}
+
+/// Law: so it is of TEMPLATES.
+pub fn templates_are_seen()
+    ensures { TemplatesAreSeen }
+{}
+
+/// Law: in a right state so it is of OUTPUT.
+pub fn outputs_are_seen()
+    ensures { OutputsAreSeen }
+{}
+
+/// Law: in a right state so it is of INPUT.
+pub fn inputs_are_seen()
+    ensures { InputsAreSeen }
 {}

@@ -1,0 +1,36 @@
+-- The reply to a query over the engine's state is its reply over the state of the machine.
+use Rattle.std.specs.Prelude.{ℕ, List}
+use Rattle.core_laws.specs.RightStates.{IsRightState}
+use Rattle.flow_core.specs.Queries as engine
+use Rattle.flow_core.specs.declared.state.Core.{Core}
+use Rattle.flow_model.specs.declared.commands.Query.{Query}
+use Rattle.flow_model.specs.declared.commands.Query.TheVariants.{Output, Input, Queue, Audit, Templates}
+use Rattle.machine_laws.specs.Answering as machine
+use Rattle.machine_laws.specs.Viewed.{view}
+use Rattle.view_laws.specs.Runs.{Event}
+
+-- what is replied to a query over the engine's state is its reply over the machine's
+abbrev pub IsSeen : Core → Query → List ℕ → Type 0
+IsSeen c query text = engine.IsAnswer c query text → machine.IsAnswer (view c) query text
+
+-- so it is of QUEUE, of AUDIT and of TEMPLATES, in each state
+abbrev pub QueuesAreSeen : Type 0
+QueuesAreSeen = (c : Core) (number : ℕ) (text : List ℕ) → IsSeen c (Queue number) text
+
+-- the reply to AUDIT is the machine's
+abbrev pub AuditsAreSeen : Type 0
+AuditsAreSeen = (c : Core) (root : ℕ) (text : List ℕ) → IsSeen c (Audit root) text
+
+-- the reply to TEMPLATES is the machine's
+abbrev pub TemplatesAreSeen : Type 0
+TemplatesAreSeen = (c : Core) (text : List ℕ) → IsSeen c Templates text
+
+-- in a right state so it is of OUTPUT
+abbrev pub OutputsAreSeen : Type 0
+OutputsAreSeen =
+    (c : Core) (runs : ℕ → List Event) (root : ℕ) (text : List ℕ) → IsRightState c runs → IsSeen c (Output root) text
+
+-- and of INPUT
+abbrev pub InputsAreSeen : Type 0
+InputsAreSeen =
+    (c : Core) (runs : ℕ → List Event) (token text : List ℕ) → IsRightState c runs → IsSeen c (Input token) text
