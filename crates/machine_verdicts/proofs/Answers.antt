@@ -1,6 +1,6 @@
 -- The replies to QUEUE, AUDIT, TEMPLATES, OUTPUT and INPUT are the machine's.
-use Rattle.std.proofs.Common.{◌≡◌, ℕ, zero, suc, ◌+◌, ◌-◌, ◌<◌, ◌≤◌, ◌^◌, ◌==◌, ◌&&◌, Bool, true, false, List, [], ◌∷◌}
-use Rattle.std.proofs.Common.{length, Option, Some, None, if◌then◌else◌, option_map, option_and_then, refl, sym, ap, subst}
+use Rattle.std.proofs.Common.{◌≡◌, ℕ, zero, suc, ◌+◌, ◌-◌, ◌<◌, ◌^◌, ◌==◌, ◌&&◌, Bool, true, false, List, [], ◌∷◌}
+use Rattle.std.proofs.Common.{Option, Some, None, if◌then◌else◌, option_map, option_and_then, refl, sym, ap, subst}
 use Rattle.std.proofs.Common.{◌∙◌, inl, inr, arith}
 use Rattle.std.specs.Prelude.{is_some, slice_get}
 use Rattle.std.proofs.Math.Path.{fun_ext}
@@ -12,20 +12,16 @@ use Rattle.core_laws.specs.RightStates.{IsRightState, IsRightRoot, input_now}
 use Rattle.flow_core.specs.Answers.{instance_of, audit_text, mode_now}
 use Rattle.flow_core.specs.Answers as engine
 use Rattle.flow_core.specs.Containing.{output_text, input_text, IsOutputOf, IsOutputBy, IsOutputAnswer, IsOutputWith}
-use Rattle.flow_core.specs.Containing.{IsInputShown}
 use Rattle.flow_core.specs.Containing as shown
 use Rattle.flow_core.specs.Driving.{templates, item_of, entry_in, entry_with, program_entry, program_in}
-use Rattle.flow_core.specs.Refusals.{between}
 use Rattle.flow_core.specs.Replies.{refusal_text}
 use Rattle.flow_core.specs.declared.refusals.Refusal.TheVariants as refused
 use Rattle.flow_core.specs.declared.state.Core.{Core}
 use Rattle.flow_model.specs.Containers.{fresh}
 use Rattle.flow_model.specs.Fates.{Ends}
-use Rattle.flow_model.specs.Paths.{Spells}
-use Rattle.flow_model.specs.ScopeContainers.{graph_of, fed, is_complete, output_by}
+use Rattle.flow_model.specs.ScopeContainers.{fed, is_complete, output_by}
 use Rattle.flow_model.specs.Scopes.{output, tree_ends}
 use Rattle.flow_model.specs.Wiring.{IsSinking}
-use Rattle.flow_model.specs.declared.graphs.Activity.{Activity}
 use Rattle.flow_model.specs.declared.graphs.Container.{Container}
 use Rattle.flow_model.specs.declared.graphs.Graph.{Graph, out-Graph}
 use Rattle.flow_model.specs.declared.graphs.MapEnd.TheVariants.{Border}

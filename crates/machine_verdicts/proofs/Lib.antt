@@ -4,3 +4,4 @@ pub mod Keyed
 pub mod Subjects
 pub mod Verdicts
 pub mod Answers
+pub mod Worklists

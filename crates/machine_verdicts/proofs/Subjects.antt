@@ -59,7 +59,8 @@ performers_if (Some end.Unsettled) o y same = refl
 performers_if (Some end.Dead) o y same = refl
 performers_if (Some (end.Finished output)) o y same = ap machine.performer_in same ∙ performers_in o
 
-performers : (e : engine.Entry) (done_by : DoneBy) → machine.performer_by (entry_of e) done_by ≡ performer_by e done_by
+pub performers : (e : engine.Entry) (done_by : DoneBy)
+    → machine.performer_by (entry_of e) done_by ≡ performer_by e done_by
 performers e (by.Role role) = refl
 performers e (by.Person name) = refl
 performers e by.Starter = refl

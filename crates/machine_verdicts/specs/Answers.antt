@@ -4,10 +4,11 @@ use Rattle.core_laws.specs.RightStates.{IsRightState}
 use Rattle.flow_core.specs.Queries as engine
 use Rattle.flow_core.specs.declared.state.Core.{Core}
 use Rattle.flow_model.specs.declared.commands.Query.{Query}
-use Rattle.flow_model.specs.declared.commands.Query.TheVariants.{Output, Input, Queue, Audit, Templates}
+use Rattle.flow_model.specs.declared.commands.Query.TheVariants.{Output, Input, Worklist, Queue, Audit, Templates}
 use Rattle.machine_laws.specs.Answering as machine
 use Rattle.machine_laws.specs.Viewed.{view}
 use Rattle.view_laws.specs.Runs.{Event}
+use Rattle.worklist_laws.specs.Shelved.{IsRightAndListed}
 
 -- what is replied to a query over the engine's state is its reply over the machine's
 abbrev pub IsSeen : Core → Query → List ℕ → Type 0
@@ -34,3 +35,7 @@ OutputsAreSeen =
 abbrev pub InputsAreSeen : Type 0
 InputsAreSeen =
     (c : Core) (runs : ℕ → List Event) (token text : List ℕ) → IsRightState c runs → IsSeen c (Input token) text
+
+-- in a right state whose worklists hold exactly its open manual items it is so of WORKLIST
+abbrev pub WorklistsAreSeen : Type 0
+WorklistsAreSeen = (c : Core) (name text : List ℕ) → IsRightAndListed c → IsSeen c (Worklist name) text

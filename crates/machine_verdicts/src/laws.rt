@@ -3,7 +3,7 @@ ghost use Rattle.machine_verdicts.specs.Keyed.{BlanksAreKeyed, KeysStay, KeysSta
 ghost use Rattle.machine_verdicts.specs.Keyed.{AdmittedHaveFreeKeys};
 ghost use Rattle.machine_verdicts.specs.Verdicts.{VerdictsAreSeen, NotesAreSeen};
 ghost use Rattle.machine_verdicts.specs.Answers.{QueuesAreSeen, AuditsAreSeen, TemplatesAreSeen, OutputsAreSeen};
-ghost use Rattle.machine_verdicts.specs.Answers.{InputsAreSeen};
+ghost use Rattle.machine_verdicts.specs.Answers.{InputsAreSeen, WorklistsAreSeen};
 
 /// Law: before any transaction the keys are the machine's.
 pub fn blanks_are_keyed()
@@ -63,4 +63,9 @@ pub fn outputs_are_seen()
 /// Law: in a right state so it is of INPUT.
 pub fn inputs_are_seen()
     ensures { InputsAreSeen }
+{}
+
+/// Law: in a right state whose worklists hold exactly its open manual items it is so of WORKLIST.
+pub fn worklists_are_seen()
+    ensures { WorklistsAreSeen }
 {}
