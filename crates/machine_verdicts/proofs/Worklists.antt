@@ -1,6 +1,6 @@
 -- The worklist of a person over the engine's state is the machine's.
 use Rattle.std.proofs.Common.{◌≡◌, ℕ, ◌&&◌, ◌||◌, not, Bool, true, false, List, [], ◌∷◌, map, Option, Some, None}
-use Rattle.std.proofs.Common.{if◌then◌else◌, option_map, option_and_then, refl, sym, ap, subst, ◌∙◌}
+use Rattle.std.proofs.Common.{if◌then◌else◌, option_map, option_and_then, refl, sym, ap, ◌∙◌}
 use Rattle.std.specs.Prelude.{unwrap_or, slice_get, ◌==◌}
 use Rattle.std.specs.Option.{option_map_or}
 use Rattle.std.proofs.Math.Path.{fun_ext}
@@ -45,8 +45,8 @@ use Rattle.staff_worklists.specs.Rights.{is_eligible, holds_it}
 use Rattle.staff_worklists.specs.Shelves.{is_held, is_free}
 use Rattle.view_laws.specs.Runs.{Event}
 use Rattle.worklist_laws.proofs.ExactLines.{reply_exact}
-use Rattle.worklist_laws.specs.Exact.{may_see, IsForPerson, IsExact, ListsExactly}
-use Rattle.worklist_laws.specs.Shelved.{is_open_entry, goes_on, is_open_now, open_line, IsShelved}
+use Rattle.worklist_laws.specs.Exact.{may_see, IsForPerson, IsExact}
+use Rattle.worklist_laws.specs.Shelved.{is_open_entry, is_open_now, IsShelved}
 use Rattle.machine_verdicts.proofs.Answers.{IsLive, live_item, subject_so}
 use Rattle.machine_verdicts.proofs.Subjects.{performers}
 
@@ -159,7 +159,7 @@ module _ (c : Core) (runs : ℕ → List Event) (right : IsRightState c runs) (p
         let none = done_none (templates c) own.depth _ own.graph (input_now c path.root) there.instance.scope
         there.instance.terminated there.instance.suspended own.served.well own.shows so path.parts in
         let some : option_and_then open_of (entry_at (templates c) path.parts (stand own.graph there.instance.scope))
-            ≡ Some e.state =
+        ≡ Some e.state =
         ap (option_and_then open_of) there.there ∙ ap (λ b. if b then Some e.state else None) opens in
         absurd (none-some e.state (sym none ∙ some))
 
@@ -184,7 +184,7 @@ module _ (c : Core) (runs : ℕ → List Event) (right : IsRightState c runs) (p
           → machine.IsForPerson (view c) person path held
       of e found there =
           let now : (if not there.instance.terminated && is_open_entry e then if_manual (line e found there) else None)
-              ≡ Some is.line =
+          ≡ Some is.line =
           sym (ap (λ b. if b then line_now c path else None) (now_so e found there)
           ∙ ap (λ o. if not there.instance.terminated && is_open_entry e then o else None) (line_so e found there))
           ∙ is.opens in

@@ -1,12 +1,18 @@
 -- The reply to a query over the engine's state is its reply over the state of the machine.
-use Rattle.std.specs.Prelude.{ℕ, List}
+use Rattle.std.specs.Prelude.{◌≡◌, ℕ, Some, List}
 use Rattle.core_laws.specs.RightStates.{IsRightState}
+use Rattle.flow_core.specs.Driving.{templates}
 use Rattle.flow_core.specs.Queries as engine
 use Rattle.flow_core.specs.declared.state.Core.{Core}
+use Rattle.flow_model.specs.Rows.{deepest}
+use Rattle.flow_model.specs.ScopeContainers.{graph_of}
 use Rattle.flow_model.specs.declared.commands.Query.{Query}
-use Rattle.flow_model.specs.declared.commands.Query.TheVariants.{Output, Input, Worklist, Queue, Audit, Templates}
+use Rattle.flow_model.specs.declared.commands.Query.TheVariants.{Show, Output, Input, Worklist, Queue, Audit, Templates}
+use Rattle.flow_model.specs.declared.graphs.Graph.{Graph}
+use Rattle.flow_model.specs.declared.graphs.Template.{Template}
 use Rattle.machine_laws.specs.Answering as machine
 use Rattle.machine_laws.specs.Viewed.{view}
+use Rattle.navigator.specs.Serving.{Served}
 use Rattle.view_laws.specs.Runs.{Event}
 use Rattle.worklist_laws.specs.Shelved.{IsRightAndListed}
 
@@ -14,15 +20,15 @@ use Rattle.worklist_laws.specs.Shelved.{IsRightAndListed}
 abbrev pub IsSeen : Core → Query → List ℕ → Type 0
 IsSeen c query text = engine.IsAnswer c query text → machine.IsAnswer (view c) query text
 
--- so it is of QUEUE, of AUDIT and of TEMPLATES, in each state
+-- so it is of QUEUE in each state
 abbrev pub QueuesAreSeen : Type 0
 QueuesAreSeen = (c : Core) (number : ℕ) (text : List ℕ) → IsSeen c (Queue number) text
 
--- the reply to AUDIT is the machine's
+-- and of AUDIT
 abbrev pub AuditsAreSeen : Type 0
 AuditsAreSeen = (c : Core) (root : ℕ) (text : List ℕ) → IsSeen c (Audit root) text
 
--- the reply to TEMPLATES is the machine's
+-- and of TEMPLATES
 abbrev pub TemplatesAreSeen : Type 0
 TemplatesAreSeen = (c : Core) (text : List ℕ) → IsSeen c Templates text
 
@@ -39,3 +45,20 @@ InputsAreSeen =
 -- in a right state whose worklists hold exactly its open manual items it is so of WORKLIST
 abbrev pub WorklistsAreSeen : Type 0
 WorklistsAreSeen = (c : Core) (name text : List ℕ) → IsRightAndListed c → IsSeen c (Worklist name) text
+
+-- the processes of a library nest no deeper than this number of levels
+abbrev pub NestsWithin : List Template → ℕ → Type 0
+NestsWithin ts depth = (t : ℕ) (g : Graph) → graph_of ts t ≡ Some g → Served ts depth g
+
+-- in a right state whose processes nest no deeper than the machine looks it is so of SHOW
+abbrev pub ShowsAreSeen : Type 0
+ShowsAreSeen =
+    (c : Core) (runs : ℕ → List Event) (root : ℕ) (text : List ℕ) → IsRightState c runs
+    → NestsWithin (templates c) deepest → IsSeen c (Show root) text
+
+-- in a right state whose worklists hold exactly its open manual items, and whose processes nest no deeper than the
+-- machine looks, what is replied to each query is the machine's reply
+abbrev pub AnswersAreSeen : Type 0
+AnswersAreSeen =
+    (c : Core) (query : Query) (text : List ℕ) → IsRightAndListed c → NestsWithin (templates c) deepest
+    → IsSeen c query text

@@ -1,3 +1,4 @@
 pub mod Keyed
 pub mod Verdicts
 pub mod Answers
+pub mod Obeyed

@@ -3,7 +3,8 @@ ghost use Rattle.machine_verdicts.specs.Keyed.{BlanksAreKeyed, KeysStay, KeysSta
 ghost use Rattle.machine_verdicts.specs.Keyed.{AdmittedHaveFreeKeys};
 ghost use Rattle.machine_verdicts.specs.Verdicts.{VerdictsAreSeen, NotesAreSeen};
 ghost use Rattle.machine_verdicts.specs.Answers.{QueuesAreSeen, AuditsAreSeen, TemplatesAreSeen, OutputsAreSeen};
-ghost use Rattle.machine_verdicts.specs.Answers.{InputsAreSeen, WorklistsAreSeen};
+ghost use Rattle.machine_verdicts.specs.Answers.{InputsAreSeen, WorklistsAreSeen, ShowsAreSeen, AnswersAreSeen};
+ghost use Rattle.machine_verdicts.specs.Obeyed.{CommandsAreObeyed, RefusalsAreObeyed, SamesAreObeyed};
 
 /// Law: before any transaction the keys are the machine's.
 pub fn blanks_are_keyed()
@@ -68,4 +69,29 @@ pub fn inputs_are_seen()
 /// Law: in a right state whose worklists hold exactly its open manual items it is so of WORKLIST.
 pub fn worklists_are_seen()
     ensures { WorklistsAreSeen }
+{}
+
+/// Law: in a right state whose processes nest no deeper than the machine looks it is so of SHOW.
+pub fn shows_are_seen()
+    ensures { ShowsAreSeen }
+{}
+
+/// Law: in such a state whose worklists hold exactly its open manual items it is so of each query.
+pub fn answers_are_seen()
+    ensures { AnswersAreSeen }
+{}
+
+/// Law: in a right, keyed state a transaction is made and replied to as the machine makes it and replies to it.
+pub fn commands_are_obeyed()
+    ensures { CommandsAreObeyed }
+{}
+
+/// Law: a command that is refused is replied to as the machine replies.
+pub fn refusals_are_obeyed()
+    ensures { RefusalsAreObeyed }
+{}
+
+/// Law: a START with the key of a live root is replied to as the machine replies.
+pub fn sames_are_obeyed()
+    ensures { SamesAreObeyed }
 {}
