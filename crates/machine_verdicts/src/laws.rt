@@ -1,4 +1,4 @@
-//! The laws: the keys of the engine are those of the machine, and so are its verdicts.
+//! The laws: the keys of the engine are those of the machine, and so are its verdicts, its replies and its answers.
 ghost use Rattle.machine_verdicts.specs.Keyed.{BlanksAreKeyed, KeysStay, KeysStayAdopted, VerdictsHaveFreeKeys};
 ghost use Rattle.machine_verdicts.specs.Keyed.{AdmittedHaveFreeKeys};
 ghost use Rattle.machine_verdicts.specs.Verdicts.{VerdictsAreSeen, NotesAreSeen};
