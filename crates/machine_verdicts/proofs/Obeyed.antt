@@ -1,6 +1,8 @@
--- What a command makes of the engine's state, and what is replied, is what the machine makes and replies.
+-- What a command, or the record of a store, makes of the engine's state is what the machine makes, and so is the reply.
 use Rattle.std.proofs.Common.{ℕ, ◌+◌, List, refl}
 use Rattle.core_laws.specs.RightStates.{IsRightState}
+use Rattle.flow_core.specs.Admitting.{IsAdmitted}
+use Rattle.flow_core.specs.Allowing.{IsAllowed}
 use Rattle.flow_core.specs.Judgements.{IsVerdict}
 use Rattle.flow_core.specs.Replies.{applied_text, refusal_text}
 use Rattle.flow_core.specs.Refusals.{IsInOrder}
@@ -14,17 +16,18 @@ use Rattle.flow_model.specs.declared.transactions.Transaction.{Transaction}
 use Rattle.flow_model.specs.declared.transactions.Transaction.TheVariants.{Import, Start, Turn, Claim, Release}
 use Rattle.flow_model.specs.declared.transactions.Transaction.TheVariants.{Transfer, Take, Done, Force, Restart}
 use Rattle.flow_model.specs.declared.transactions.Transaction.TheVariants.{Suspend, Resume, Terminate, Delete, Clock}
-use Rattle.machine_laws.specs.Applied.{Applied}
+use Rattle.machine_laws.specs.Applied.{Applied, Adopted}
 use Rattle.machine_laws.specs.Right.{HoldsOpen}
-use Rattle.machine_laws.specs.Script.{IsObeyed, same_text}
+use Rattle.machine_laws.specs.Script.{IsObeyed, same_text, StepsAs}
 use Rattle.machine_laws.specs.Viewed.{view}
+use Rattle.machine_laws.proofs.AdoptedSteps.{adopted_step}
 use Rattle.machine_laws.proofs.AppliedSteps.{applied_step}
-use Rattle.machine_laws.proofs.Good.{verdict_good}
+use Rattle.machine_laws.proofs.Good.{verdict_good, admitted_good}
 use Rattle.view_laws.specs.Runs.{Event}
-use Rattle.worklist_laws.proofs.OpenAsked.{verdict_asks}
+use Rattle.worklist_laws.proofs.OpenAsked.{verdict_asks, admitted_asks}
 use Rattle.worklist_laws.specs.Asking.{AsksOpen}
 use Rattle.machine_verdicts.specs.Keyed.{AreKeyed}
-use Rattle.machine_verdicts.proofs.Keyed.{applied_keyed, verdict_free}
+use Rattle.machine_verdicts.proofs.Keyed.{applied_keyed, adopted_keyed, verdict_free, admitted_free}
 use Rattle.machine_verdicts.proofs.Verdicts.{verdict_seen, note_seen}
 
 -- what a command has asked of an item whose hold it changes
@@ -68,3 +71,13 @@ pub same_obeyed : (c : Core) (command : Command) (root : ℕ) → IsInOrder c �
     → IsVerdict c command (Same root) → IsObeyed (view c) (view c) command (same_text root)
 same_obeyed c command root order keyed is =
     (Same root, verdict_seen c command (Same root) order keyed is, (refl, refl))
+
+pub record_adopted : (c c' : Core) (number : ℕ) (t : Transaction) (runs : ℕ → List Event) → IsRightState c runs
+    → AreKeyed c → IsAllowed c t → IsAdmitted c number t → Adopted c number t c'
+    → StepsAs number (view c) t (view c') × AreKeyed c'
+record_adopted c c' number t runs right keyed is admitted adopted =
+    let good = admitted_good c number t admitted in
+    let opens = holds_open c t (admitted_asks c number t admitted) in (
+      adopted_step c c' number t runs right is opens good admitted.place adopted,
+      adopted_keyed c c' number t runs right is good (admitted_free c number t admitted) keyed adopted,
+    )

@@ -1,6 +1,9 @@
--- What a command makes of the engine's state, and what is replied, is what the machine makes and replies.
+-- What a command makes of the engine's state, and what is replied, is what the machine makes and replies; and so is
+-- what the record of a store makes of it.
 use Rattle.std.specs.Prelude.{◌+◌, ℕ, List}
 use Rattle.core_laws.specs.RightStates.{IsRightState}
+use Rattle.flow_core.specs.Admitting.{IsAdmitted}
+use Rattle.flow_core.specs.Allowing.{IsAllowed}
 use Rattle.flow_core.specs.Judgements.{IsVerdict}
 use Rattle.flow_core.specs.Replies.{applied_text, refusal_text}
 use Rattle.flow_core.specs.Refusals.{IsInOrder}
@@ -11,8 +14,8 @@ use Rattle.flow_core.specs.declared.refusals.Refusal.{Refusal}
 use Rattle.flow_core.specs.declared.state.Core.{Core}
 use Rattle.flow_model.specs.declared.commands.Command.{Command}
 use Rattle.flow_model.specs.declared.transactions.Transaction.{Transaction}
-use Rattle.machine_laws.specs.Applied.{Applied}
-use Rattle.machine_laws.specs.Script.{IsObeyed, same_text}
+use Rattle.machine_laws.specs.Applied.{Applied, Adopted}
+use Rattle.machine_laws.specs.Script.{IsObeyed, same_text, StepsAs}
 use Rattle.machine_laws.specs.Viewed.{view}
 use Rattle.view_laws.specs.Runs.{Event}
 use Rattle.machine_verdicts.specs.Keyed.{AreKeyed}
@@ -36,3 +39,10 @@ abbrev pub SamesAreObeyed : Type 0
 SamesAreObeyed =
     (c : Core) (command : Command) (root : ℕ) → IsInOrder c → AreKeyed c → IsVerdict c command (Same root)
     → IsObeyed (view c) (view c) command (same_text root)
+
+-- in a right state whose keys are the machine's, what is made of a record that is admitted is a step of the machine
+-- under the number of the record, and the keys stay the machine's
+abbrev pub RecordsAreAdopted : Type 0
+RecordsAreAdopted =
+    (c c' : Core) (number : ℕ) (t : Transaction) (runs : ℕ → List Event) → IsRightState c runs → AreKeyed c
+    → IsAllowed c t → IsAdmitted c number t → Adopted c number t c' → StepsAs number (view c) t (view c') × AreKeyed c'

@@ -4,7 +4,7 @@ ghost use Rattle.machine_verdicts.specs.Keyed.{AdmittedHaveFreeKeys};
 ghost use Rattle.machine_verdicts.specs.Verdicts.{VerdictsAreSeen, NotesAreSeen};
 ghost use Rattle.machine_verdicts.specs.Answers.{QueuesAreSeen, AuditsAreSeen, TemplatesAreSeen, OutputsAreSeen};
 ghost use Rattle.machine_verdicts.specs.Answers.{InputsAreSeen, WorklistsAreSeen, ShowsAreSeen, AnswersAreSeen};
-ghost use Rattle.machine_verdicts.specs.Obeyed.{CommandsAreObeyed, RefusalsAreObeyed, SamesAreObeyed};
+ghost use Rattle.machine_verdicts.specs.Obeyed.{CommandsAreObeyed, RefusalsAreObeyed, SamesAreObeyed, RecordsAreAdopted};
 
 /// Law: before any transaction the keys are the machine's.
 pub fn blanks_are_keyed()
@@ -94,4 +94,9 @@ pub fn refusals_are_obeyed()
 /// Law: a START with the key of a live root is replied to as the machine replies.
 pub fn sames_are_obeyed()
     ensures { SamesAreObeyed }
+{}
+
+/// Law: in a right, keyed state what is made of an admitted record is a step of the machine under its number.
+pub fn records_are_adopted()
+    ensures { RecordsAreAdopted }
 {}
