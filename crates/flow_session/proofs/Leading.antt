@@ -22,6 +22,7 @@ use Rattle.machine_laws.proofs.Good.{verdict_good, admitted_good}
 use Rattle.machine_laws.specs.Applied.{Applied}
 use Rattle.machine_laws.specs.Right.{HoldsOpen}
 use Rattle.machine_laws.specs.Viewed.{view}
+use Rattle.machine_verdicts.proofs.Keyed.{applied_keyed, verdict_free, admitted_free}
 use Rattle.worklist_laws.proofs.OpenAsked.{verdict_asks, admitted_asks}
 use Rattle.worklist_laws.specs.Asking.{AsksOpen}
 use Rattle.flow_session.specs.Histories.{after}
@@ -32,7 +33,7 @@ use Rattle.flow_session.proofs.Calls.{after_append, makes_more, makes_so}
 -- ---- no transaction, and one behind others
 
 pub leads_none : (c : Core) → LeadsBy c [] c
-leads_none c = record { came = refl; right = λ right. right; steps = λ right. refl }
+leads_none c = record { came = refl; right = λ right. right; steps = λ right. refl; keyed = λ right keyed. keyed }
 
 runs_more : (s : State) (ts us : List Transaction) (mid s' : State) → Runs s ts mid → Runs mid us s'
     → Runs s (ts ++ us) s'
@@ -45,6 +46,7 @@ leads_more c d e ts us first second = record {
   right = λ right. second.right (first.right right);
   steps = λ right.
       runs_more (view c) ts us (view d) (view e) (first.steps right) (second.steps (first.right right));
+  keyed = λ right keyed. second.keyed (first.right right) (first.keyed right keyed);
 }
 
 -- ---- one transaction
@@ -88,6 +90,9 @@ leads_one c c' command t is applied counts = record {
         (verdict_good c command t right.1.indexed is) applied,
     refl,
   );
+  keyed = λ right keyed.
+      applied_keyed c c' t right.0 right.1 is.2 (verdict_good c command t right.1.indexed is)
+      (verdict_free c command t is) keyed applied;
 }
 
 pub leads_by : (c c' : Core) (command : Command) (v : Verdict) (t : Transaction) → IsVerdict c command v → v ≡ Do t
@@ -112,6 +117,9 @@ leads_adopted c c' number t admitted is applied counts = record {
         (admitted_good c number t due) applied,
     refl,
   ));
+  keyed = λ right keyed. (let due = admitted right.1.indexed in
+      applied_keyed c c' t right.0 right.1 is (admitted_good c number t due) (admitted_free c number t due) keyed
+      applied);
 }
 
 -- a transaction to which a command is judged, where the call succeeds

@@ -17,6 +17,8 @@ use Rattle.machine_laws.proofs.AdoptedSteps.{adopted_step}
 use Rattle.machine_laws.proofs.Good.{admitted_good}
 use Rattle.machine_laws.specs.Script.{StepsAs, StateOf}
 use Rattle.machine_laws.specs.Viewed.{view, root_of}
+use Rattle.machine_verdicts.proofs.Keyed.{adopted_keyed, admitted_free, blank_keyed}
+use Rattle.machine_verdicts.specs.Keyed.{AreKeyed}
 use Rattle.recover_queue.specs.Queues.{is_quiet}
 use Rattle.txn_log.specs.Opening.{IsOpened}
 use Rattle.txn_log.specs.Records.{payloads_of}
@@ -81,6 +83,12 @@ adopts_step c c' payload one right =
     (holds_asked c one.transaction (admitted_asks c one.number one.transaction one.admitted))
     (admitted_good c one.number one.transaction one.admitted) one.admitted.place one.adopted
 
+one_keyed : (c c' : Core) (payload : List ℕ) → AdmitsOne c payload c' → IsRightCore c → AreKeyed c → AreKeyed c'
+one_keyed c c' payload one right keyed =
+    adopted_keyed c c' one.number one.transaction right.0 right.1 one.allowed
+    (admitted_good c one.number one.transaction one.admitted) (admitted_free c one.number one.transaction one.admitted)
+    keyed one.adopted
+
 -- one more behind others
 state_more : (s : State) (ns : List Numbered) (n : Numbered) (mid s' : State) → StateOf s ns mid
     → StepsAs n.number mid n.transaction s' → StateOf s (ns ++ n ∷ []) s'
@@ -93,12 +101,15 @@ record Replayed (c : Core) (bytes : List (List ℕ)) (c' : Core) : Type 0 where
   pub records : List Numbered
   pub spelled : payloads records ≡ bytes
   pub right : IsRightCore c'
+  pub keyed : AreKeyed c'
   pub state : StateOf (view c) records (view c')
 
-all_replayed : (c : Core) (bytes : List (List ℕ)) (c' : Core) → Admits c bytes c' → IsRightCore c → Replayed c bytes c'
-all_replayed c _ _ NoRecord right = record { records = []; spelled = refl; right = right; state = refl }
-all_replayed c _ _ (OneRecord {payloads = bytes} {payload} {c'} {c''} admits one) right =
-    let before = all_replayed c bytes c' admits right in
+all_replayed : (c : Core) (bytes : List (List ℕ)) (c' : Core) → Admits c bytes c' → IsRightCore c → AreKeyed c
+    → Replayed c bytes c'
+all_replayed c _ _ NoRecord right keyed =
+    record { records = []; spelled = refl; right = right; keyed = keyed; state = refl }
+all_replayed c _ _ (OneRecord {payloads = bytes} {payload} {c'} {c''} admits one) right keyed =
+    let before = all_replayed c bytes c' admits right keyed in
     let n : Numbered = record { number = one.number; transaction = one.transaction } in
     record {
       records = before.records ++ n ∷ [];
@@ -106,6 +117,7 @@ all_replayed c _ _ (OneRecord {payloads = bytes} {payload} {c'} {c''} admits one
           ∙ ap (λ (xs : List (List ℕ)). xs ++ record_bytes n.number n.transaction ∷ []) before.spelled
           ∙ ap (λ (x : List ℕ). bytes ++ x ∷ []) one.spelled;
       right = one_right c' c'' payload one before.right;
+      keyed = one_keyed c' c'' payload one before.right before.keyed;
       state = state_more (view c) before.records n (view c') (view c'') before.state
           (adopts_step c' c'' payload one before.right);
     }
@@ -122,7 +134,7 @@ replays image opened c is leads =
     has_queue image opened.log.slot h (payloads_of opened.records) opened.log.end is in
     let right : IsRightCore first =
     (begun_right first (under h) begins.blank begins.kept begins.counts some_).0 in
-    let all = all_replayed first (payloads_of opened.records) c leads.2 right in
+    let all = all_replayed first (payloads_of opened.records) c leads.2 right (blank_keyed first begins.blank) in
     record {
       slot = opened.log.slot;
       header = h;
@@ -131,4 +143,5 @@ replays image opened c is leads =
       counts = is ∙ ap (λ (ps : List (List ℕ)). Counts opened.log.slot h ps opened.log.end) (sym all.spelled);
       state = subst (λ (s : State). StateOf s all.records (view c)) (blank_seen first (under h) begins.blank begins.counts)
           all.state;
+      keyed = all.keyed;
     }

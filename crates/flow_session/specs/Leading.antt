@@ -7,15 +7,17 @@ use Rattle.flow_disk.specs.Images.{Image}
 use Rattle.flow_model.specs.declared.transactions.Transaction.{Transaction}
 use Rattle.machine.specs.Steps.{Runs}
 use Rattle.machine_laws.specs.Viewed.{view}
+use Rattle.machine_verdicts.specs.Keyed.{AreKeyed}
 use Rattle.flow_session.specs.Histories.{after}
 use Rattle.flow_session.specs.Serving.{Makes}
 
 -- These transactions, one after the other, lead from a state to another: the summary is the one after them, and a right
--- state stays right, and each of them is a step of the machine.
+-- state stays right, each of them is a step of the machine, and the keys stay those of the live STARTs.
 pub record LeadsBy (c : Core) (ts : List Transaction) (c' : Core) : Type 0 where
   pub came : summary c' ≡ after (summary c) ts
   pub right : IsRightCore c → IsRightCore c'
   pub steps : IsRightCore c → Runs (view c) ts (view c')
+  pub keyed : IsRightCore c → AreKeyed c → AreKeyed c'
 
 -- A call makes transactions, and where it succeeds they lead from the state before it to the one after it.
 abbrev pub MakesSteps : {J T E : Type 0} → Type 0 → (J → ℕ) → (J → ℕ → Image → Type 0) → J → J → Core → Core

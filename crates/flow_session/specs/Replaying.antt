@@ -7,6 +7,7 @@ use Rattle.flow_model.specs.declared.transactions.Numbered.{Numbered}
 use Rattle.machine.specs.States.{State, blank}
 use Rattle.machine_laws.specs.Script.{StateOf}
 use Rattle.machine_laws.specs.Viewed.{view}
+use Rattle.machine_verdicts.specs.Keyed.{AreKeyed}
 use Rattle.txn_log.specs.Stores.{Counts, store_of}
 use Rattle.txn_log.specs.declared.header.Header.{Header}
 use Rattle.flow_session.specs.Histories.{payloads}
@@ -15,7 +16,8 @@ use Rattle.flow_session.specs.Histories.{payloads}
 abbrev pub blank_under : Header → State
 blank_under h = record (blank h.queues h.limit) { transactions = h.transactions; last_root = h.roots }
 
--- the slot that counts has records that lead, one after the other, from the state under its header to this state
+-- The slot that counts has records that lead, one after the other, from the state under its header to this state, whose
+-- keys are those of its live STARTs.
 pub record Replays (image : Image) (c : Core) : Type 0 where
   pub slot : Slot
   pub header : Header
@@ -23,3 +25,4 @@ pub record Replays (image : Image) (c : Core) : Type 0 where
   pub end : ℕ
   pub counts : store_of image ≡ Counts slot header (payloads records) end
   pub state : StateOf (blank_under header) records (view c)
+  pub keyed : AreKeyed c

@@ -5,6 +5,7 @@ ghost use Rattle.flow_disk.specs.Moments.{LeavesOnly};
 ghost use Rattle.flow_model.specs.declared.commands.Command.TheVariants.{Checkpoint};
 ghost use Rattle.flow_core.specs.declared.applying.Note.{Note as NoteOf};
 ghost use Rattle.worklist_laws.specs.Asking.{AsksOpen};
+ghost use Rattle.machine_verdicts.specs.Keyed.{AreKeyed};
 ghost use Rattle.worklist_laws.specs.Shelved.{IsRightAndListed};
 ghost use Rattle.flow_core.specs.Allowing.{IsAllowed, CountsRoot};
 ghost use Rattle.flow_core.specs.Replies.{applied_text, refusal_text};
@@ -142,6 +143,7 @@ impl Session {
         ensures begins { IfOk result (λ session. summary session.core
             ≡ record { queues = queues; limit = limit; transactions = 0; roots = 0; live = [] }) }
         ensures state { IfOk result (λ session. view session.core ≡ blank queues limit) }
+        ensures keyed { IfOk result (λ session. AreKeyed session.core) }
         ensures right { 1 ≤ queues → IfOk result (λ session. IsRightAndListed session.core) }
         ensures outside { IfOk result (λ session. unended session ≡ None) }
     {

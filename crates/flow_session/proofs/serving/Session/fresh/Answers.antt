@@ -1,3 +1,4 @@
+use Rattle.machine_verdicts.proofs.Keyed.{blank_keyed}
 use Rattle.flow_session.proofs.Replaying.{blank_seen}
 use Rattle.flow_session.proofs.Rights.{begun_right}
 use Rattle.flow_session.proofs.serving.Session.fresh.Goals as goal
@@ -7,3 +8,6 @@ returns-clause-right c = λ some_. begun_right c.in_ok-new.field-0 _ c.in_ok-new
 
 pub returns-clause-state : goal.returns-clause-state
 returns-clause-state c = blank_seen c.in_ok-new.field-0 _ c.in_ok-new.ensures.blank c.in_ok-new.ensures.begins
+
+pub returns-clause-keyed : goal.returns-clause-keyed
+returns-clause-keyed c = blank_keyed c.in_ok-new.field-0 c.in_ok-new.ensures.blank
