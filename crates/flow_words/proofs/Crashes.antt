@@ -1,15 +1,18 @@
 -- What the words leave of a store.
-use Rattle.std.proofs.Common.{◌≡◌, inl, ℕ, Result, Ok, Err, OnOk, MatchResult, [], refl, arith}
+use Rattle.std.proofs.Common.{◌≡◌, inl, inr, ℕ, Some, Result, Ok, Err, OnOk, MatchResult, [], refl, arith}
 use Rattle.std.proofs.lemmas.List.Elements.{All-nil}
 use Rattle.flow_disk.specs.declared.disk.Slot.TheVariants.{A}
 use Rattle.flow_disk.specs.Images.{Image}
-use Rattle.flow_disk.specs.Moments.{Only}
-use Rattle.txn_log.specs.Opening.{MayBeMade, first_header}
+use Rattle.txn_log.specs.Opening.{first_header}
 use Rattle.txn_log.specs.Stores.{Counts, store_of}
 use Rattle.flow_session.specs.Histories.{StandsFor, IsLive}
-use Rattle.flow_session.proofs.Keeping.{nothing_done}
 use Rattle.flow_words.specs.declared.status.Status.{Status}
-use Rattle.flow_words.specs.Crashes.{IsFailing, EndsDone, empty_history, MakesStore}
+use Rattle.flow_words.specs.Crashes.{IsFailing, EndsDone, empty_history, ServesFiles, LeavesAtCrash}
+use Rattle.flow_words.specs.Outside.{Files}
+use Rattle.flow_words.specs.Scripts.{status_of_word}
+use Rattle.flow_words.specs.declared.status.Status.TheVariants.{Done}
+use Rattle.flow_words.specs.declared.word.Word.{Word}
+use Rattle.flow_words.specs.declared.word.Word.TheVariants.{Check, Fate, Try, Load, New, Run, Follow, Explain, Verify, Overdue, Ship}
 
 -- what is so under Ok, and later
 pub later_ok : {T E : Type 0} (r : Result T E) (T' P : Type 0) → (T' → OnOk r P) → OnOk r (T' → P)
@@ -34,12 +37,34 @@ stands_new queues limit image counts = record {
   live = All-nil (IsLive (empty_history queues limit));
 }
 
-module _ {D : Type 0} (moment : D → ℕ) (left_since : D → ℕ → Image → Type 0) (seen : D → Image) (images : D → Image → Type 0) where
-  -- no store is made
-  pub made_none : ((disk : D) (c : Image) → left_since disk (moment disk) c → images disk c) → (disk : D) (IsDone : Type 0) → Only (seen disk) (images disk) → (IsDone → ⊥) → MakesStore moment left_since seen images disk disk IsDone
-  made_none only_now disk IsDone only never = record {
-    queues = 0;
-    limit = 0;
-    any_moment = nothing_done moment left_since disk (MayBeMade 0 0 (seen disk)) (λ c left. inl (only c (only_now disk c left)));
-    made = λ done. absurd (never done);
-  }
+-- how a word ends, by its status
+pub ended_done : (r : Result Status Status) → status_of_word r ≡ Done → EndsDone r
+ended_done (Ok status) done = done
+ended_done (Err status) done = done
+
+module _ {D : Type 0} (f : Files D) (r : Result Status Status) where
+  serves_ended : ServesFiles f (EndsDone r) → ServesFiles f (status_of_word r ≡ Done)
+  serves_ended (inl keeps) = inl keeps
+  serves_ended (inr serves) = inr (record {
+    before = serves.before;
+    stood = serves.stood;
+    makes = record {
+      transactions = serves.makes.transactions;
+      any_moment = serves.makes.any_moment;
+      ended = λ done image left. serves.makes.ended (ended_done r done) image left;
+    };
+  })
+
+  -- what a crash leaves under a word, by the status that it ends with
+  pub crash_ended : (word : Word) → LeavesAtCrash (Some word) f (EndsDone r) → LeavesAtCrash (Some word) f (status_of_word r ≡ Done)
+  crash_ended Check leaves = leaves
+  crash_ended Fate leaves = leaves
+  crash_ended (Try settings) leaves = leaves
+  crash_ended (Load seed roots) leaves = leaves
+  crash_ended (New settings) leaves = record { any_moment = leaves.any_moment; made = λ done. leaves.made (ended_done r done) }
+  crash_ended Run leaves = serves_ended leaves
+  crash_ended Follow leaves = serves_ended leaves
+  crash_ended Explain leaves = leaves
+  crash_ended Verify leaves = leaves
+  crash_ended Overdue leaves = leaves
+  crash_ended (Ship number) leaves = leaves

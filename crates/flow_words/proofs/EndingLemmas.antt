@@ -1,5 +1,5 @@
 -- How one reason for an end gives another.
-use Rattle.std.proofs.Common.{◌≡◌, ℕ, Err, subst, sym, arith}
+use Rattle.std.proofs.Common.{◌≡◌, ℕ, Option, List, Err, inl, inr, subst, sym, arith}
 use Rattle.flow_io.specs.Told.{StopCause}
 use Rattle.flow_io.specs.declared.lines.IoStop.{IoStop}
 use Rattle.flow_io.specs.declared.lines.IoStop.TheVariants as stop
@@ -11,6 +11,7 @@ use Rattle.flow_session.specs.declared.serving.Stop.{Stop}
 use Rattle.flow_session.specs.declared.serving.Stop.TheVariants as session
 use Rattle.flow_words.specs.declared.status.Status.{Status}
 use Rattle.flow_words.specs.declared.status.Status.TheVariants.{Done, Usage, Store, StoreFault, ReadFault, WriteFault, NoMemory, ScriptTooLong, Refused}
+use Rattle.flow_words.specs.Printed.{Prints}
 use Rattle.flow_words.specs.Endings.{PrintCause, ServeCause, RunCause, EndCause, WordCause, status_of, status_of_stop}
 
 -- a reader that stops ends the run
@@ -63,6 +64,18 @@ ends_run read read' put put' Refused h = tt
 pub ends_print : (read read' put put' : ℕ) (s : Status) → PrintCause put put' s → EndCause read read' put put' s
 ends_print read read' put put' s h = ends_run read read' put put' s (run_prints read read' put put' 0 0 s h)
 
+-- a reader that stops ends a word that needs no store
+pub ends_stops : (read read' put put' : ℕ) (s : IoStop) → StopCause read read' s → EndCause read read' put put' (status_of s)
+ends_stops read read' put put' stop.ReadFault h = h
+ends_stops read read' put put' stop.ScriptTooLong h = tt
+ends_stops read read' put put' stop.NoMemory h = tt
+
+-- words that are none end so
+pub ends_usage : (read read' put put' store store' : ℕ) (text : List ℕ) (held held' : Option (List ℕ)) (s : Status) → Prints text Usage held held' s → WordCause read read' put put' store store' s → EndCause read read' put put' s
+ends_usage read read' put put' store store' text held held' s (inl printed) h = subst (EndCause read read' put put') (sym printed.0) tt
+ends_usage read read' put put' store store' text held held' s (inr part) h =
+    subst (EndCause read read' put put') (sym part.0) (let rose : WordCause read read' put put' store store' WriteFault = subst (WordCause read read' put put' store store') part.0 h in rose)
+
 -- a run that ends a word over a store
 pub word_runs : (read read' put put' store store' : ℕ) (s : Status) → RunCause read read' put put' store store' s → WordCause read read' put put' store store' s
 word_runs read read' put put' store store' Done h = tt
@@ -74,18 +87,6 @@ word_runs read read' put put' store store' WriteFault h = h
 word_runs read read' put put' store store' NoMemory h = tt
 word_runs read read' put put' store store' ScriptTooLong h = tt
 word_runs read read' put put' store store' Refused h = tt
-
--- a word that needs no store
-pub word_ends : (read read' put put' store store' : ℕ) (s : Status) → EndCause read read' put put' s → WordCause read read' put put' store store' s
-word_ends read read' put put' store store' Done h = tt
-word_ends read read' put put' store store' Usage h = tt
-word_ends read read' put put' store store' Store h = tt
-word_ends read read' put put' store store' StoreFault h = absurd h
-word_ends read read' put put' store store' ReadFault h = h
-word_ends read read' put put' store store' WriteFault h = h
-word_ends read read' put put' store store' NoMemory h = tt
-word_ends read read' put put' store store' ScriptTooLong h = tt
-word_ends read read' put put' store store' Refused h = tt
 
 -- a reply that ends a word over a store
 pub word_prints : (read read' put put' store store' : ℕ) (s : Status) → PrintCause put put' s → WordCause read read' put put' store store' s

@@ -1,10 +1,8 @@
+pub mod Saying
 pub mod EndingLemmas
 pub mod Crashes
 pub mod Printing
-pub mod Unknown
-pub mod Words
 pub mod Serving
-pub mod Tries
 pub mod Verdicts
 pub mod Decimals
 pub mod Loads

@@ -27,9 +27,10 @@ use Rattle.flow_session.specs.declared.serving.Session.{Session}
 use Rattle.flow_session.proofs.Calls.{makes_nothing}
 use Rattle.flow_session.proofs.Scripts.{are_runs}
 use Rattle.text_words.specs.Gathered.{found_input}
+use Rattle.text_words.specs.Limits.{IsWithinLimit, IsBeyondLimit}
 use Rattle.flow_words.specs.Endings.{status_of, ServeCause}
 use Rattle.flow_words.specs.Printed.{PrintsPart}
-use Rattle.flow_words.specs.Scripts.{input_of, script_inputs, AreFirst, IsWithinLimit, IsBeyondLimit, all_replies, ServesAndPrints, ServesScript}
+use Rattle.flow_words.specs.Scripts.{input_of, script_inputs, AreFirst, all_replies, ServesAndPrints, ServesScript}
 use Rattle.flow_words.specs.declared.status.Status.{Status}
 use Rattle.flow_words.specs.declared.status.Status.TheVariants.{ReadFault, WriteFault, NoMemory, ScriptTooLong}
 

@@ -1,18 +1,19 @@
 -- What the words of a standby store print.
-use Rattle.std.proofs.Common.{◌≡◌, inr, ◌∙◌, ℕ, Option, Some, List, Err, refl, subst}
-use Rattle.flow_disk.specs.Images.{Image}
+use Rattle.std.proofs.Common.{◌≡◌, inr, ◌∙◌, ℕ, Option, List, Err, refl, subst, arith}
 use Rattle.txn_log.specs.declared.stops.LogStop.{LogStop}
+use Rattle.txn_log.specs.declared.stops.LogStop.TheVariants as log
+use Rattle.flow_session.specs.Stopping.{IsOpenCause}
+use Rattle.standby.specs.Endings.{ShipEnd}
+use Rattle.standby.specs.declared.stops.ShipStop.{ShipStop}
+use Rattle.standby.specs.declared.stops.ShipStop.TheVariants as ship
+use Rattle.flow_words.specs.Endings.{WordCause}
 use Rattle.standby.specs.Texts.{follow_refusal_line}
 use Rattle.standby.specs.declared.stops.FollowStop.{FollowStop}
 use Rattle.standby.specs.declared.stops.FollowStop.TheVariants as follow
 use Rattle.flow_words.specs.Following.{PrintsLine, PrintsResult}
 use Rattle.flow_words.specs.Printed.{Prints}
-use Rattle.flow_words.specs.Shipping.{PrintsShipped, IsShipWord, ShipsNamed}
 use Rattle.flow_words.specs.declared.status.Status.{Status}
-use Rattle.flow_words.specs.declared.status.Status.TheVariants.{Refused}
-use Rattle.flow_words.specs.declared.stored.Look.{Look}
-use Rattle.flow_words.specs.declared.stored.Look.TheVariants.{Explain, Verify, Overdue, Ship}
-use Rattle.flow_words.specs.declared.stored.Word.TheVariants.{Look as LookInto}
+use Rattle.flow_words.specs.declared.status.Status.TheVariants.{Done, Usage, Store, StoreFault, ReadFault, WriteFault, NoMemory, ScriptTooLong, Refused}
 
 module _ (held held' : Option (List ℕ)) (ended : Status) where
   -- a line that there was memory for
@@ -31,10 +32,35 @@ module _ (held held' : Option (List ℕ)) (ended : Status) where
   refusal_printed follow.TooLong store read long memory printed = absurd (long refl)
   refusal_printed follow.NoMemory store read long memory printed = absurd (memory refl)
 
--- what is shipped from the number of a word
-pub ships_named : {D : Type 0} (tells : Type 0) (seen : D → Image) (word : List ℕ) (look : Look) (held held' : Option (List ℕ)) (disk : D) (ended : Status) → IsShipWord word (Some (LookInto look)) → ((from : ℕ) → look ≡ Ship from → PrintsShipped tells seen from held held' disk ended)
-    → ShipsNamed tells seen word held held' disk ended
-ships_named tells seen word (Ship from) held held' disk ended names ships = (from, names, ships from refl)
-ships_named tells seen word Explain held held' disk ended names ships = absurd names
-ships_named tells seen word Verify held held' disk ended names ships = absurd names
-ships_named tells seen word Overdue held held' disk ended names ships = absurd names
+-- ---- why shipping ends
+
+-- the sink's count stayed where the sink didn't fail
+pub sink_stayed : (from before now : ℕ) (s : ShipStop) → ShipEnd from before now s → (s ≡ ship.WriteFault → ⊥) → now ≡ before
+sink_stayed from before now (ship.Store stop) ends other = ends
+sink_stayed from before now (ship.Gone kept) ends other = ends.1
+sink_stayed from before now (ship.Ahead number) ends other = ends.1
+sink_stayed from before now ship.WriteFault ends other = absurd (other refl)
+sink_stayed from before now ship.NoMemory ends other = ends
+
+-- where no fault of the store is answered, its counts are of no account
+other_counts : (read read' put put' before now store store' : ℕ) (s : Status) → (s ≡ StoreFault → ⊥) → WordCause read read' put put' before now s → WordCause read read' put put' store store' s
+other_counts read read' put put' before now store store' Done other h = tt
+other_counts read read' put put' before now store store' Usage other h = tt
+other_counts read read' put put' before now store store' Store other h = tt
+other_counts read read' put put' before now store store' StoreFault other h = absurd (other refl)
+other_counts read read' put put' before now store store' ReadFault other h = h
+other_counts read read' put put' before now store store' WriteFault other h = h
+other_counts read read' put put' before now store store' NoMemory other h = tt
+other_counts read read' put put' before now store store' ScriptTooLong other h = tt
+other_counts read read' put put' before now store store' Refused other h = tt
+
+-- a store that isn't opened for some cause, of which the counts aren't known
+pub refused_cause : (stop : LogStop) (read read' put put' store store' : ℕ) (s : Status)
+    → ((before now : ℕ) → IsOpenCause before now stop → WordCause read read' put put' before now s)
+    → (s ≡ StoreFault → ⊥) → WordCause read read' put put' store store' s
+refused_cause log.StoreFault read read' put put' store store' s cause other = other_counts read read' put put' 0 1 store store' s other (cause 0 1 (omega arith))
+refused_cause log.Unmade read read' put put' store store' s cause other = other_counts read read' put put' 0 0 store store' s other (cause 0 0 refl)
+refused_cause log.Made read read' put put' store store' s cause other = other_counts read read' put put' 0 0 store store' s other (cause 0 0 refl)
+refused_cause (log.Foreign slot) read read' put put' store store' s cause other = other_counts read read' put put' 0 0 store store' s other (cause 0 0 refl)
+refused_cause (log.Damaged slot place) read read' put put' store store' s cause other = other_counts read read' put put' 0 0 store store' s other (cause 0 0 refl)
+refused_cause log.NoMemory read read' put put' store store' s cause other = other_counts read read' put put' 0 0 store store' s other (cause 0 0 refl)

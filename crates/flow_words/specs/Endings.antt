@@ -1,17 +1,17 @@
 -- How a run may end: a fault is answered only where the outside counted one.
-use Rattle.std.specs.Prelude.{ℕ, ◌≢◌, List, [], ◌∷◌, codes}
+use Rattle.std.specs.Prelude.{ℕ, ◌≢◌, Option, None, Some}
 use Rattle.flow_io.specs.Causes.{Rose}
 use Rattle.flow_io.specs.declared.lines.IoStop.{IoStop}
 use Rattle.flow_io.specs.declared.lines.IoStop.TheVariants as stop
 use Rattle.flow_session.specs.declared.serving.Stop.{Stop}
 use Rattle.flow_session.specs.declared.serving.Stop.TheVariants as session
+use Rattle.flow_words.specs.Outside.{Channels, Files}
 use Rattle.flow_words.specs.declared.status.Status.{Status}
 use Rattle.flow_words.specs.declared.status.Status.TheVariants.{Done, Usage, Store, StoreFault, ReadFault, WriteFault}
 use Rattle.flow_words.specs.declared.status.Status.TheVariants.{NoMemory, ScriptTooLong, Refused}
-use Rattle.flow_words.specs.declared.stored.Look.{Look}
-use Rattle.flow_words.specs.declared.stored.Look.TheVariants.{Explain, Verify, Overdue, Ship}
-use Rattle.flow_words.specs.declared.stored.Word.{Word}
-use Rattle.flow_words.specs.declared.stored.Word.TheVariants.{New, Run, Follow, Look as LookInto}
+use Rattle.flow_words.specs.declared.word.Word.{Word}
+use Rattle.flow_words.specs.declared.word.Word.TheVariants.{Check, Fate, Try, Load, New, Run, Follow, Explain, Verify}
+use Rattle.flow_words.specs.declared.word.Word.TheVariants.{Overdue, Ship}
 
 -- the exit status of the program
 abbrev pub status_number : Status → ℕ
@@ -109,21 +109,23 @@ WordCause read read' put put' store store' NoMemory = Unit {0}
 WordCause read read' put put' store store' ScriptTooLong = Unit {0}
 WordCause read read' put put' store store' Refused = Unit {0}
 
--- these words begin with another than the one that sends a stream
-abbrev pub SendNoStream : List (List ℕ) → Type 0
-SendNoStream [] = Unit {0}
-SendNoStream (first ∷ rest) = first ≢ codes "ship"
+-- the same by the channels and the disk of a run
+abbrev pub StoreCause : {D : Type 0} → Channels → Files D → Status → Type 0
+StoreCause c f ended =
+    WordCause c.reads c.reads' c.puts c.puts' (f.disk.faults f.old) (f.disk.faults f.new) ended
 
--- a word that only looks into a store, and sends no stream
-abbrev pub OnlyLooks : Look → Type 0
-OnlyLooks Explain = Unit {0}
-OnlyLooks Verify = Unit {0}
-OnlyLooks Overdue = Unit {0}
-OnlyLooks (Ship from) = ⊥
-
--- a word over a store that sends no stream
-abbrev pub SendsNoStream : Word → Type 0
-SendsNoStream (New settings) = Unit {0}
-SendsNoStream Run = Unit {0}
-SendsNoStream Follow = Unit {0}
-SendsNoStream (LookInto look) = OnlyLooks look
+-- Why a run ends so, by the word that is said. Words that need no store never end by one. Of `ship` it isn't known that
+-- the disk counted a fault of the store.
+abbrev pub IsCaused : {D : Type 0} → Option Word → Channels → Files D → Status → Type 0
+IsCaused None c f ended = EndCause c.reads c.reads' c.puts c.puts' ended
+IsCaused (Some Check) c f ended = EndCause c.reads c.reads' c.puts c.puts' ended
+IsCaused (Some Fate) c f ended = EndCause c.reads c.reads' c.puts c.puts' ended
+IsCaused (Some (Try settings)) c f ended = EndCause c.reads c.reads' c.puts c.puts' ended
+IsCaused (Some (Load seed roots)) c f ended = EndCause c.reads c.reads' c.puts c.puts' ended
+IsCaused (Some (New settings)) c f ended = StoreCause c f ended
+IsCaused (Some Run) c f ended = StoreCause c f ended
+IsCaused (Some Follow) c f ended = StoreCause c f ended
+IsCaused (Some Explain) c f ended = StoreCause c f ended
+IsCaused (Some Verify) c f ended = StoreCause c f ended
+IsCaused (Some Overdue) c f ended = StoreCause c f ended
+IsCaused (Some (Ship number)) c f ended = ended ≢ StoreFault → StoreCause c f ended

@@ -9,6 +9,7 @@ use Rattle.standby.specs.declared.following.Followed.{Followed}
 use Rattle.standby.specs.declared.stops.FollowStop.{FollowStop}
 use Rattle.standby.specs.declared.stops.FollowStop.TheVariants as follow
 use Rattle.flow_words.specs.Openings.{RefusesStore}
+use Rattle.flow_words.specs.Outside.{Channels, Files}
 use Rattle.flow_words.specs.Printed.{Prints}
 use Rattle.flow_words.specs.declared.status.Status.{Status}
 use Rattle.flow_words.specs.declared.status.Status.TheVariants.{Done, ReadFault, NoMemory, ScriptTooLong, Refused}
@@ -39,8 +40,7 @@ ComesToResult tells seen images left left' result =
     ⊎ FollowsOpened tells seen images left left' result
 
 -- `follow`: following comes to a result, and that is printed
-pub record PrintsFollowed {D : Type 0} (tells : Type 0) (seen : D → Image) (images : D → Image → Type 0)
-    (left left' held held' : Option (List ℕ)) (disk disk' : D) (ended : Status) : Type 0 where
+pub record PrintsFollowed {D : Type 0} (c : Channels) (f : Files D) (ended : Status) : Type 0 where
   pub result : Result Followed FollowStop
-  pub comes_to : ComesToResult tells (seen disk) (images disk') left left' result
-  pub printed : PrintsResult result held held' ended
+  pub comes_to : ComesToResult f.disk.tells (f.disk.seen f.old) (f.disk.images f.new) c.left c.left' result
+  pub printed : PrintsResult result c.held c.held' ended

@@ -14,14 +14,11 @@ use Rattle.flow_session.specs.Inputs.{Given, Line}
 use Rattle.flow_session.specs.Scripts.{ServesAll}
 use Rattle.flow_session.specs.declared.journal.NoJournal.{NoJournal}
 use Rattle.flow_session.specs.declared.serving.Session.{Session}
-use Rattle.flow_words.specs.Numbers.{NamesLoad, NamesNoLoad}
 use Rattle.flow_words.specs.Printed.{Prints}
 use Rattle.flow_words.specs.Scripts.{IsFresh, all_replies}
 use Rattle.flow_words.specs.declared.load.Loading.{Loading}
-use Rattle.flow_words.specs.declared.pure.Word.{Word}
-use Rattle.flow_words.specs.declared.pure.Word.TheVariants.{Check, Fate, Try, Load}
 use Rattle.flow_words.specs.declared.status.Status.{Status}
-use Rattle.flow_words.specs.declared.status.Status.TheVariants.{Done, Usage, NoMemory}
+use Rattle.flow_words.specs.declared.status.Status.TheVariants.{Done, NoMemory}
 
 -- ---- amounts
 
@@ -164,18 +161,3 @@ IsSummary seed roots over load text = text ≡ load_line
 abbrev pub PrintsLoaded : ℕ → ℕ → Option (List ℕ) → Option (List ℕ) → Status → Type 0
 PrintsLoaded seed roots held held' ended = ((ended ≡ NoMemory) × Keeps held held')
     ⊎ ((text : List ℕ) × IsLoaded seed roots text × Prints text Done held held' ended)
-
--- the word `load` with these words behind it, which name its numbers
-abbrev pub IsLoadWord : List (List ℕ) → Option Word → Type 0
-IsLoadWord words None = NamesNoLoad words
-IsLoadWord words (Some Check) = ⊥
-IsLoadWord words (Some Fate) = ⊥
-IsLoadWord words (Some (Try settings)) = ⊥
-IsLoadWord words (Some (Load seed roots)) = NamesLoad words seed roots
-
--- `load` with these words behind it: they don't name its numbers, and that is printed; or they do, and the line of that
--- load is printed
-abbrev pub PrintsLoad : List (List ℕ) → Option (List ℕ) → Option (List ℕ) → Status → Type 0
-PrintsLoad words held held' ended =
-    (NamesNoLoad words × Prints (codes "no USAGE\n") Usage held held' ended)
-    ⊎ ((seed : ℕ) × (roots : ℕ) × NamesLoad words seed roots × PrintsLoaded seed roots held held' ended)

@@ -1,12 +1,12 @@
 -- Why a store isn't opened or made, and what is printed then.
 use Rattle.std.specs.Prelude.{◌≡◌, ◌⊎◌, ℕ, Option, None, Some, List, [], ◌∷◌, ◌++◌, codes, decimal}
 use Rattle.std.specs.Io.KnownBytes.{Keeps}
-use Rattle.flow_disk.specs.Images.{Image}
 use Rattle.flow_disk.specs.declared.disk.Slot.{Slot}
 use Rattle.flow_disk.specs.declared.disk.Slot.TheVariants.{A, B}
 use Rattle.txn_log.specs.declared.stops.LogStop.{LogStop}
 use Rattle.txn_log.specs.declared.stops.LogStop.TheVariants as stop
 use Rattle.flow_session.specs.Refusing.{IsUnopened}
+use Rattle.flow_words.specs.Outside.{Files}
 use Rattle.flow_words.specs.Printed.{Prints}
 use Rattle.flow_words.specs.declared.status.Status.{Status}
 use Rattle.flow_words.specs.declared.status.Status.TheVariants.{Store, StoreFault, NoMemory}
@@ -48,6 +48,6 @@ RefusesStore stop held held' ended = ((ended ≡ NoMemory) × Keeps held held')
 
 -- A word over a store ends without having looked into it: the store is refused for a cause that the disk tells, or
 -- there is no memory.
-abbrev pub IsUnserved : {D : Type 0} → Type 0 → (D → Image) → D → Option (List ℕ) → Option (List ℕ) → Status → Type 0
-IsUnserved tells seen disk held held' ended = (stop : LogStop) × (tells → IsUnopened (seen disk) stop)
+abbrev pub IsUnserved : {D : Type 0} → Files D → Option (List ℕ) → Option (List ℕ) → Status → Type 0
+IsUnserved f held held' ended = (stop : LogStop) × (f.disk.tells → IsUnopened (f.disk.seen f.old) stop)
     × RefusesStore stop held held' ended

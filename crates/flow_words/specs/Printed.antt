@@ -1,10 +1,11 @@
 -- What the words `check` and `fate` print.
-use Rattle.std.specs.Prelude.{◌≡◌, ◌≢◌, ℕ, ◌≤◌, ◌⊎◌, true, false, if◌then◌else◌, Option, Some, None, List, [], ◌∷◌}
+use Rattle.std.specs.Prelude.{◌≡◌, ℕ, ◌≤◌, ◌⊎◌, true, false, if◌then◌else◌, Option, Some, None, List, [], ◌∷◌}
 use Rattle.std.specs.Prelude.{codes, length, take}
 use Rattle.std.specs.Io.KnownBytes.{Appends, Keeps}
 use Rattle.text_words.specs.Answers.{Refuses, AnswersTree}
 use Rattle.text_words.specs.FateAnswers.{AnswersText}
 use Rattle.text_words.specs.Gathered.{IsGathered}
+use Rattle.text_words.specs.Limits.{IsWithinLimit, IsBeyondLimit}
 use Rattle.text_words.specs.declared.check.Answer.{Answer}
 use Rattle.text_words.specs.declared.input.Input.{Input}
 use Rattle.flow_words.specs.declared.status.Status.{Status}
@@ -20,31 +21,33 @@ abbrev pub Prints : List ℕ → Status → Option (List ℕ) → Option (List �
 Prints text status old new ended = (ended ≡ status) × Appends old new text ⊎ (ended ≡ WriteFault)
     × PrintsPart old new text
 
--- a word ends before it has an answer
-abbrev pub IsUnanswered : Status → Type 0
-IsUnanswered Done = ⊥
-IsUnanswered Usage = ⊥
-IsUnanswered Store = ⊥
-IsUnanswered StoreFault = ⊥
-IsUnanswered ReadFault = Unit {0}
-IsUnanswered WriteFault = ⊥
-IsUnanswered NoMemory = Unit {0}
-IsUnanswered ScriptTooLong = Unit {0}
-IsUnanswered Refused = ⊥
+-- a word ends before it has an answer: as too long only where the source has more bytes than the limit
+abbrev pub IsUnanswered : Option (List ℕ) → Status → Type 0
+IsUnanswered left Done = ⊥
+IsUnanswered left Usage = ⊥
+IsUnanswered left Store = ⊥
+IsUnanswered left StoreFault = ⊥
+IsUnanswered left ReadFault = Unit {0}
+IsUnanswered left WriteFault = ⊥
+IsUnanswered left NoMemory = Unit {0}
+IsUnanswered left ScriptTooLong = IsBeyondLimit left
+IsUnanswered left Refused = ⊥
 
 -- Refused where the answer refuses, else Done
 abbrev pub answer_status : Answer → Status
 answer_status answer = if answer.is_refused then Refused else Done
 
 -- the text of an answer to what was read is printed; nothing is where the word ends before it has one
-abbrev pub PrintsAnswer : (Input → Answer → Type 0) → Option (List ℕ) → Option (List ℕ) → Status → Type 0
-PrintsAnswer Answers old new ended =
-    IsUnanswered ended × Keeps old new ⊎ (input : Input) × (answer : Answer) × Answers input answer
+abbrev pub PrintsAnswer : Option (List ℕ) → (Input → Answer → Type 0) → Option (List ℕ) → Option (List ℕ) → Status
+    → Type 0
+PrintsAnswer left Answers old new ended =
+    IsUnanswered left ended × Keeps old new ⊎ (input : Input) × (answer : Answer) × Answers input answer
     × Prints answer.text.items (answer_status answer) old new ended
 
 -- what `check` answers, where all that the source had left is its text: its first line that is too long, else the
 -- answer to its text
 pub record IsCheckOf (left : Option (List ℕ)) (input : Input) (answer : Answer) : Type 0 where
+  pub within : IsWithinLimit left
   pub gathered : IsGathered false left input
   pub long : (line : ℕ) → input.too_long ≡ Some line → Refuses answer (codes "LINE") (line ∷ [])
   pub judged : input.too_long ≡ None → AnswersTree input.text.items answer
@@ -52,14 +55,8 @@ pub record IsCheckOf (left : Option (List ℕ)) (input : Input) (answer : Answer
 -- what `fate` answers, where a line of what the source had left ends its text: its first line that is too long, else
 -- that its text has no end, else the answer to its text
 pub record IsFateOf (left : Option (List ℕ)) (input : Input) (answer : Answer) : Type 0 where
+  pub within : IsWithinLimit left
   pub gathered : IsGathered true left input
   pub long : (line : ℕ) → input.too_long ≡ Some line → Refuses answer (codes "LINE") (line ∷ [])
   pub unended : input.too_long ≡ None → input.is_ended ≡ false → Refuses answer (codes "UNENDED") []
   pub judged : input.too_long ≡ None → input.is_ended ≡ true → AnswersText input.text.items answer input.behind.items
-
--- These words are none that need no store: they begin with another word, or more stand behind `check` or `fate`.
-abbrev pub IsUnknown : List (List ℕ) → Type 0
-IsUnknown [] = Unit {0}
-IsUnknown (first ∷ rest) =
-    (first ≡ codes "check" → rest ≢ []) × (first ≡ codes "fate" → rest ≢ []) × (first ≢ codes "load")
-    × (first ≢ codes "try")

@@ -1,5 +1,5 @@
 -- A script that is served: its inputs, and what is printed.
-use Rattle.std.specs.Prelude.{◌≡◌, ◌⊎◌, ℕ, ◌<◌, ◌≤◌, length, Option, None, Some, IfSome, List, [], ◌++◌, map, codes}
+use Rattle.std.specs.Prelude.{◌≡◌, ◌⊎◌, ℕ, ◌≤◌, Option, None, Some, IfSome, List, [], ◌++◌, map}
 use Rattle.std.specs.Prelude.{Result, Ok, Err}
 use Rattle.std.specs.List.{flat_map}
 use Rattle.std.specs.Io.KnownBytes.{Appends, Keeps}
@@ -19,21 +19,19 @@ use Rattle.flow_session.specs.Checkpoints.{IsCheckpointed}
 use Rattle.flow_session.specs.Keeping.{IsOpen}
 use Rattle.flow_session.specs.Leading.{LeadsBy}
 use Rattle.flow_session.specs.Replaying.{Replays}
-use Rattle.flow_session.specs.Runs.{KeepsStore}
+use Rattle.text_words.specs.Limits.{IsWithinLimit, IsBeyondLimit}
 use Rattle.flow_session.specs.declared.store.Stored.{Stored}
 use Rattle.flow_session.specs.declared.journal.NoJournal.{NoJournal}
 use Rattle.machine.specs.States.{blank}
 use Rattle.machine_laws.specs.Viewed.{view}
 use Rattle.worklist_laws.specs.Shelved.{IsRightAndListed}
 use Rattle.flow_words.specs.Crashes.{empty_history}
-use Rattle.flow_words.specs.Numbers.{AreSettings, NameNoSettings}
 use Rattle.flow_words.specs.Endings.{StopsScript}
 use Rattle.flow_words.specs.Openings.{IsUnserved}
-use Rattle.flow_words.specs.Printed.{PrintsPart, Prints}
-use Rattle.flow_words.specs.declared.pure.Word.{Word}
-use Rattle.flow_words.specs.declared.pure.Word.TheVariants.{Check, Fate, Try, Load}
+use Rattle.flow_words.specs.Outside.{Channels, Files, files, KeepsFiles}
+use Rattle.flow_words.specs.Printed.{PrintsPart}
 use Rattle.flow_words.specs.declared.status.Status.{Status}
-use Rattle.flow_words.specs.declared.status.Status.TheVariants.{Done, Usage, NoMemory, ScriptTooLong}
+use Rattle.flow_words.specs.declared.status.Status.TheVariants.{Done, NoMemory, ScriptTooLong}
 
 -- what a session is given of a line
 abbrev pub input_of : LineInput → Given
@@ -48,14 +46,6 @@ script_inputs bytes = map input_of (inputs bytes 268435456)
 -- these are the first inputs of a source that tells its bytes, and those are the others
 abbrev pub AreFirst : Option (List ℕ) → List Given → List Given → Type 0
 AreFirst left first others = IfSome left (λ bytes. script_inputs bytes ≡ first ++ others)
-
--- a script has at most so many bytes, where the source tells them
-abbrev pub IsWithinLimit : Option (List ℕ) → Type 0
-IsWithinLimit left = IfSome left (λ bytes. length bytes ≤ 268435456)
-
--- it has more
-abbrev pub IsBeyondLimit : Option (List ℕ) → Type 0
-IsBeyondLimit left = IfSome left (λ bytes. 268435456 < length bytes)
 
 -- the replies one behind the other
 abbrev pub all_replies : List (List ℕ) → List ℕ
@@ -113,32 +103,30 @@ IsTried queues limit left held held' ended =
     left held held' s s' j j' ended)
 
 -- A session serves the script over the log of an opened store, and gives the disk back.
-pub record ServesOver {D : Type 0} (tells : Type 0) (moment : D → ℕ) (left_since : D → ℕ → Image → Type 0)
-    (seen : D → Image) (images : D → Image → Type 0) (left held held' : Option (List ℕ)) (s : Session) (log : Log)
-    (disk disk' : D) (ended : Result (Unit {0}) Status) : Type 0 where
+pub record ServesOver {D : Type 0} (c : Channels) (f : Files D) (s : Session) (log : Log)
+    (ended : Result (Unit {0}) Status) : Type 0 where
   pub s' : Session
   pub journal : Stored D
   pub journal' : Stored D
-  pub script : ServesScript tells (λ j. IsOpen seen images j.log j.disk) (λ j. moment j.disk) (λ j. left_since j.disk)
-      (λ j. (j.log.slot, j.log.generation)) (λ j j' now. IsCheckpointed tells seen images j.log j'.log j'.disk now)
-      left held held' s s' journal journal' ended
-  pub over : (journal.log ≡ log) × (journal.disk ≡ disk)
-  pub given_back : disk' ≡ journal'.disk
+  pub script : ServesScript f.disk.tells (λ j. IsOpen f.disk.seen f.disk.images j.log j.disk) (λ j. f.disk.moment j.disk)
+      (λ j. f.disk.left_since j.disk) (λ j. (j.log.slot, j.log.generation))
+      (λ j j' now. IsCheckpointed f.disk.tells f.disk.seen f.disk.images j.log j'.log j'.disk now)
+      c.left c.held c.held' s s' journal journal' ended
+  pub over : (journal.log ≡ log) × (journal.disk ≡ f.old)
+  pub given_back : f.new ≡ journal'.disk
 
 -- A store is opened, which leaves what was there, and a session over the state that it stands for serves the script:
 -- the state to which the records of the store come by the steps of the machine.
-pub record ServesStoreScript {D : Type 0} (tells : Type 0) (moment : D → ℕ) (left_since : D → ℕ → Image → Type 0)
-    (seen : D → Image) (images : D → Image → Type 0) (left held held' : Option (List ℕ)) (disk disk' : D)
-    (ended : Result (Unit {0}) Status) : Type 0 where
+pub record ServesStoreScript {D : Type 0} (c : Channels) (f : Files D) (ended : Result (Unit {0}) Status) : Type 0 where
   pub s : Session
   pub log : Log
   pub opened : D
-  pub keeps : Only (seen disk) (images disk) → KeepsStore moment left_since seen disk opened
-  pub stood : tells → StandsFor (summary s.core) (seen disk)
-  pub state : tells → Replays (seen disk) s.core
+  pub keeps : Only (f.disk.seen f.old) (f.disk.images f.old) → KeepsFiles (files f.disk f.old opened)
+  pub stood : f.disk.tells → StandsFor (summary s.core) (f.disk.seen f.old)
+  pub state : f.disk.tells → Replays (f.disk.seen f.old) s.core
   pub outside : unended s ≡ None
   pub right : 1 ≤ (summary s.core).queues → IsRightAndListed s.core
-  pub serves : ServesOver tells moment left_since seen images left held held' s log opened disk' ended
+  pub serves : ServesOver c (files f.disk opened f.new) s log ended
 
 -- how a script ends the program: as Done where all of it was served, else with the status that stopped it
 abbrev pub EndsAs : Result (Unit {0}) Status → Status → Type 0
@@ -151,29 +139,12 @@ status_of_word (Ok status) = status
 status_of_word (Err status) = status
 
 -- `run`: the store isn't opened, or it is, and serves the script
-abbrev pub RunsStore : {D : Type 0} → Type 0 → (D → ℕ) → (D → ℕ → Image → Type 0) → (D → Image) → (D → Image → Type 0)
-    → Option (List ℕ) → Option (List ℕ) → Option (List ℕ) → D → D → Status → Type 0
-RunsStore tells moment left_since seen images left held held' disk disk' ended =
-    IsUnserved tells seen disk held held' ended
-    ⊎ ((served : Result (Unit {0}) Status) × ServesStoreScript tells moment left_since seen images left held held' disk
-    disk' served × EndsAs served ended)
+abbrev pub RunsStore : {D : Type 0} → Channels → Files D → Status → Type 0
+RunsStore c f ended =
+    IsUnserved f c.held c.held' ended
+    ⊎ ((served : Result (Unit {0}) Status) × ServesStoreScript c f served × EndsAs served ended)
 
 -- `try`: a session over the empty history serves the script, and ends the program so
 abbrev pub TriesScript : ℕ → ℕ → Option (List ℕ) → Option (List ℕ) → Option (List ℕ) → Status → Type 0
 TriesScript queues limit left held held' ended =
     (served : Result (Unit {0}) Status) × IsTried queues limit left held held' served × EndsAs served ended
-
--- the word `try` with these words behind it, which name its settings
-abbrev pub IsTryWord : List (List ℕ) → Option Word → Type 0
-IsTryWord words None = NameNoSettings words
-IsTryWord words (Some Check) = ⊥
-IsTryWord words (Some Fate) = ⊥
-IsTryWord words (Some (Try settings)) = AreSettings words settings.queues settings.limit
-IsTryWord words (Some (Load seed roots)) = ⊥
-
--- `try` with these words behind it: they don't name settings, and that is printed; or a script is served over the empty
--- history of such a store
-abbrev pub PrintsTry : List (List ℕ) → Option (List ℕ) → Option (List ℕ) → Option (List ℕ) → Status → Type 0
-PrintsTry words left held held' ended =
-    (NameNoSettings words × Prints (codes "no USAGE\n") Usage held held' ended)
-    ⊎ ((queues : ℕ) × (limit : ℕ) × AreSettings words queues limit × TriesScript queues limit left held held' ended)

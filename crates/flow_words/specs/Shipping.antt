@@ -1,5 +1,5 @@
 -- What `ship` prints.
-use Rattle.std.specs.Prelude.{◌⊎◌, ℕ, List, codes, Option, Some, None, Result, Ok, Err, MatchResult}
+use Rattle.std.specs.Prelude.{◌⊎◌, ℕ, List, Option, Result, Ok, Err, MatchResult}
 use Rattle.std.specs.Io.KnownBytes.{Keeps}
 use Rattle.flow_disk.specs.Images.{Image}
 use Rattle.flow_session.specs.Refusing.{IsUnopened as IsRefusedStore}
@@ -8,14 +8,10 @@ use Rattle.standby.specs.Texts.{ship_refusal_line}
 use Rattle.standby.specs.declared.stops.ShipStop.{ShipStop}
 use Rattle.standby.specs.declared.stops.ShipStop.TheVariants as ship
 use Rattle.flow_words.specs.Following.{EndsSilent, PrintsLine}
-use Rattle.flow_words.specs.Numbers.{Names, NamesNone}
 use Rattle.flow_words.specs.Openings.{RefusesStore}
-use Rattle.flow_words.specs.Printed.{Prints}
+use Rattle.flow_words.specs.Outside.{Files}
 use Rattle.flow_words.specs.declared.status.Status.{Status}
-use Rattle.flow_words.specs.declared.status.Status.TheVariants.{Done, Usage, WriteFault, NoMemory, Refused}
-use Rattle.flow_words.specs.declared.stored.Look.TheVariants.{Ship}
-use Rattle.flow_words.specs.declared.stored.Word.{Word}
-use Rattle.flow_words.specs.declared.stored.Word.TheVariants.{Look}
+use Rattle.flow_words.specs.declared.status.Status.TheVariants.{Done, WriteFault, NoMemory, Refused}
 
 -- what is printed behind what was shipped: why the store wasn't opened or the number is refused, else nothing
 abbrev pub EndsShipping : Result ℕ ShipStop → Option (List ℕ) → Option (List ℕ) → Status → Type 0
@@ -35,30 +31,10 @@ ShipsTo tells seen from held held' result =
     (MatchResult result (λ _. ⊥) (IsUnopened (λ stop. tells → IsRefusedStore seen stop)) × Keeps held held')
     ⊎ ShipsOpened tells seen from held held' result
 
--- a store is shipped from a number, which comes to a result, and what that asks for is printed behind it
-pub record PrintsShipped {D : Type 0} (tells : Type 0) (seen : D → Image) (from : ℕ) (held held' : Option (List ℕ))
-    (disk : D) (ended : Status) : Type 0 where
+-- `ship`: a store is shipped from a number, which comes to a result, and what that asks for is printed behind it
+pub record PrintsShipped {D : Type 0} (from : ℕ) (f : Files D) (held held' : Option (List ℕ)) (ended : Status)
+    : Type 0 where
   pub shipped : Option (List ℕ)
   pub result : Result ℕ ShipStop
-  pub comes_to : ShipsTo tells (seen disk) from held shipped result
+  pub comes_to : ShipsTo f.disk.tells (f.disk.seen f.old) from held shipped result
   pub printed : EndsShipping result shipped held' ended
-
--- the word `ship` with this word behind its two files, which names a number of at most 10,000,000
-abbrev pub IsShipWord : List ℕ → Option Word → Type 0
-IsShipWord word None = NamesNone word 0 10000000
-IsShipWord word (Some (Look (Ship from))) = Names word 0 10000000 from
-IsShipWord word (Some other) = ⊥
-
--- a store is shipped from the number that a word names
-abbrev pub ShipsNamed : {D : Type 0} → Type 0 → (D → Image) → List ℕ → Option (List ℕ) → Option (List ℕ) → D → Status
-    → Type 0
-ShipsNamed tells seen word held held' disk ended = (from : ℕ) × Names word 0 10000000 from
-    × PrintsShipped tells seen from held held' disk ended
-
--- `ship` with this word behind its two files: it names no number, and that is printed; or the store is shipped from the
--- one that it names
-abbrev pub PrintsShip : {D : Type 0} → Type 0 → (D → Image) → List ℕ → Option (List ℕ) → Option (List ℕ) → D → Status
-    → Type 0
-PrintsShip tells seen word held held' disk ended =
-    (NamesNone word 0 10000000 × Prints (codes "no USAGE\n") Usage held held' ended)
-    ⊎ ShipsNamed tells seen word held held' disk ended

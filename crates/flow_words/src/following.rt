@@ -1,13 +1,13 @@
 //! The words of a standby store: `ship` and `follow`.
-ghost use Rattle.std.specs.Prelude.{ℕ, Err, IfErr, IsOk, MatchResult};
-ghost use Rattle.flow_disk.specs.Moments.{Only};
-ghost use Rattle.flow_session.specs.Runs.{KeepsStore, KeepsOrServes};
+ghost use Rattle.std.specs.Prelude.{◌≢◌, ℕ, Err, IfErr, IsOk, MatchResult};
 ghost use Rattle.standby.specs.Endings.{FollowEnd};
-ghost use Rattle.flow_words.specs.Crashes.{EndsDone, IsFailing};
+ghost use Rattle.flow_words.specs.Crashes.{EndsDone, IsFailing, ServesFiles};
 ghost use Rattle.flow_words.specs.Endings.{WordCause};
 ghost use Rattle.flow_words.specs.Following.{PrintsFollowed, PrintsResult};
+ghost use Rattle.flow_words.specs.Outside.{channels, files, IfSettled, KeepsFiles};
 ghost use Rattle.flow_words.specs.Scripts.{status_of_word};
 ghost use Rattle.flow_words.specs.Shipping.{PrintsShipped};
+ghost use Rattle.flow_words.specs.declared.status.Status.TheVariants.{StoreFault as StoreFaultStatus};
 
 use crate::looking::print_answer;
 use crate::refusing::refuse;
@@ -26,9 +26,10 @@ pub fn ship_from<K: Sink, D: Disk>(
     out: &mut K,
     disk: &mut D,
 ) -> Result<Status, Status>
-    ensures keeps { D.tells → Only (D.seen disk.old) (D.images disk.old)
-        → KeepsStore D.moment D.left_since D.seen disk.old disk.new }
-    ensures ships { PrintsShipped D.tells D.seen from (K.held out.old) (K.held out.new) disk.old
+    ensures keeps { IfSettled (files D.Disk disk.old disk.new) (KeepsFiles (files D.Disk disk.old disk.new)) }
+    ensures cause { (read read' store store' : ℕ) → status_of_word result ≢ StoreFaultStatus
+        → WordCause read read' (K.faults out.old) (K.faults out.new) store store' (status_of_word result) }
+    ensures ships { PrintsShipped from (files D.Disk disk.old disk.new) (K.held out.old) (K.held out.new)
         (status_of_word result) }
 {
     match ship(alloc, disk, from, out) {
@@ -80,12 +81,12 @@ pub fn follow_into<S: Source, K: Sink, D: Disk + Drop>(
     out: &mut K,
     disk: D,
 ) -> (Result<Status, Status>, D)
-    ensures store { D.tells → Only (D.seen disk) (D.images disk)
-        → KeepsOrServes D.tells D.moment D.left_since D.seen D.images disk result.1 (EndsDone result.0) }
+    ensures store { IfSettled (files D.Disk disk result.1)
+        (ServesFiles (files D.Disk disk result.1) (EndsDone result.0)) }
     ensures cause { WordCause (S.faults src.old) (S.faults src.new) (K.faults out.old) (K.faults out.new)
         (D.faults disk) (D.faults result.1) (status_of_word result.0) }
-    ensures follows { PrintsFollowed D.tells D.seen D.images (S.left src.old) (S.left src.new) (K.held out.old)
-        (K.held out.new) disk result.1 (status_of_word result.0) }
+    ensures follows { PrintsFollowed (channels S.Source K.Sink src.old src.new out.old out.new)
+        (files D.Disk disk result.1) (status_of_word result.0) }
 {
     let (followed, disk) = follow(alloc, src, disk);
     (print_followed(alloc, followed, out), disk)

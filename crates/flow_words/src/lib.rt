@@ -1,7 +1,7 @@
 //! Which words does the program know, and what does each print?
 //!
 //! Knows the words of the command line and the order of reading, judging and printing; never graphs,
-//! tokens or gates. Begin with [`run_pure`], and with `specs/Printed.antt`, which says what is printed.
+//! tokens or gates. Begin with [`run`], and with `specs/Correct.antt`, which says what a run does.
 #![tactic(auto)]
 
 mod following;
@@ -13,7 +13,7 @@ mod refusing;
 mod script;
 mod status;
 mod stored;
+mod word;
 
-pub use pure::run_pure;
 pub use status::Status;
 pub use stored::run;

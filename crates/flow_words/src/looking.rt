@@ -1,10 +1,9 @@
 //! The words that only look into a store: `explain`, `verify` and `overdue`.
 ghost use Rattle.std.specs.Prelude.{◌≡◌, ℕ, codes, MatchResult, if◌then◌else◌};
-ghost use Rattle.flow_disk.specs.Moments.{Only};
-ghost use Rattle.flow_session.specs.Runs.{KeepsStore};
 ghost use Rattle.flow_words.specs.Crashes.{IsFailing};
 ghost use Rattle.flow_words.specs.Endings.{WordCause};
 ghost use Rattle.flow_words.specs.Looking.{PrintsExplained, PrintsOverdue, PrintsVerdict, PrintsVerified};
+ghost use Rattle.flow_words.specs.Outside.{channels, files, IfSettled, KeepsFiles};
 ghost use Rattle.flow_words.specs.Printed.{Prints};
 ghost use Rattle.flow_words.specs.Scripts.{status_of_word};
 ghost use Rattle.flow_words.specs.declared.status.Status.TheVariants.{Done as DoneStatus, Usage as UsageStatus};
@@ -42,7 +41,7 @@ pub fn print_answer<K: Sink>(out: &mut K, text: &[u8], is_refused: bool) -> Resu
 
 /// Prints that the words are none that the program knows.
 #[tactic(auto, using(crate::proofs::EndingLemmas::word_prints))]
-fn print_usage<K: Sink>(out: &mut K) -> Result<Status, Status>
+pub fn print_usage<K: Sink>(out: &mut K) -> Result<Status, Status>
     ensures cause { (read read' store store' : ℕ) → WordCause read read' (K.faults out.old)
         (K.faults out.new) store store' (status_of_word result) }
     ensures prints { Prints (codes "no USAGE\n") UsageStatus (K.held out.old) (K.held out.new) (status_of_word result) }
@@ -58,12 +57,11 @@ pub fn explain_in<K: Sink, D: Disk>(
     out: &mut K,
     disk: &mut D,
 ) -> Result<Status, Status>
-    ensures keeps { D.tells → Only (D.seen disk.old) (D.images disk.old)
-        → KeepsStore D.moment D.left_since D.seen disk.old disk.new }
+    ensures keeps { IfSettled (files D.Disk disk.old disk.new) (KeepsFiles (files D.Disk disk.old disk.new)) }
     ensures cause { (read read' : ℕ) → WordCause read read' (K.faults out.old) (K.faults out.new) (D.faults disk.old)
         (D.faults disk.new) (status_of_word result) }
-    ensures prints { PrintsExplained D.tells D.moment D.left_since D.seen D.images activity.now (K.held out.old)
-        (K.held out.new) disk.old disk.new (status_of_word result) }
+    ensures prints { PrintsExplained activity.now (files D.Disk disk.old disk.new) (K.held out.old) (K.held out.new)
+        (status_of_word result) }
 {
     if named_activity(alloc, activity)?.is_none() {
         return print_usage(out);
@@ -105,12 +103,11 @@ pub fn verify_in<S: Source, K: Sink, D: Disk>(
     out: &mut K,
     disk: &mut D,
 ) -> Result<Status, Status>
-    ensures keeps { D.tells → Only (D.seen disk.old) (D.images disk.old)
-        → KeepsStore D.moment D.left_since D.seen disk.old disk.new }
+    ensures keeps { IfSettled (files D.Disk disk.old disk.new) (KeepsFiles (files D.Disk disk.old disk.new)) }
     ensures cause { WordCause (S.faults src.old) (S.faults src.new) (K.faults out.old) (K.faults out.new)
         (D.faults disk.old) (D.faults disk.new) (status_of_word result) }
-    ensures prints { PrintsVerified D.tells D.moment D.left_since D.seen D.images (S.left src.old) (K.held out.old)
-        (K.held out.new) disk.old disk.new (status_of_word result) }
+    ensures prints { PrintsVerified (channels S.Source K.Sink src.old src.new out.old out.new)
+        (files D.Disk disk.old disk.new) (status_of_word result) }
 {
     match reopen(alloc, disk) {
         Err(stop) => refuse(alloc, out, &stop),
@@ -124,12 +121,11 @@ pub fn overdue_in<K: Sink, D: Disk>(
     out: &mut K,
     disk: &mut D,
 ) -> Result<Status, Status>
-    ensures keeps { D.tells → Only (D.seen disk.old) (D.images disk.old)
-        → KeepsStore D.moment D.left_since D.seen disk.old disk.new }
+    ensures keeps { IfSettled (files D.Disk disk.old disk.new) (KeepsFiles (files D.Disk disk.old disk.new)) }
     ensures cause { (read read' : ℕ) → WordCause read read' (K.faults out.old) (K.faults out.new) (D.faults disk.old)
         (D.faults disk.new) (status_of_word result) }
-    ensures prints { PrintsOverdue D.tells D.moment D.left_since D.seen D.images (K.held out.old)
-        (K.held out.new) disk.old disk.new (status_of_word result) }
+    ensures prints { PrintsOverdue (files D.Disk disk.old disk.new) (K.held out.old) (K.held out.new)
+        (status_of_word result) }
 {
     match reopen(alloc, disk) {
         Err(stop) => refuse(alloc, out, &stop),

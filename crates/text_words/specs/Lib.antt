@@ -4,4 +4,5 @@ pub mod Completions
 pub mod FateAnswers
 pub mod Gathered
 pub mod Items
+pub mod Limits
 pub mod Nexts

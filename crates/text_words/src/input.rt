@@ -3,6 +3,7 @@ ghost use Rattle.std.specs.Prelude.{◌≡◌, ◌≢◌, [], ◌∷◌, ◌++�
 ghost use Rattle.flow_io.specs.Told.{StopCause};
 ghost use Rattle.text_words.specs.Gathered.{kept, nothing, is_end, with_text, with_line, first_long, with_input};
 ghost use Rattle.text_words.specs.Gathered.{found_input, IsGathered, as_input, AreLines};
+ghost use Rattle.text_words.specs.Limits.{IsWithinLimit, StopsBeyond};
 ghost use Rattle.flow_io.specs.declared.lines.Line.TheVariants.{Ended as EndedLine};
 
 use flow_io::{IoStop, Line, Lines, Source};
@@ -132,6 +133,7 @@ impl Input {
         ensures cause { MatchResult result (λ _. S.faults src.new ≡ S.faults src.old)
             (StopCause (S.faults src.old) (S.faults src.new)) }
         ensures gathered { IfOk result (IsGathered has_end (S.left src.old)) }
+        ensures limit { MatchResult result (λ _. IsWithinLimit (S.left src.old)) (StopsBeyond (S.left src.old)) }
     {
         let mut input = Input::new(alloc);
         let mut lines = Lines::new(alloc, MOST_BYTES)?;
@@ -168,6 +170,7 @@ pub fn all_lines<S: Source>(alloc: Global, src: &mut S) -> Result<Kept, IoStop>
     ensures cause { MatchResult result (λ _. S.faults src.new ≡ S.faults src.old)
         (StopCause (S.faults src.old) (S.faults src.new)) }
     ensures lines { IfOk result (λ kept. AreLines (S.left src.old) kept.items) }
+    ensures limit { MatchResult result (λ _. IsWithinLimit (S.left src.old)) (StopsBeyond (S.left src.old)) }
 {
     let mut kept = Vec::new(alloc);
     let mut lines = Lines::new(alloc, MOST_BYTES)?;

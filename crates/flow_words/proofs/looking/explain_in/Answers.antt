@@ -2,6 +2,7 @@ use Rattle.std.proofs.Common.{◌∙◌, ap, inl, inr, rules}
 use Rattle.std.proofs.lemmas.Result.{err_from_is_err_and}
 use Rattle.flow_core.specs.Summaries.{summary}
 use Rattle.flow_session.proofs.Runs.{opened}
+use Rattle.flow_words.specs.Outside.{files}
 use Rattle.flow_words.specs.Scripts.{status_of_word}
 use Rattle.flow_words.proofs.EndingLemmas.{word_memory}
 use Rattle.flow_words.proofs.Serving.{stood_there}
@@ -22,7 +23,7 @@ returns-in_err-explain_word-in-Ok-clause-cause g c read read' =
 pub returns-in_err-explain_word-in-Ok-clause-prints : goal.returns-in_err-explain_word-in-Ok-clause-prints
 returns-in_err-explain_word-in-Ok-clause-prints g c =
     let p = err_from_is_err_and c.from_residual-in_err-explain_word-in-Ok.result c.from_residual-in_err-explain_word-in-Ok.ensures.1 in
-    inr (inl (no_memory g.D.Disk.tells g.D.Disk.seen c.args.disk.now (g.K.Sink.held c.args.out.now) (status_of_word c.from_residual-in_err-explain_word-in-Ok.result) (ap status_of_word p.1 ∙ p.2)))
+    inr (inl (no_memory (files g.D.Disk c.args.disk.now c.args.disk.now) (g.K.Sink.held c.args.out.now) (status_of_word c.from_residual-in_err-explain_word-in-Ok.result) (ap status_of_word p.1 ∙ p.2)))
 
 pub returns-in-None-clause-cause : goal.returns-in-None-clause-cause
 returns-in-None-clause-cause g c read read' = c.print_usage-in-None.ensures.cause read read' (g.D.Disk.faults c.args.disk.now) (g.D.Disk.faults c.reopen.new.disk)
@@ -44,7 +45,7 @@ returns-clause-prints g c = inr (inr (record {
 }))
 
 pub returns-in_err-named_activity-clause-prints : goal.returns-in_err-named_activity-clause-prints
-returns-in_err-named_activity-clause-prints g c = inr (inl (no_memory g.D.Disk.tells g.D.Disk.seen c.args.disk.now (g.K.Sink.held c.args.out.now) (status_of_word c.from_residual.result) (search rules)))
+returns-in_err-named_activity-clause-prints g c = inr (inl (no_memory (files g.D.Disk c.args.disk.now c.args.disk.now) (g.K.Sink.held c.args.out.now) (status_of_word c.from_residual.result) (search rules)))
 
 pub returns-then-is_none-clause-prints : goal.returns-then-is_none-clause-prints
 returns-then-is_none-clause-prints g c = inl (c.in_ok-named_activity.ensures.none (search rules), c.print_usage.ensures.prints)

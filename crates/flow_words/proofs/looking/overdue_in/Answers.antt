@@ -1,6 +1,7 @@
 use Rattle.std.proofs.Common.{inl, inr, rules}
 use Rattle.flow_core.specs.Summaries.{summary}
 use Rattle.flow_session.proofs.Runs.{opened}
+use Rattle.flow_words.specs.Outside.{files}
 use Rattle.flow_words.specs.Scripts.{status_of_word}
 use Rattle.flow_words.proofs.Verdicts.{prints_late, no_memory}
 use Rattle.flow_words.proofs.Serving.{stood_there}
@@ -17,7 +18,7 @@ returns-in_ok-text-in-Ok-clause-prints g c = inr (record {
 })
 
 pub returns-in_err-text-in-Ok-clause-prints : goal.returns-in_err-text-in-Ok-clause-prints
-returns-in_err-text-in-Ok-clause-prints g c = inl (no_memory g.D.Disk.tells g.D.Disk.seen c.args.disk.now (g.K.Sink.held c.args.out.now) (status_of_word c.from_residual.result) (search rules))
+returns-in_err-text-in-Ok-clause-prints g c = inl (no_memory (files g.D.Disk c.args.disk.now c.args.disk.now) (g.K.Sink.held c.args.out.now) (status_of_word c.from_residual.result) (search rules))
 
 pub returns-in-Err-clause-cause : goal.returns-in-Err-clause-cause
 returns-in-Err-clause-cause g c read read' = c.refuse.ensures.cause read read' (g.D.Disk.faults c.args.disk.now) (g.D.Disk.faults c.reopen.new.disk) c.in-Err.ensures.cause

@@ -1,16 +1,11 @@
 use Rattle.std.proofs.Common.{inl, rules}
 use Rattle.txn_log.specs.declared.log.Log.{Log}
-use Rattle.flow_words.proofs.Crashes.{made_none, stands_new}
+use Rattle.flow_words.proofs.Crashes.{never_done, stands_new}
 use Rattle.flow_words.proofs.EndingLemmas.{open_cause}
 use Rattle.flow_words.proofs.stored.make.Goals as goal
 
-pub returns-then-queues-lt1-clause-store : goal.returns-then-queues-lt1-clause-store
-returns-then-queues-lt1-clause-store g c told only = made_none g.D.Disk.moment g.D.Disk.left_since g.D.Disk.seen g.D.Disk.images g.met.D.Disk.only_now c.args.disk.now _ only (λ done. absurd (cc))
-
 pub returns-in-Ok-clause-store : goal.returns-in-Ok-clause-store
 returns-in-Ok-clause-store g c told only = record {
-  queues = c.args.settings.queues;
-  limit = c.args.settings.limit;
   any_moment = c.in-Ok.ensures.any_moment told only;
   made = λ done image left. rw (c.in-Ok.ensures.durable image left) (stands_new c.args.settings.queues c.args.settings.limit (g.D.Disk.seen c.make.new.disk) (c.in-Ok.ensures.made told));
 }
@@ -22,7 +17,13 @@ pub returns-in-Ok-clause-cause : goal.returns-in-Ok-clause-cause
 returns-in-Ok-clause-cause g c read read' = c.print_answer.ensures.cause read read' (g.D.Disk.faults c.args.disk.now) (g.D.Disk.faults c.make.new.disk)
 
 pub returns-in-Ok-clause-prints : goal.returns-in-Ok-clause-prints
-returns-in-Ok-clause-prints g c queues limit = inl (record {
+returns-in-Ok-clause-prints g c = inl (record {
   stands = λ told image left. rw (c.in-Ok.ensures.durable image left) (stands_new c.args.settings.queues c.args.settings.limit (g.D.Disk.seen c.make.new.disk) (c.in-Ok.ensures.made told));
   printed = search rules;
 })
+
+pub returns-in-Err-clause-store : goal.returns-in-Err-clause-store
+returns-in-Err-clause-store g c told only = record {
+  any_moment = c.in-Err.ensures.any_moment told only;
+  made = λ done. absurd (never_done c.refuse.result c.refuse.ensures.fails done);
+}

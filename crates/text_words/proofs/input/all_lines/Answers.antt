@@ -1,10 +1,12 @@
 use Rattle.std.proofs.Common.{refl, rules}
+use Rattle.text_words.proofs.Limits.{ends_ahead}
 use Rattle.text_words.proofs.Gathering.{keeps_none, keeps_more}
 use Rattle.text_words.proofs.input.all_lines.Goals as goal
 
 pub turns-init : goal.turns-init
 turns-init g c = record {
   counted = refl;
+  ahead = rw c.in_ok-lines.ensures (ends_ahead (g.S.Source.left c.args.src.now));
   so_far = rw c.in_ok-lines.ensures (keeps_none (g.S.Source.left c.args.src.now) c.new-kept.result.items (search rules));
 }
 
