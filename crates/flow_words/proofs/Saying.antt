@@ -1,8 +1,8 @@
--- Which word a name is of, and what is said where it is read.
-use Rattle.std.proofs.Common.{◌≡◌, ◌≢◌, ◌<◌, ◌≤◌, ℕ, Option, Some, None, List, String, [], ◌∷◌, codes, map, string_bytes, length, get_or, drop, if◌then◌else◌, refl, sym, subst, ap, ◌∙◌, arith}
+-- Which word a name is of, and what stands behind it.
+use Rattle.std.proofs.Common.{◌≡◌, ◌≢◌, ◌<◌, ◌≤◌, ℕ, None, List, String, [], ◌∷◌, codes, map, string_bytes, length, get_or, drop, if◌then◌else◌, refl, sym, subst, ap, ◌∙◌, arith}
 use Rattle.std.specs.Prelude.{bytes_eq}
-use Rattle.flow_words.specs.Numbers.{NameNoSettings, NamesNoLoad, Names}
-use Rattle.flow_words.specs.Said.{name_of, Behind, BehindFiles, Say, IsSaid, IsWhere}
+use Rattle.flow_words.specs.Numbers.{NameNoSettings, AreQueues, IsLimit}
+use Rattle.flow_words.specs.Said.{name_of, Behind, BehindFiles, Say, IsSaid}
 use Rattle.flow_words.specs.declared.numbers.Settings.{Settings}
 use Rattle.flow_words.specs.declared.word.Word.{Word}
 use Rattle.flow_words.specs.declared.word.Word.TheVariants.{Check, Fate, Try, Load, New, Run, Follow, Explain, Verify, Overdue, Ship}
@@ -51,42 +51,6 @@ is_like (Ship number) = (number, refl)
 named : (name : List ℕ) (word : Word) → name ≡ name_of word → IsLike (sample name) word
 named name word is = subst (λ (n : List ℕ). IsLike (sample n) word) (sym is) (is_like word)
 
--- ---- what is said
-
--- a word without numbers, which is found exactly where it stands behind its name
-found_where : (word : Word) → ((other : Word) → name_of word ≡ name_of other → other ≡ word) → (rest : List (List ℕ)) (found : Option Word) → IsWhere (Behind word rest) word found → IsSaid (name_of word ∷ rest) found
-found_where word one rest None is = λ other says. is (subst (λ (w : Word). Behind w rest) (one other says.0) says.1)
-found_where word one rest (Some w) (is, behind) = (ap name_of (sym is), subst (λ (v : Word). Behind v rest) (sym is) behind)
-
--- the same under a name that is the word's
-said_where : (word : Word) → ((other : Word) → name_of word ≡ name_of other → other ≡ word) → (name : List ℕ) → name ≡ name_of word → (rest : List (List ℕ)) (found : Option Word) → IsWhere (Behind word rest) word found → IsSaid (name ∷ rest) found
-said_where word one name same rest found is = subst (λ (n : List ℕ). IsSaid (n ∷ rest) found) (sym same) (found_where word one rest found is)
-
-pub said_check : (name : List ℕ) → name ≡ codes "check" → (rest : List (List ℕ)) (found : Option Word) → IsWhere (rest ≡ []) Check found → IsSaid (name ∷ rest) found
-said_check = said_where Check (λ other same. named (codes "check") other same)
-
-pub said_fate : (name : List ℕ) → name ≡ codes "fate" → (rest : List (List ℕ)) (found : Option Word) → IsWhere (rest ≡ []) Fate found → IsSaid (name ∷ rest) found
-said_fate = said_where Fate (λ other same. named (codes "fate") other same)
-
-pub said_run : (name : List ℕ) → name ≡ codes "run" → (rest : List (List ℕ)) (found : Option Word) → IsWhere (Behind Run rest) Run found → IsSaid (name ∷ rest) found
-said_run = said_where Run (λ other same. named (codes "run") other same)
-
-pub said_follow : (name : List ℕ) → name ≡ codes "follow" → (rest : List (List ℕ)) (found : Option Word) → IsWhere (Behind Follow rest) Follow found → IsSaid (name ∷ rest) found
-said_follow = said_where Follow (λ other same. named (codes "follow") other same)
-
-pub said_explain : (name : List ℕ) → name ≡ codes "explain" → (rest : List (List ℕ)) (found : Option Word) → IsWhere (Behind Explain rest) Explain found → IsSaid (name ∷ rest) found
-said_explain = said_where Explain (λ other same. named (codes "explain") other same)
-
-pub said_verify : (name : List ℕ) → name ≡ codes "verify" → (rest : List (List ℕ)) (found : Option Word) → IsWhere (Behind Verify rest) Verify found → IsSaid (name ∷ rest) found
-said_verify = said_where Verify (λ other same. named (codes "verify") other same)
-
-pub said_overdue : (name : List ℕ) → name ≡ codes "overdue" → (rest : List (List ℕ)) (found : Option Word) → IsWhere (Behind Overdue rest) Overdue found → IsSaid (name ∷ rest) found
-said_overdue = said_where Overdue (λ other same. named (codes "overdue") other same)
-
--- what is said under a name is said under the same name
-pub said_under : (known name : List ℕ) → name ≡ known → (rest : List (List ℕ)) (found : Option Word) → IsSaid (known ∷ rest) found → IsSaid (name ∷ rest) found
-said_under known name same rest found is = subst (λ (n : List ℕ). IsSaid (n ∷ rest) found) (sym same) is
-
 -- ---- files
 
 -- what is so of the words behind the files
@@ -100,12 +64,6 @@ files_not AreSo [] behind files never so = so
 files_not AreSo (a ∷ []) behind files never so = so
 files_not AreSo (a ∷ b ∷ words) behind files never so = never (subst AreSo files.1 so.1)
 
--- where no two different files stand
-pub files_none : (AreSo : List (List ℕ) → Type 0) (rest : List (List ℕ)) → (BehindFiles (λ words. Unit {0}) rest → ⊥) → BehindFiles AreSo rest → ⊥
-files_none AreSo [] never so = so
-files_none AreSo (a ∷ []) never so = so
-files_none AreSo (a ∷ b ∷ words) never so = never (so.0, tt)
-
 module _ {Z : Type 0} where
   -- two different files
   pub files_there : (words : List (String Z)) (a b : String Z) (behind : List (String Z)) → 2 ≤ length words → a ≡ get_or words 0 a → b ≡ get_or words 1 b → string_bytes a ≢ string_bytes b → behind ≡ drop 2 words
@@ -114,12 +72,6 @@ module _ {Z : Type 0} where
   files_there (x ∷ []) a b behind least first second apart is = absurd (omega arith)
   files_there (x ∷ y ∷ ys) a b behind least first second apart is =
       ((λ same. apart (ap string_bytes first ∙ same ∙ sym (ap string_bytes second))), ap (map string_bytes) (sym is))
-
-  -- fewer words than two
-  pub files_short : (words : List (String Z)) → length words < 2 → BehindFiles (λ ws. Unit {0}) (map string_bytes words) → ⊥
-  files_short [] few so = so
-  files_short (x ∷ []) few so = so
-  files_short (x ∷ y ∷ ys) few so = absurd (omega (arith, few))
 
   -- twice the same file
   pub files_same : (words : List (String Z)) (a b : String Z) → a ≡ get_or words 0 a → b ≡ get_or words 1 b → string_bytes a ≡ string_bytes b → BehindFiles (λ ws. Unit {0}) (map string_bytes words) → ⊥
@@ -141,38 +93,17 @@ no_try rest none word (same, behind) =
     let own = named (codes "try") word same in
     none own.0.queues own.0.limit (subst (λ (w : Word). Behind w rest) own.1 behind)
 
--- no numbers behind `load`
-pub no_load : (rest : List (List ℕ)) → NamesNoLoad rest → IsSaid (codes "load" ∷ rest) None
-no_load rest none word (same, behind) =
-    let own = named (codes "load") word same in
-    none own.0 own.1 (subst (λ (w : Word). Behind w rest) own.2 behind)
-
 -- no settings behind the files of `new`, or no files
 pub no_new : (rest : List (List ℕ)) → ((own : Settings) → Behind (New own) rest → ⊥) → IsSaid (codes "new" ∷ rest) None
 no_new rest none word (same, behind) =
     let own = named (codes "new") word same in
     none own.0 (subst (λ (w : Word). Behind w rest) own.1 behind)
 
--- no number behind the files of `ship`, or no files
-pub no_ship : (rest : List (List ℕ)) → ((own : ℕ) → Behind (Ship own) rest → ⊥) → IsSaid (codes "ship" ∷ rest) None
-no_ship rest none word (same, behind) =
-    let own = named (codes "ship") word same in
-    none own.0 (subst (λ (w : Word). Behind w rest) own.1 behind)
+-- ---- what a word that is said has
 
--- another name
-pub no_name : (name : List ℕ) (rest : List (List ℕ)) → name ≢ codes "check" → name ≢ codes "fate" → name ≢ codes "try" → name ≢ codes "load" → name ≢ codes "new" → name ≢ codes "run"
-    → name ≢ codes "follow" → name ≢ codes "explain" → name ≢ codes "verify" → name ≢ codes "overdue" → name ≢ codes "ship" → IsSaid (name ∷ rest) None
-no_name name rest check fate try load new run follow explain verify overdue ship word (same, behind) = go word same
-  where
-    go : (w : Word) → name ≡ name_of w → ⊥
-    go Check is = check is
-    go Fate is = fate is
-    go (Try settings) is = try is
-    go (Load seed roots) is = load is
-    go (New settings) is = new is
-    go Run is = run is
-    go Follow is = follow is
-    go Explain is = explain is
-    go Verify is = verify is
-    go Overdue is = overdue is
-    go (Ship number) is = ship is
+-- the settings of `new` are those of a store
+pub new_settings : (words : List (List ℕ)) (own : Settings) → Say words (New own) → AreQueues own.queues × IsLimit own.limit
+new_settings [] own says = absurd says
+new_settings (name ∷ []) own says = absurd says.1
+new_settings (name ∷ a ∷ []) own says = absurd says.1
+new_settings (name ∷ a ∷ b ∷ rest) own says = (says.1.1.queues_in, says.1.1.limit_in)

@@ -1,54 +1,36 @@
-use Rattle.std.proofs.Common.{rules, ◌≡◌, ◌∷◌, [], codes, map, string_bytes, inr, refl, subst, Option, Some, Result}
-use Rattle.flow_words.specs.Looking.{PrintsExplained}
-use Rattle.flow_words.specs.Making.{IsNewWord, MakesNamed}
+use Rattle.std.proofs.Common.{◌≡◌, None, Some, codes, map, string_bytes, refl, subst, rules}
+use Rattle.flow_session.proofs.Runs.{kept_alone}
+use Rattle.flow_words.specs.Said.{Say, IsSaid}
 use Rattle.flow_words.specs.Scripts.{status_of_word}
-use Rattle.flow_words.specs.Shipping.{IsShipWord, ShipsNamed}
-use Rattle.flow_words.specs.declared.status.Status.{Status}
-use Rattle.flow_words.specs.declared.stored.Look.TheVariants.{Explain}
-use Rattle.flow_words.specs.declared.stored.Word.{Word}
-use Rattle.flow_words.specs.declared.stored.Word.TheVariants.{Look}
-use Rattle.flow_words.proofs.Words.{none_asked}
+use Rattle.flow_words.proofs.Crashes.{crash_ended}
+use Rattle.flow_words.proofs.EndingLemmas.{ends_usage}
+use Rattle.flow_words.specs.Outside.{files}
 use Rattle.flow_words.proofs.stored.run.Goals as goal
 
-same_word : (found : Option Word) (word other : Word) → found ≡ Some word → found ≡ Some other → word ≡ other
-same_word found word other is too = cc
+pub returns-in_default : goal.returns-in_default
+returns-in_default g c =
+    let none : c.word_of.result ≡ None = search rules in
+    rw c.ended.ensures (record {
+      word = None;
+      said = subst (IsSaid (map string_bytes c.args.words.now)) none c.word_of.ensures;
+      prints = c.print_usage.ensures.prints;
+      causes = ends_usage (g.S.Source.faults c.args.src.now) (g.S.Source.faults c.args.src.now) (g.K.Sink.faults c.args.out.now) (g.K.Sink.faults c.print_usage.new.out) 0 0 (codes "no USAGE\n") (g.K.Sink.held c.args.out.now) (g.K.Sink.held c.print_usage.new.out) (status_of_word c.print_usage.result) c.print_usage.ensures.prints
+          (c.print_usage.ensures.cause (g.S.Source.faults c.args.src.now) (g.S.Source.faults c.args.src.now) 0 0);
+      crash = λ told only. kept_alone g.D.Disk.tells g.D.Disk.moment g.D.Disk.left_since g.D.Disk.seen g.D.Disk.images g.met.D.Disk.only_now c.args.disk only;
+      source = refl;
+      untouched = refl;
+    })
 
-pub returns-in-Ok-default-clause-news : goal.returns-in-Ok-default-clause-news
-returns-in-Ok-default-clause-news g c a b rest is apart =
-    inr (subst
-    (λ (r : Result Status Status). MakesNamed g.D.Disk.tells g.D.Disk.seen g.D.Disk.images rest (g.K.Sink.held c.args.out.now) (g.K.Sink.held c.obey.new.out) c.args.disk c.obey.result.1 (status_of_word r)) c.in-Ok-default.is-0
-    (c.obey.ensures.news rest (subst (IsNewWord rest) c.in-Some.is (c.word_of.ensures.news a b rest is apart))))
+pub returns : goal.returns
+returns g c = rw c.ended.ensures (record {
+  word = Some c.in-Some.word;
+  said = subst (IsSaid (map string_bytes c.args.words.now)) c.in-Some.is c.word_of.ensures;
+  prints = c.obey-end.ensures.prints;
+  causes = c.obey-end.ensures.causes;
+  crash = λ told only. crash_ended (files g.D.Disk c.args.disk c.obey-end.result.1) c.obey-end.result.0 c.in-Some.word (c.obey-end.ensures.crash told only);
+  source = c.obey-end.ensures.source;
+  untouched = c.obey-end.ensures.untouched;
+})
 
-pub returns-in-Err-default-clause-news : goal.returns-in-Err-default-clause-news
-returns-in-Err-default-clause-news g c a b rest is apart =
-    inr (subst
-    (λ (r : Result Status Status). MakesNamed g.D.Disk.tells g.D.Disk.seen g.D.Disk.images rest (g.K.Sink.held c.args.out.now) (g.K.Sink.held c.obey.new.out) c.args.disk c.obey.result.1 (status_of_word r)) c.in-Err-default.is-0
-    (c.obey.ensures.news rest (subst (IsNewWord rest) c.in-Some.is (c.word_of.ensures.news a b rest is apart))))
-
-pub returns-in-Ok-default-clause-explain : goal.returns-in-Ok-default-clause-explain
-returns-in-Ok-default-clause-explain g c a b activity is apart =
-    subst
-    (λ (r : Result Status Status). PrintsExplained g.D.Disk.tells g.D.Disk.moment g.D.Disk.left_since g.D.Disk.seen g.D.Disk.images activity (g.K.Sink.held c.args.out.now) (g.K.Sink.held c.obey.new.out) c.args.disk c.obey.result.1 (status_of_word r)) c.in-Ok-default.is-0
-    (c.obey.ensures.explain (codes "explain" ∷ a ∷ b ∷ []) activity (same_word c.word_of.result c.in-Some.word (Look Explain) c.in-Some.is (c.word_of.ensures.explain a b activity is apart)) is)
-
-pub returns-in-Err-default-clause-explain : goal.returns-in-Err-default-clause-explain
-returns-in-Err-default-clause-explain g c a b activity is apart =
-    subst
-    (λ (r : Result Status Status). PrintsExplained g.D.Disk.tells g.D.Disk.moment g.D.Disk.left_since g.D.Disk.seen g.D.Disk.images activity (g.K.Sink.held c.args.out.now) (g.K.Sink.held c.obey.new.out) c.args.disk c.obey.result.1 (status_of_word r)) c.in-Err-default.is-0
-    (c.obey.ensures.explain (codes "explain" ∷ a ∷ b ∷ []) activity (same_word c.word_of.result c.in-Some.word (Look Explain) c.in-Some.is (c.word_of.ensures.explain a b activity is apart)) is)
-
-pub returns-in-Ok-default-clause-ships : goal.returns-in-Ok-default-clause-ships
-returns-in-Ok-default-clause-ships g c a b number is apart =
-    inr (subst (λ (r : Result Status Status). ShipsNamed g.D.Disk.tells g.D.Disk.seen number (g.K.Sink.held c.args.out.now) (g.K.Sink.held c.obey.new.out) c.args.disk (status_of_word r)) c.in-Ok-default.is-0
-    (c.obey.ensures.ships number (subst (IsShipWord number) c.in-Some.is (c.word_of.ensures.ships a b number is apart))))
-
-pub returns-in-Err-default-clause-ships : goal.returns-in-Err-default-clause-ships
-returns-in-Err-default-clause-ships g c a b number is apart =
-    inr (subst (λ (r : Result Status Status). ShipsNamed g.D.Disk.tells g.D.Disk.seen number (g.K.Sink.held c.args.out.now) (g.K.Sink.held c.obey.new.out) c.args.disk (status_of_word r)) c.in-Err-default.is-0
-    (c.obey.ensures.ships number (subst (IsShipWord number) c.in-Some.is (c.word_of.ensures.ships a b number is apart))))
-
-pub returns-in_default-clause-store : goal.returns-in_default-clause-store
-returns-in_default-clause-store g c told only = inr (
-  none_asked (map string_bytes c.args.words.now) c.word_of.result c.word_of.ensures.run c.word_of.ensures.follows c.word_of.ensures.overdue c.word_of.ensures.verify c.word_of.ensures.explain c.word_of.ensures.news c.word_of.ensures.ships (search rules),
-  refl,
-)
+pub obey-end-requires : goal.obey-end-requires
+obey-end-requires g c = subst (IsSaid (map string_bytes c.args.words.now)) c.in-Some.is c.word_of.ensures
