@@ -6,6 +6,7 @@ use Rattle.flow_session.specs.Stopping.{IsOpenCause}
 use Rattle.standby.specs.Endings.{ShipEnd}
 use Rattle.standby.specs.declared.stops.ShipStop.{ShipStop}
 use Rattle.standby.specs.declared.stops.ShipStop.TheVariants as ship
+use Rattle.flow_io.specs.Causes.{Rose}
 use Rattle.flow_words.specs.Endings.{WordCause}
 use Rattle.standby.specs.Texts.{follow_refusal_line}
 use Rattle.standby.specs.declared.stops.FollowStop.{FollowStop}
@@ -34,14 +35,6 @@ module _ (held held' : Option (List ℕ)) (ended : Status) where
 
 -- ---- why shipping ends
 
--- the sink's count stayed where the sink didn't fail
-pub sink_stayed : (from before now : ℕ) (s : ShipStop) → ShipEnd from before now s → (s ≡ ship.WriteFault → ⊥) → now ≡ before
-sink_stayed from before now (ship.Store stop) ends other = ends
-sink_stayed from before now (ship.Gone kept) ends other = ends.1
-sink_stayed from before now (ship.Ahead number) ends other = ends.1
-sink_stayed from before now ship.WriteFault ends other = absurd (other refl)
-sink_stayed from before now ship.NoMemory ends other = ends
-
 -- where no fault of the store is answered, its counts are of no account
 other_counts : (read read' put put' before now store store' : ℕ) (s : Status) → (s ≡ StoreFault → ⊥) → WordCause read read' put put' before now s → WordCause read read' put put' store store' s
 other_counts read read' put put' before now store store' Done other h = tt
@@ -64,3 +57,23 @@ refused_cause log.Made read read' put put' store store' s cause other = other_co
 refused_cause (log.Foreign slot) read read' put put' store store' s cause other = other_counts read read' put put' 0 0 store store' s other (cause 0 0 refl)
 refused_cause (log.Damaged slot place) read read' put put' store store' s cause other = other_counts read read' put put' 0 0 store store' s other (cause 0 0 refl)
 refused_cause log.NoMemory read read' put put' store store' s cause other = other_counts read read' put put' 0 0 store store' s other (cause 0 0 refl)
+
+-- what rose, and rose again
+later_rose : (before mid now : ℕ) → Rose before mid → Rose mid now → Rose before now
+later_rose before mid now first then = omega (arith, first, then)
+
+-- the end of a word that shipped before it printed
+pub after_shipping : (from before mid now read read' store store' : ℕ) (stop : ShipStop) (s : Status) → ShipEnd from before mid stop → WordCause read read' mid now store store' s → WordCause read read' before now store store' s
+after_shipping from before mid now read read' store store' (ship.Store stop) s ends h = subst (λ (put : ℕ). WordCause read read' put now store store' s) ends h
+after_shipping from before mid now read read' store store' (ship.Gone kept) s ends h = subst (λ (put : ℕ). WordCause read read' put now store store' s) ends.1 h
+after_shipping from before mid now read read' store store' (ship.Ahead number) s ends h = subst (λ (put : ℕ). WordCause read read' put now store store' s) ends.1 h
+after_shipping from before mid now read read' store store' ship.NoMemory s ends h = subst (λ (put : ℕ). WordCause read read' put now store store' s) ends h
+after_shipping from before mid now read read' store store' ship.WriteFault Done ends h = tt
+after_shipping from before mid now read read' store store' ship.WriteFault Usage ends h = tt
+after_shipping from before mid now read read' store store' ship.WriteFault Store ends h = tt
+after_shipping from before mid now read read' store store' ship.WriteFault StoreFault ends h = h
+after_shipping from before mid now read read' store store' ship.WriteFault ReadFault ends h = h
+after_shipping from before mid now read read' store store' ship.WriteFault WriteFault ends h = later_rose before mid now ends h
+after_shipping from before mid now read read' store store' ship.WriteFault NoMemory ends h = tt
+after_shipping from before mid now read read' store store' ship.WriteFault ScriptTooLong ends h = tt
+after_shipping from before mid now read read' store store' ship.WriteFault Refused ends h = tt
