@@ -60,7 +60,7 @@ refused_cause log.NoMemory read read' put put' store store' s cause other = othe
 
 -- what rose, and rose again
 later_rose : (before mid now : ℕ) → Rose before mid → Rose mid now → Rose before now
-later_rose before mid now first then = omega (arith, first, then)
+later_rose before mid now first again = omega (arith, first, again)
 
 -- the end of a word that shipped before it printed
 pub after_shipping : (from before mid now read read' store store' : ℕ) (stop : ShipStop) (s : Status) → ShipEnd from before mid stop → WordCause read read' mid now store store' s → WordCause read read' before now store store' s

@@ -129,6 +129,7 @@ impl Input {
     }
 
     /// Reads a source to its end. It stops as `Lines::next` does.
+    #[tactic(auto, using(crate::proofs::Limits::within, crate::proofs::Limits::beyond, crate::proofs::Limits::ends_behind))]
     pub fn read<S: Source>(alloc: Global, src: &mut S, has_end: bool) -> Result<Input, IoStop>
         ensures cause { MatchResult result (λ _. S.faults src.new ≡ S.faults src.old)
             (StopCause (S.faults src.old) (S.faults src.new)) }
@@ -166,6 +167,7 @@ fn keep(alloc: Global, kept: &mut Kept, found: Line, line: &[u8]) -> Result<(), 
 }
 
 /// The lines of a source to its end. It stops as `Lines::next` does.
+#[tactic(auto, using(crate::proofs::Limits::within, crate::proofs::Limits::beyond))]
 pub fn all_lines<S: Source>(alloc: Global, src: &mut S) -> Result<Kept, IoStop>
     ensures cause { MatchResult result (λ _. S.faults src.new ≡ S.faults src.old)
         (StopCause (S.faults src.old) (S.faults src.new)) }

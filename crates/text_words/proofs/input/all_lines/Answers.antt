@@ -1,5 +1,5 @@
 use Rattle.std.proofs.Common.{refl, rules}
-use Rattle.text_words.proofs.Limits.{ends_ahead}
+use Rattle.text_words.proofs.Limits.{ends_ahead, ends_behind}
 use Rattle.text_words.proofs.Gathering.{keeps_none, keeps_more}
 use Rattle.text_words.proofs.input.all_lines.Goals as goal
 
@@ -13,6 +13,7 @@ turns-init g c = record {
 pub turns-preserved : goal.turns-preserved
 turns-preserved g c = record {
   counted = search rules;
+  ahead = ends_behind (g.S.Source.left c.args.src.now) (g.S.Source.left c.turns.src) (g.S.Source.left c.next.new.src) c.turns.lines c.next.new.self c.in_ok-found.found c.turns.invariant.ahead c.in_ok-found.ensures.serves (search rules);
   so_far = keeps_more (g.S.Source.left c.args.src.now) (g.S.Source.left c.turns.src) (g.S.Source.left c.next.new.src) c.turns.lines c.next.new.self c.in_ok-found.found c.turns.kept.items c.keep.new.kept.items c.turns.invariant.so_far c.in_ok-found.ensures.serves (search rules)
       (rw c.text.ensures at c.in_ok-keep.ensures);
 }
