@@ -1,6 +1,7 @@
 pub mod Saying
 pub mod EndingLemmas
 pub mod Crashes
+pub mod Statuses
 pub mod Printing
 pub mod Serving
 pub mod Verdicts

@@ -12,3 +12,4 @@ pub mod Shipping
 pub mod Openings
 pub mod Crashes
 pub mod Endings
+pub mod Statuses
