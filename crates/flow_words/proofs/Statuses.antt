@@ -35,8 +35,8 @@ module _ (IsSo : Status → Type 0) (ended : Status) where
   by_text text status held held' (inr part) so fault = subst IsSo (sym part.0) fault
 
   by_either : (refused : Bool) → IsSo Refused → IsSo Done → IsSo (if refused then Refused else Done)
-  by_either true no yes = no
-  by_either false no yes = yes
+  by_either true refuses answers = refuses
+  by_either false refuses answers = answers
 
   by_refusal : (stop : LogStop) (held held' : Option (List ℕ)) → RefusesStore stop held held' ended → IsSo Store → IsSo StoreFault → IsSo WriteFault → IsSo NoMemory → IsSo ended
   by_refusal stop held held' (inl none) store fault write memory = subst IsSo (sym none.0) memory
@@ -86,9 +86,9 @@ stopped IsSo Refused h store read write memory long = absurd h
 
 answer_ends : (IsSo : Status → Type 0) (left : Option (List ℕ)) (Answers : Input → Answer → Type 0) (held held' : Option (List ℕ)) (ended : Status) → PrintsAnswer left Answers held held' ended
     → IsSo Refused → IsSo Done → IsSo ReadFault → IsSo WriteFault → IsSo NoMemory → IsSo ScriptTooLong → IsSo ended
-answer_ends IsSo left Answers held held' ended (inl (none, keeps)) no yes read write memory long = unanswered IsSo left ended none read memory long
-answer_ends IsSo left Answers held held' ended (inr (input, answer, answers, printed)) no yes read write memory long =
-    by_text IsSo ended answer.text.items (if answer.is_refused then Refused else Done) held held' printed (by_either IsSo ended answer.is_refused no yes) write
+answer_ends IsSo left Answers held held' ended (inl (none, keeps)) refuses ends read write memory long = unanswered IsSo left ended none read memory long
+answer_ends IsSo left Answers held held' ended (inr (input, answer, answers, printed)) refuses ends read write memory long =
+    by_text IsSo ended answer.text.items (if answer.is_refused then Refused else Done) held held' printed (by_either IsSo ended answer.is_refused refuses ends) write
 
 -- ---- scripts
 
