@@ -22,7 +22,7 @@ use Rattle.flow_words.specs.Printed.{Prints, PrintsAnswer, IsUnanswered}
 use Rattle.flow_words.specs.Said.{Say}
 use Rattle.flow_words.specs.Scripts.{EndsAs, RunsStore, TriesScript}
 use Rattle.flow_words.specs.Shipping.{EndsShipping}
-use Rattle.flow_words.specs.Statuses.{IsOneOf, script_ends, store_ends, ends_of}
+use Rattle.flow_words.specs.Statuses.{IsOneOf, script_ends, store_ends, statuses_of}
 use Rattle.flow_words.specs.declared.status.Status.{Status}
 use Rattle.flow_words.specs.declared.status.Status.TheVariants.{Done, Usage, Store, StoreFault, ReadFault, WriteFault, NoMemory, ScriptTooLong, Refused}
 use Rattle.flow_words.specs.declared.word.Word.{Word}
@@ -207,7 +207,7 @@ explained_last (name ∷ a ∷ []) says = absurd says.1
 explained_last (name ∷ a ∷ b ∷ rest) says = let own = says.1.1 in (name ∷ a ∷ b ∷ [], own.0, ap (λ (r : List (List ℕ)). name ∷ a ∷ b ∷ r) own.1)
 
 -- what is printed tells how a word may end
-pub word_ends : {D : Type 0} (words : List (List ℕ)) (word : Word) (c : Channels) (f : Files D) (ended : Status) → Say words word → PrintsWord words (Some word) c f ended → IsCaused (Some word) c f ended → IsOneOf ended (ends_of (Some word))
+pub word_ends : {D : Type 0} (words : List (List ℕ)) (word : Word) (c : Channels) (f : Files D) (ended : Status) → Say words word → PrintsWord words (Some word) c f ended → IsCaused (Some word) c f ended → IsOneOf ended (statuses_of (Some word))
 word_ends words Check c f ended says printed cause = answered_ends c.left _ c.held c.held' ended printed
 word_ends words Fate c f ended says printed cause = answered_ends c.left _ c.held c.held' ended printed
 word_ends words (Try settings) c f ended says (served, tried, ends) cause = try_ends c.reads c.reads' c.puts c.puts' served ended ends cause
@@ -221,5 +221,5 @@ word_ends words Overdue c f ended says printed cause = overdue_ends f c.held c.h
 word_ends words (Ship number) c f ended says printed cause = shipping_ends printed.result printed.shipped c.held' ended printed.printed
 
 -- words that say none
-pub usage_ends : {D : Type 0} (words : List (List ℕ)) (c : Channels) (f : Files D) (ended : Status) → PrintsWord words None c f ended → IsOneOf ended (ends_of None)
+pub usage_ends : {D : Type 0} (words : List (List ℕ)) (c : Channels) (f : Files D) (ended : Status) → PrintsWord words None c f ended → IsOneOf ended (statuses_of None)
 usage_ends words c f ended printed = by_text (λ s. IsOneOf s (Usage ∷ WriteFault ∷ [])) ended (codes "no USAGE\n") Usage c.held c.held' printed (inl refl) (inr (inl refl))

@@ -11,7 +11,7 @@ use Rattle.flow_words.specs.Printed.{Prints, PrintsAnswer, IsCheckOf, IsFateOf}
 use Rattle.flow_words.specs.Said.{IsSaid}
 use Rattle.flow_words.specs.Scripts.{RunsStore, TriesScript}
 use Rattle.flow_words.specs.Shipping.{PrintsShipped}
-use Rattle.flow_words.specs.Statuses.{IsOneOf, ends_of}
+use Rattle.flow_words.specs.Statuses.{IsOneOf, statuses_of}
 use Rattle.flow_words.specs.declared.status.Status.{Status}
 use Rattle.flow_words.specs.declared.status.Status.TheVariants.{Done, Usage}
 use Rattle.flow_words.specs.declared.word.Word.{Word}
@@ -52,7 +52,7 @@ pub record RunIsCorrect {D : Type 0} (words : List (List ℕ)) (c : Channels) (f
   pub word : Option Word
   pub said : IsSaid words word
   pub prints : PrintsWord words word c f ended
-  pub statuses : IsOneOf ended (ends_of word)
+  pub statuses : IsOneOf ended (statuses_of word)
   pub causes : IsCaused word c f ended
   pub crash : IfSettled f (LeavesAtCrash word f (ended ≡ Done))
   pub source : LeavesSource word c

@@ -21,16 +21,16 @@ abbrev pub store_ends : List Status
 store_ends = Done ∷ Store ∷ StoreFault ∷ WriteFault ∷ NoMemory ∷ []
 
 -- how each word may end; where none is said, by its refusal
-abbrev pub ends_of : Option Word → List Status
-ends_of None = Usage ∷ WriteFault ∷ []
-ends_of (Some Check) = Refused ∷ script_ends
-ends_of (Some Fate) = Refused ∷ script_ends
-ends_of (Some (Try settings)) = script_ends
-ends_of (Some (Load seed roots)) = Done ∷ WriteFault ∷ NoMemory ∷ []
-ends_of (Some (New settings)) = store_ends
-ends_of (Some Run) = Store ∷ StoreFault ∷ script_ends
-ends_of (Some Follow) = Refused ∷ Store ∷ StoreFault ∷ script_ends
-ends_of (Some Explain) = Usage ∷ Refused ∷ store_ends
-ends_of (Some Verify) = Refused ∷ Store ∷ StoreFault ∷ script_ends
-ends_of (Some Overdue) = store_ends
-ends_of (Some (Ship number)) = Refused ∷ store_ends
+abbrev pub statuses_of : Option Word → List Status
+statuses_of None = Usage ∷ WriteFault ∷ []
+statuses_of (Some Check) = Refused ∷ script_ends
+statuses_of (Some Fate) = Refused ∷ script_ends
+statuses_of (Some (Try settings)) = script_ends
+statuses_of (Some (Load seed roots)) = Done ∷ WriteFault ∷ NoMemory ∷ []
+statuses_of (Some (New settings)) = store_ends
+statuses_of (Some Run) = Store ∷ StoreFault ∷ script_ends
+statuses_of (Some Follow) = Refused ∷ Store ∷ StoreFault ∷ script_ends
+statuses_of (Some Explain) = Usage ∷ Refused ∷ store_ends
+statuses_of (Some Verify) = Refused ∷ Store ∷ StoreFault ∷ script_ends
+statuses_of (Some Overdue) = store_ends
+statuses_of (Some (Ship number)) = Refused ∷ store_ends
