@@ -14,13 +14,13 @@ use Rattle.flow_words.specs.Correct.{PrintsWord}
 use Rattle.flow_words.specs.Endings.{EndCause, IsCaused, StopsScript}
 use Rattle.flow_words.specs.Following.{PrintsLine, PrintsResult}
 use Rattle.flow_words.specs.Loading.{PrintsLoaded}
-use Rattle.flow_words.specs.Looking.{PrintsVerdict, PrintsReason, PrintsLate, LooksInto, PrintsExplained, PrintsOverdue, PrintsVerified}
+use Rattle.flow_words.specs.Looking.{PrintsVerdict, PrintsReason, PrintsLate, PrintsExplained, PrintsOverdue, PrintsVerified}
 use Rattle.flow_words.specs.Making.{PrintsMade}
 use Rattle.flow_words.specs.Openings.{RefusesStore, IsUnserved}
 use Rattle.flow_words.specs.Outside.{Channels, Files}
 use Rattle.flow_words.specs.Printed.{Prints, PrintsAnswer, IsUnanswered}
 use Rattle.flow_words.specs.Said.{Say}
-use Rattle.flow_words.specs.Scripts.{EndsAs, RunsStore, TriesScript}
+use Rattle.flow_words.specs.Scripts.{EndsAs, RunsStore}
 use Rattle.flow_words.specs.Shipping.{EndsShipping}
 use Rattle.flow_words.specs.Statuses.{IsOneOf, script_ends, store_ends, statuses_of}
 use Rattle.flow_words.specs.declared.status.Status.{Status}

@@ -1,6 +1,6 @@
 -- What `load` serves and prints: a script that two numbers make, and the line that sums it up.
 use Rattle.std.specs.Prelude.{◌≡◌, ◌⊎◌, ℕ, zero, suc, ◌+◌, ◌*◌, ◌/◌, ◌%◌, ◌-◌, ◌^◌, min, nat_lt, Bool, true, false}
-use Rattle.std.specs.Prelude.{if◌then◌else◌, count_by, Option, None, Some, List, [], ◌∷◌, ◌++◌, length, map, codes}
+use Rattle.std.specs.Prelude.{if◌then◌else◌, count_by, Option, List, [], ◌∷◌, ◌++◌, length, map, codes}
 use Rattle.std.specs.Prelude.{decimal}
 use Rattle.std.specs.List.{flat_map}
 use Rattle.std.specs.Io.KnownBytes.{Keeps}

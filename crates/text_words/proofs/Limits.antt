@@ -10,7 +10,7 @@ use Rattle.flow_io.specs.declared.lines.Line.{Line}
 use Rattle.flow_io.specs.declared.lines.Line.TheVariants.{Text, TooLong, Ended}
 use Rattle.flow_io.specs.Reading.{Reading}
 use Rattle.flow_io.specs.Serving.{unserved, ServesInputs}
-use Rattle.text_words.specs.Limits.{IsWithinLimit, IsBeyondLimit, StopsBeyond}
+use Rattle.text_words.specs.Limits.{IsWithinLimit, StopsBeyond}
 
 -- what comes is the end
 abbrev is_last : LineInput → Bool

@@ -1,4 +1,4 @@
-use Rattle.std.proofs.Common.{◌≡◌, ℕ, List, map, string_bytes, refl, subst}
+use Rattle.std.proofs.Common.{ℕ, List, map, string_bytes, refl, subst}
 use Rattle.flow_session.proofs.Runs.{kept_alone}
 use Rattle.flow_words.specs.Looking.{PrintsExplained}
 use Rattle.flow_words.specs.Outside.{files}

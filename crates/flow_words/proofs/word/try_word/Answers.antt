@@ -1,5 +1,4 @@
-use Rattle.std.proofs.Common.{◌∷◌, codes, map, string_bytes, sym, subst}
-use Rattle.flow_words.specs.Said.{IsSaid}
+use Rattle.std.proofs.Common.{map, string_bytes}
 use Rattle.flow_words.proofs.Saying.{no_try}
 use Rattle.flow_words.proofs.word.try_word.Goals as goal
 
