@@ -16,7 +16,8 @@ queues_before count from queue = if nat_le from queue then queue - from else que
 -- of the queues that have a message, it is the first in turn from another one on
 pub record IsNextQueue (c : Core) (from queue : ℕ) : Type 0 where
   pub has : has_message c queue ≡ true
-  pub first : (other : ℕ) → has_message c other ≡ true → queues_before (length c.queues) from queue ≤ queues_before (length c.queues) from other
+  pub first : (other : ℕ) → has_message c other ≡ true
+      → queues_before (length c.queues) from queue ≤ queues_before (length c.queues) from other
 
 -- the queue behind it, in turn
 abbrev pub queue_behind : ℕ → ℕ → ℕ
@@ -31,7 +32,8 @@ pub record TakesFront (old new : Core) (queue : ℕ) : Type 0 where
 -- so many messages are taken, one after another; then the turn is at this queue
 pub data TakesInTurn (c : Core) : ℕ → ℕ → Core → Type 0 where
   NoTurn : TakesInTurn c 0 1 c
-  OneTurn : {n from queue : ℕ} {c' c'' : Core} → TakesInTurn c n from c' → IsNextQueue c' from queue → TakesFront c' c'' queue → TakesInTurn c (n + 1) (queue_behind (length c'.queues) queue) c''
+  OneTurn : {n from queue : ℕ} {c' c'' : Core} → TakesInTurn c n from c' → IsNextQueue c' from queue
+      → TakesFront c' c'' queue → TakesInTurn c (n + 1) (queue_behind (length c'.queues) queue) c''
 
 -- the reply of a DRAIN that took so many messages: all, or until the limit was met
 abbrev pub turns_text : ℕ → List ℕ
@@ -46,4 +48,6 @@ pub record IsDrained (old new : Core) (reply : List ℕ) : Type 0 where
   pub turn : ℕ
   pub taken : TakesInTurn old turns turn new
   pub ended : is_quiet new.queues ≡ false → new.limit ≤ new.number
-  pub told : reply ≡ (if is_quiet new.queues then turns_text (min turns (2 ^ 64 - 1)) else full_text new.limit (min turns (2 ^ 64 - 1)))
+  pub told : reply
+      ≡ (if is_quiet new.queues then turns_text (min turns (2 ^ 64 - 1))
+      else full_text new.limit (min turns (2 ^ 64 - 1)))

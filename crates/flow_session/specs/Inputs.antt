@@ -90,8 +90,10 @@ word_text place = codes "no WORD " ++ decimal place ++ 10 ∷ []
 pub data ServesLine (line : List ℕ) (old new : Core) (after : Option Unended) (reply : List ℕ) : Type 0 where
   LongLine : 65536 < length line → Answers old new None after long_text reply → ServesLine line old new after reply
   BlankLine : AreLineTokens line [] → Answers old new None after [] reply → ServesLine line old new after reply
-  CommandLine : {command : Command} → Says line command → IsCommanded old new command after reply → ServesLine line old new after reply
-  WrongLine : {place : ℕ} → IsWrongAt line place → Answers old new None after (word_text place) reply → ServesLine line old new after reply
+  CommandLine : {command : Command} → Says line command → IsCommanded old new command after reply
+      → ServesLine line old new after reply
+  WrongLine : {place : ℕ} → IsWrongAt line place → Answers old new None after (word_text place) reply
+      → ServesLine line old new after reply
 
 -- an input outside an IMPORT: a line, or one that was passed over, or the end
 abbrev pub ServesOutside : Given → Core → Core → Option Unended → List ℕ → Type 0
@@ -107,13 +109,15 @@ ServesText false text old new after reply = IsObeyed old new (Import text) reply
 -- a line inside an IMPORT, which ends its text or is one of it
 abbrev pub ServesTextLine : Bool → Unended → List ℕ → Core → Core → Option Unended → List ℕ → Type 0
 ServesTextLine true u line old new after reply = ServesText u.has_long u.text old new after reply
-ServesTextLine false u line old new after reply = Answers old new (Some (record u { text = with_line u.text line })) after [] reply
+ServesTextLine false u line old new after reply =
+    Answers old new (Some (record u { text = with_line u.text line })) after [] reply
 
 -- an input inside an IMPORT: a line, or one that was passed over, or the end
 abbrev pub ServesInside : Unended → Given → Core → Core → Option Unended → List ℕ → Type 0
 ServesInside u (Line line) old new after reply = ServesTextLine (is_end line) u line old new after reply
 ServesInside u Long old new after reply = Answers old new (Some (record u { has_long = true })) after [] reply
-ServesInside u End old new after reply = Answers old new None after (if u.has_long then long_text else unended_text) reply
+ServesInside u End old new after reply =
+    Answers old new None after (if u.has_long then long_text else unended_text) reply
 
 abbrev pub ServesInput : Option Unended → Given → Core → Core → Option Unended → List ℕ → Type 0
 ServesInput None input old new after reply = ServesOutside input old new after reply

@@ -14,14 +14,16 @@ use Rattle.flow_core.specs.Summaries.{Summary, all_taken_up}
 use Rattle.flow_session.specs.Histories.{StandsFor, IsLive, payloads, under}
 
 -- the log hasn't failed and stands on the disk, a crash now leaves what a read gives, and that stands for the summary
-pub record IsOpen {D : Type 0} (seen : D → Image) (images : D → Image → Type 0) (log : Log) (disk : D) (s : Summary) : Type 0 where
+pub record IsOpen {D : Type 0} (seen : D → Image) (images : D → Image → Type 0) (log : Log) (disk : D)
+    (s : Summary) : Type 0 where
   pub alive : log.failed ≡ false
   pub stands : StandsOn log (seen disk)
   pub only : Only (seen disk) (images disk)
   pub holds : StandsFor s (seen disk)
 
 -- each image of now stands for the summary
-pub rests : {D : Type 0} (seen : D → Image) (images : D → Image → Type 0) (log : Log) (disk : D) (s : Summary) (c : Image) → IsOpen seen images log disk s → images disk c → StandsFor s c
+pub rests : {D : Type 0} (seen : D → Image) (images : D → Image → Type 0) (log : Log) (disk : D) (s : Summary)
+    (c : Image) → IsOpen seen images log disk s → images disk c → StandsFor s c
 rests seen images log disk s c is now = subst (StandsFor s) (sym (is.only c now)) is.holds
 
 -- records with these payloads, taken up under a header, come to a summary

@@ -40,7 +40,8 @@ pub record AdmitsOne (old : Core) (payload : List ℕ) (new : Core) : Type 0 whe
 -- records with these payloads are admitted, one after the other
 pub data Admits (c : Core) : List (List ℕ) → Core → Type 0 where
   NoRecord : Admits c [] c
-  OneRecord : {payloads : List (List ℕ)} {payload : List ℕ} {c' c'' : Core} → Admits c payloads c' → AdmitsOne c' payload c'' → Admits c (payloads ++ payload ∷ []) c''
+  OneRecord : {payloads : List (List ℕ)} {payload : List ℕ} {c' c'' : Core} → Admits c payloads c'
+      → AdmitsOne c' payload c'' → Admits c (payloads ++ payload ∷ []) c''
 
 -- a slot with this header and these payloads leads to a state: each record is admitted
 abbrev pub LeadsTo : Header → List (List ℕ) → Core → Type 0
@@ -77,7 +78,8 @@ pub record IsBroken (slot : Slot) (place : ℕ) (image : Image) : Type 0 where
 
 -- The slots say so; or it is damaged at the gate of a record that is unfit, where those before are admitted. A fault and want of memory say nothing of it.
 abbrev pub IsUnopened : Image → LogStop → Type 0
-IsUnopened image (log.Damaged slot place) = IsVerdict (log.Damaged slot place) (store_of image) ⊎ IsBroken slot place image
+IsUnopened image (log.Damaged slot place) =
+    IsVerdict (log.Damaged slot place) (store_of image) ⊎ IsBroken slot place image
 IsUnopened image log.StoreFault = Unit {0}
 IsUnopened image log.NoMemory = Unit {0}
 IsUnopened image stop = IsVerdict stop (store_of image)

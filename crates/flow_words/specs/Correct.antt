@@ -48,7 +48,8 @@ LeavesSource (Some word) c = Unit {0}
 
 -- A run is correct: of the word that the words say, or of none where they say none, it prints what it ought to, it ends
 -- so for a cause, a crash at any moment leaves what it may, and what the word doesn't need is left alone.
-pub record RunIsCorrect {D : Type 0} (words : List (List ℕ)) (c : Channels) (f : Files D) (ended : Status) : Type 0 where
+pub record RunIsCorrect {D : Type 0} (words : List (List ℕ)) (c : Channels) (f : Files D)
+    (ended : Status) : Type 0 where
   pub word : Option Word
   pub said : IsSaid words word
   pub prints : PrintsWord words word c f ended

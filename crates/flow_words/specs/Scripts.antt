@@ -108,7 +108,8 @@ pub record ServesOver {D : Type 0} (c : Channels) (f : Files D) (s : Session) (l
   pub s' : Session
   pub journal : Stored D
   pub journal' : Stored D
-  pub script : ServesScript f.disk.tells (λ j. IsOpen f.disk.seen f.disk.images j.log j.disk) (λ j. f.disk.moment j.disk)
+  pub script : ServesScript f.disk.tells (λ j. IsOpen f.disk.seen f.disk.images j.log j.disk)
+      (λ j. f.disk.moment j.disk)
       (λ j. f.disk.left_since j.disk) (λ j. (j.log.slot, j.log.generation))
       (λ j j' now. IsCheckpointed f.disk.tells f.disk.seen f.disk.images j.log j'.log j'.disk now)
       c.left c.held c.held' s s' journal journal' ended

@@ -75,7 +75,8 @@ pub record ReadsAll (place : ℕ) (before after : Option (List ℕ)) : Type 0 wh
 -- why the frame that begins at a place isn't read; a cut tells this number
 abbrev pub StopsFrame : ℕ → ℕ → Option (List ℕ) → Option (List ℕ) → FollowStop → Type 0
 StopsFrame place number before after (follow.Frame at) = (at ≡ place) × ReadsPart IsBroken place before after
-StopsFrame place number before after (follow.Cut told) = (told ≡ number) × ReadsPart IsCut place before after × IsAtEnd after
+StopsFrame place number before after (follow.Cut told) =
+    (told ≡ number) × ReadsPart IsCut place before after × IsAtEnd after
 StopsFrame place number before after follow.TooLong = ReadsAll place before after
 StopsFrame place number before after follow.ReadFault = ReadsPart IsCut place before after
 StopsFrame place number before after follow.NoMemory = Unit {0}
@@ -89,7 +90,8 @@ ReadsFirst place number before after (Err stop) = StopsFrame place number before
 
 -- a frame is read, or the end of the stream instead
 abbrev pub ReadsFrame : ℕ → ℕ → Option (List ℕ) → Option (List ℕ) → List ℕ → Result Bool FollowStop → Type 0
-ReadsFrame place number before after payload (Ok true) = IsPayload payload × Gives place before after (frame_bytes payload)
+ReadsFrame place number before after payload (Ok true) =
+    IsPayload payload × Gives place before after (frame_bytes payload)
 ReadsFrame place number before after payload (Ok false) = Gives place before after end_bytes
 ReadsFrame place number before after payload (Err stop) = StopsFrame place number before after stop
 

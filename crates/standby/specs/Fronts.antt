@@ -21,9 +21,13 @@ IsAlike store front = (front.queues ≡ store.queues) × (front.limit ≡ store.
 
 -- The bytes at the front of a stream, which are the first 25 or all that there are, are judged for a store: by the first of `Frame`, `Cut`, `Other` and `Gap` that holds.
 abbrev pub FrontJudged : Summary → List ℕ → Result Front FollowStop → Type 0
-FrontJudged store bytes (Ok front) = (bytes ≡ front_bytes front) × IsAlike store front × (front.from ≤ store.transactions)
+FrontJudged store bytes (Ok front) =
+    (bytes ≡ front_bytes front) × IsAlike store front × (front.from ≤ store.transactions)
 FrontJudged store bytes (Err (follow.Frame place)) = (place ≡ 0) × (Agrees bytes → ⊥)
-FrontJudged store bytes (Err (follow.Cut number)) = (number ≡ store.transactions) × Agrees bytes × (length bytes ≡ 25 → ⊥)
+FrontJudged store bytes (Err (follow.Cut number)) =
+    (number ≡ store.transactions) × Agrees bytes × (length bytes ≡ 25 → ⊥)
 FrontJudged store bytes (Err follow.Other) = (front : Front) × (bytes ≡ front_bytes front) × (IsAlike store front → ⊥)
-FrontJudged store bytes (Err (follow.Gap number)) = (number ≡ store.transactions) × ((front : Front) × (bytes ≡ front_bytes front) × IsAlike store front × (store.transactions < front.from))
+FrontJudged store bytes (Err (follow.Gap number)) =
+    (number ≡ store.transactions)
+    × ((front : Front) × (bytes ≡ front_bytes front) × IsAlike store front × (store.transactions < front.from))
 FrontJudged store bytes (Err stop) = ⊥

@@ -21,8 +21,10 @@ pub record Grows (place : ℕ) (before after : Option (List ℕ)) (old new : Lis
 
 -- at most so many bytes more are read, none only at the end; where all that a stream may have was read, one more is too long
 abbrev pub ReadsSome : ℕ → ℕ → Option (List ℕ) → Option (List ℕ) → List ℕ → List ℕ → Result ℕ FollowStop → Type 0
-ReadsSome most place before after old new (Ok count) = Grows place before after old new count × (count ≤ most) × (count ≡ 0 → IsAtEnd after)
-ReadsSome most place before after old new (Err follow.TooLong) = Keeps before after × (new ≡ old) × (place ≡ 268435456) × GoesOn after
+ReadsSome most place before after old new (Ok count) =
+    Grows place before after old new count × (count ≤ most) × (count ≡ 0 → IsAtEnd after)
+ReadsSome most place before after old new (Err follow.TooLong) =
+    Keeps before after × (new ≡ old) × (place ≡ 268435456) × GoesOn after
 ReadsSome most place before after old new (Err follow.ReadFault) = Keeps before after × (new ≡ old)
 ReadsSome most place before after old new (Err follow.NoMemory) = Unit {0}
 ReadsSome most place before after old new (Err stop) = ⊥
@@ -31,7 +33,8 @@ ReadsSome most place before after old new (Err stop) = ⊥
 abbrev pub Reads : ℕ → ℕ → Option (List ℕ) → Option (List ℕ) → List ℕ → Result Bool FollowStop → Type 0
 Reads count place before after out (Ok true) = Gives place before after out × (length out ≡ count)
 Reads count place before after out (Ok false) = Gives place before after out × (length out < count) × IsAtEnd after
-Reads count place before after out (Err follow.TooLong) = Gives place before after out × (length out < count) × (place + length out ≡ 268435456) × GoesOn after
+Reads count place before after out (Err follow.TooLong) =
+    Gives place before after out × (length out < count) × (place + length out ≡ 268435456) × GoesOn after
 Reads count place before after out (Err follow.ReadFault) = Gives place before after out × (length out < count)
 Reads count place before after out (Err follow.NoMemory) = Unit {0}
 Reads count place before after out (Err stop) = ⊥

@@ -19,7 +19,8 @@ last count xs = drop (length xs - count) xs
 -- the stream of an opened store with so many transactions from a number: its queues and limit, the number, and the last records
 abbrev pub shipped : Opened → ℕ → ℕ → List ℕ
 shipped opened number from =
-    stream_bytes (record { queues = opened.header.queues; limit = opened.header.limit; from = from }) (payloads_of (last (number - from) opened.records))
+    stream_bytes (record { queues = opened.header.queues; limit = opened.header.limit; from = from })
+        (payloads_of (last (number - from) opened.records))
 
 -- the transactions above a number are records of the opened store, which has so many transactions
 abbrev pub HasFrom : Opened → ℕ → ℕ → Type 0
@@ -27,12 +28,16 @@ HasFrom opened number from = (opened.header.transactions ≤ from) × (from ≤ 
 
 -- an opened store with so many transactions is shipped from a number: its stream is put, or a front part of it; nothing where the number is refused
 abbrev pub Ships : Opened → ℕ → ℕ → Option (List ℕ) → Option (List ℕ) → Result ℕ ShipStop → Type 0
-Ships opened number from old new (Ok count) = HasFrom opened number from × (count ≡ number - from) × Appends old new (shipped opened number from)
+Ships opened number from old new (Ok count) =
+    HasFrom opened number from × (count ≡ number - from) × Appends old new (shipped opened number from)
 Ships opened number from old new (Err (Store stop)) = ⊥
 Ships opened number from old new (Err (Gone kept)) = (from < kept) × (kept ≡ opened.header.transactions) × Keeps old new
-Ships opened number from old new (Err (Ahead last_one)) = (opened.header.transactions ≤ from) × (last_one < from) × (last_one ≡ number) × Keeps old new
-Ships opened number from old new (Err WriteFault) = HasFrom opened number from × PutsPart old new (shipped opened number from)
-Ships opened number from old new (Err NoMemory) = HasFrom opened number from × PutsPart old new (shipped opened number from)
+Ships opened number from old new (Err (Ahead last_one)) =
+    (opened.header.transactions ≤ from) × (last_one < from) × (last_one ≡ number) × Keeps old new
+Ships opened number from old new (Err WriteFault) =
+    HasFrom opened number from × PutsPart old new (shipped opened number from)
+Ships opened number from old new (Err NoMemory) =
+    HasFrom opened number from × PutsPart old new (shipped opened number from)
 
 -- a store isn't opened, for a cause of which this is so
 abbrev pub IsUnopened : (LogStop → Type 0) → ShipStop → Type 0
@@ -58,7 +63,8 @@ pub record IsStoreOf (image : Image) (opened : Opened) (number : ℕ) : Type 0 w
   pub count : state.transactions ≡ number
 
 -- a store is opened, and shipped from a number
-pub record ShipsOpened (tells : Type 0) (image : Image) (from : ℕ) (old new : Option (List ℕ)) (result : Result ℕ ShipStop) : Type 0 where
+pub record ShipsOpened (tells : Type 0) (image : Image) (from : ℕ) (old new : Option (List ℕ))
+    (result : Result ℕ ShipStop) : Type 0 where
   pub opened : Opened
   pub number : ℕ
   pub store : tells → IsStoreOf image opened number

@@ -79,7 +79,8 @@ pub record Stage : Type 0 where
 
 -- the stage where a reader is
 abbrev pub stage : Core → ℕ → ℕ → Reader → Option (List ℕ) → Stage
-stage c taken number reader left = record { core = c; taken = taken; number = number; place = reader.place; left = ahead reader left }
+stage c taken number reader left =
+    record { core = c; taken = taken; number = number; place = reader.place; left = ahead reader left }
 
 -- these bytes are the next ones at a stage
 abbrev pub ReadsAt : Stage → Option (List ℕ) → List ℕ → Type 0
@@ -140,12 +141,15 @@ abbrev pub StopsKept : (Core → Type 0) → Stage → Option (List ℕ) → Fol
 StopsKept IsKept s after stop = StopsAt s after stop × UnlessFailed stop (IsKept s.core)
 
 -- the frames behind a stage are followed to a last stage, where the stream ends with this state and number of transactions taken, or following stops
-abbrev pub FollowsFrames : {T : Type 0} → (Core → Type 0) → Stage → Option (List ℕ) → Core → ℕ → Result T FollowStop → Type 0
-FollowsFrames IsKept s after c taken (Ok x) = Goes s (λ last. IsEnded last after × (last.core ≡ c) × (last.taken ≡ taken))
+abbrev pub FollowsFrames : {T : Type 0} → (Core → Type 0) → Stage → Option (List ℕ) → Core → ℕ → Result T FollowStop
+    → Type 0
+FollowsFrames IsKept s after c taken (Ok x) =
+    Goes s (λ last. IsEnded last after × (last.core ≡ c) × (last.taken ≡ taken))
 FollowsFrames IsKept s after c taken (Err stop) = Goes s (λ last. StopsKept IsKept last after stop)
 
 -- so it is for what a source has left: of the bytes that were taken from it some may not be read, but none where it failed
-pub record FollowsHeld {T : Type 0} (IsKept : Core → Type 0) (s : Stage) (left : Option (List ℕ)) (c : Core) (taken : ℕ) (result : Result T FollowStop) : Type 0 where
+pub record FollowsHeld {T : Type 0} (IsKept : Core → Type 0) (s : Stage) (left : Option (List ℕ)) (c : Core)
+    (taken : ℕ) (result : Result T FollowStop) : Type 0 where
   pub held : List ℕ
   pub follows : FollowsFrames IsKept s (prepend_known held left) c taken result
   pub dry : IfErr result (λ stop. stop ≡ ReadFault → held ≡ [])
@@ -199,7 +203,8 @@ Follows IsKept c left after (Err stop) =
     ⊎ PassesFront c left (λ last. StopsKept IsKept last after stop)
 
 -- so it is for the bytes that a source had left and those that it has left: of what was taken from it some may not be read, but none where it failed
-pub record FollowsSource (IsKept : Core → Type 0) (c : Core) (left left' : Option (List ℕ)) (result : Result Followed FollowStop) : Type 0 where
+pub record FollowsSource (IsKept : Core → Type 0) (c : Core) (left left' : Option (List ℕ))
+    (result : Result Followed FollowStop) : Type 0 where
   pub held : List ℕ
   pub follows : Follows IsKept c left (prepend_known held left') result
   pub dry : result ≡ Err ReadFault → length held ≡ 0

@@ -33,4 +33,5 @@ follow_refusal_line follow.NoMemory = []
 
 -- the line of what following came to: the number of the transactions, and how many were taken
 abbrev pub followed_line : Followed → List ℕ
-followed_line followed = codes "ok FOLLOW " ++ decimal followed.number ++ codes " " ++ decimal followed.taken ++ codes "\n"
+followed_line followed =
+    codes "ok FOLLOW " ++ decimal followed.number ++ codes " " ++ decimal followed.taken ++ codes "\n"

@@ -15,7 +15,8 @@ listed_of (BreaksAt place) = Breaks place
 
 -- the records have the places of their gates, and take no more bytes than so many of the longest would
 abbrev pub IsPlaced : Found → Type 0
-IsPlaced (EndsAt records end) = (places_of records.items ≡ gates 42 (payloads_of records.items)) × (end ≤ 42 + 2097157 * length records.items)
+IsPlaced (EndsAt records end) =
+    (places_of records.items ≡ gates 42 (payloads_of records.items)) × (end ≤ 42 + 2097157 * length records.items)
 IsPlaced (BreaksAt place) = Unit {0}
 
 -- what a slot stands for

@@ -21,7 +21,8 @@ IsVerdict NoMemory state = ⊥
 
 -- what both slots give: the one that counts, or the verdict
 abbrev pub IsChoice : Result Chosen LogStop → StoreState → Type 0
-IsChoice (Ok chosen) state = state ≡ Counts chosen.slot chosen.body.header (payloads_of chosen.body.records) chosen.body.end
+IsChoice (Ok chosen) state =
+    state ≡ Counts chosen.slot chosen.body.header (payloads_of chosen.body.records) chosen.body.end
 IsChoice (Err stop) state = IsVerdict stop state
 
 -- why opening stopped: the verdict, or a cause outside of the store
@@ -61,7 +62,8 @@ MayBeMade queues limit old image = (image ≡ old) ⊎ ((store_of old ≡ NoStor
 
 -- the slot that counts is the log's, with the header and the payloads that are handed out
 abbrev pub IsOpened : Image → Opened → Type 0
-IsOpened image opened = store_of image ≡ Counts opened.log.slot opened.header (payloads_of opened.records) opened.log.end
+IsOpened image opened =
+    store_of image ≡ Counts opened.log.slot opened.header (payloads_of opened.records) opened.log.end
 
 -- the log has the generation of the header and the number of the records, and each record the place of its gate
 pub record HasRecords (opened : Opened) : Type 0 where

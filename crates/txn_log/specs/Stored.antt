@@ -21,13 +21,16 @@ length_at bytes = from_be_bytes w32 (take 4 bytes)
 
 -- these bytes begin with a length in its range, so many bytes, and one byte more
 abbrev pub is_whole : List ℕ → Bool
-is_whole bytes = nat_lt 0 (length_at bytes) && (nat_le (length_at bytes) 2097152 && nat_lt (4 + length_at bytes) (length bytes))
+is_whole bytes =
+    nat_lt 0 (length_at bytes) && (nat_le (length_at bytes) 2097152 && nat_lt (4 + length_at bytes) (length bytes))
 
 -- the records from a place on, behind so many bytes that are passed over
 abbrev pub listed : ℕ → ℕ → List ℕ → Listed
 listed skip place [] = Breaks place
 listed zero place (gate ∷ rest) =
-    if gate == 1 then (if is_whole rest then led (take (length_at rest) (drop 4 rest)) (listed (4 + length_at rest) (place + 1) rest) else Breaks place)
+    if gate == 1 then
+        (if is_whole rest then led (take (length_at rest) (drop 4 rest)) (listed (4 + length_at rest) (place + 1) rest)
+        else Breaks place)
     else Ends [] place
 listed (suc skip) place (byte ∷ rest) = listed skip (place + 1) rest
 
@@ -40,11 +43,15 @@ pub data SlotState : Type 0 where
 
 -- the first 42 bytes are of no store yet: there is at most one, or the first is 0, or it isn't 1 before a front of the magic
 unfoldable pub is_unmade : List ℕ → Bool
-is_unmade head = nat_le (length head) 1 || (slice_index head 0 == 0 || (starts_with nat_eq (drop 1 head) (codes "FLOWSTR") && not (slice_index head 0 == 1)))
+is_unmade head =
+    nat_le (length head) 1
+    || (slice_index head 0 == 0
+    || (starts_with nat_eq (drop 1 head) (codes "FLOWSTR") && not (slice_index head 0 == 1)))
 
 -- they are of a store of format 1 or 2
 unfoldable pub has_magic : List ℕ → Bool
-has_magic head = starts_with nat_eq (drop 1 head) (codes "FLOWSTR1") || starts_with nat_eq (drop 1 head) (codes "FLOWSTR2")
+has_magic head =
+    starts_with nat_eq (drop 1 head) (codes "FLOWSTR1") || starts_with nat_eq (drop 1 head) (codes "FLOWSTR2")
 
 -- eight bytes from a place on, as a number
 abbrev pub number_at : List ℕ → ℕ → ℕ
@@ -90,7 +97,8 @@ state_of false false fault header records = Foreign
 abbrev pub slot_state : List ℕ → SlotState
 slot_state bytes =
     let head = take 42 bytes in
-    state_of (is_unmade head) (has_magic head) (header_fault (length head) (header_of head)) (header_of head) (listed 0 42 (drop 42 bytes))
+    state_of (is_unmade head) (has_magic head) (header_fault (length head) (header_of head)) (header_of head)
+        (listed 0 42 (drop 42 bytes))
 
 -- a good slot with these records more
 abbrev pub extended : List (List ℕ) → SlotState → SlotState
@@ -101,7 +109,9 @@ extended more (Damaged place) = Damaged place
 
 -- bytes 1 to 41 of a slot with this header, in format 2
 unfoldable pub header_text : Header → List ℕ
-header_text h = codes "FLOWSTR2" ++ to_be_bytes w64 h.generation ++ h.queues ∷ [] ++ to_be_bytes w64 h.limit ++ to_be_bytes w64 h.transactions ++ to_be_bytes w64 h.roots
+header_text h =
+    codes "FLOWSTR2" ++ to_be_bytes w64 h.generation ++ h.queues ∷ [] ++ to_be_bytes w64 h.limit
+    ++ to_be_bytes w64 h.transactions ++ to_be_bytes w64 h.roots
 
 -- the fields are in their ranges
 pub record InRange (h : Header) : Type 0 where

@@ -29,7 +29,8 @@ judged_store a (Damaged place) = DamagedIn B place
 judged_store Unmade Unmade = NoStore
 judged_store (Good h ps e) Unmade = Counts A h ps e
 judged_store Unmade (Good h ps e) = Counts B h ps e
-judged_store (Good h ps e) (Good k qs f) = newer (h.generation == k.generation) (nat_lt k.generation h.generation) h ps e k qs f
+judged_store (Good h ps e) (Good k qs f) =
+    newer (h.generation == k.generation) (nat_lt k.generation h.generation) h ps e k qs f
 
 -- what an image stands for
 abbrev pub store_of : Image → StoreState
