@@ -1,5 +1,5 @@
 -- A DRAIN: messages are taken one after another, from the queues in turn.
-use Rattle.std.specs.Prelude.{◌≡◌, ℕ, ◌+◌, ◌-◌, ◌^◌, ◌≤◌, nat_le, nat_lt, min, true, false, if◌then◌else◌, List, [], ◌∷◌, ◌++◌, length, codes}
+use Rattle.std.specs.Prelude.{◌≡◌, ℕ, ◌+◌, ◌-◌, ◌^◌, ◌<◌, ◌≤◌, nat_le, nat_lt, min, true, false, if◌then◌else◌, List, [], ◌∷◌, ◌++◌, length, codes}
 use Rattle.std.specs.Fmt.{decimal}
 use Rattle.recover_queue.specs.Queues.{is_quiet}
 use Rattle.flow_model.specs.declared.instances.Message.{Message}
@@ -8,6 +8,8 @@ use Rattle.flow_core.specs.Answers.{has_message}
 use Rattle.flow_core.specs.Verdicts.{IsFront}
 use Rattle.flow_core.specs.declared.state.Core.{Core}
 use Rattle.machine_laws.specs.Applied.{Applied}
+use Rattle.worklist_laws.specs.Shelved.{IsRightAndListed}
+use Rattle.flow_session.specs.Leading.{LeadsBy}
 
 -- how many queues come before this one, in turn from another one on
 abbrev pub queues_before : ℕ → ℕ → ℕ → ℕ
@@ -23,11 +25,15 @@ pub record IsNextQueue (c : Core) (from queue : ℕ) : Type 0 where
 abbrev pub queue_behind : ℕ → ℕ → ℕ
 queue_behind count queue = if nat_lt queue count then queue + 1 else 1
 
--- the message at the front of a queue is taken, as a TURN
+-- below the limit, the message at the front of a queue is taken, as a TURN: it leads from the state before it to the one
+-- after it, and a right state whose worklists hold exactly its open manual items stays one
 pub record TakesFront (old new : Core) (queue : ℕ) : Type 0 where
   pub message : Message
   pub front : IsFront old queue message
+  pub room : old.number < old.limit
   pub applied : Applied old (Turn queue message) new
+  pub leads : LeadsBy old (Turn queue message ∷ []) new
+  pub right : IsRightAndListed old → IsRightAndListed new
 
 -- so many messages are taken, one after another; then the turn is at this queue
 pub data TakesInTurn (c : Core) : ℕ → ℕ → Core → Type 0 where

@@ -86,14 +86,15 @@ unended_text = codes "no UNENDED\n"
 abbrev pub word_text : ℕ → List ℕ
 word_text place = codes "no WORD " ++ decimal place ++ 10 ∷ []
 
--- a line outside an IMPORT: it is too long, or blank, or says a command, or can't be read
+-- a line outside an IMPORT: it is too long, or it isn't and is blank, or says a command, or can't be read
 pub data ServesLine (line : List ℕ) (old new : Core) (after : Option Unended) (reply : List ℕ) : Type 0 where
   LongLine : 65536 < length line → Answers old new None after long_text reply → ServesLine line old new after reply
-  BlankLine : AreLineTokens line [] → Answers old new None after [] reply → ServesLine line old new after reply
-  CommandLine : {command : Command} → Says line command → IsCommanded old new command after reply
+  BlankLine : length line ≤ 65536 → AreLineTokens line [] → Answers old new None after [] reply
       → ServesLine line old new after reply
-  WrongLine : {place : ℕ} → IsWrongAt line place → Answers old new None after (word_text place) reply
-      → ServesLine line old new after reply
+  CommandLine : {command : Command} → length line ≤ 65536 → Says line command
+      → IsCommanded old new command after reply → ServesLine line old new after reply
+  WrongLine : {place : ℕ} → length line ≤ 65536 → IsWrongAt line place
+      → Answers old new None after (word_text place) reply → ServesLine line old new after reply
 
 -- an input outside an IMPORT: a line, or one that was passed over, or the end
 abbrev pub ServesOutside : Given → Core → Core → Option Unended → List ℕ → Type 0

@@ -2,7 +2,7 @@ use Rattle.std.proofs.Common.{rules, subst, sym}
 use Rattle.flow_model.specs.declared.commands.Command.TheVariants.{Checkpoint}
 use Rattle.flow_core.specs.Summaries.{summary}
 use Rattle.flow_session.proofs.Calls.{makes_nothing}
-use Rattle.flow_session.proofs.Inputs.{says_command, says_none}
+use Rattle.flow_session.proofs.Inputs.{says_blank, says_command, says_none}
 use Rattle.flow_session.specs.Inputs.{Says, unended}
 use Rattle.flow_session.proofs.Stopping.{silent}
 use Rattle.flow_session.proofs.Leading.{leads_none}
@@ -29,18 +29,23 @@ returns-in-Err-NoMemory-clause-makes g c =
     makes_nothing g.J.Journal.tells g.J.Journal.moment g.J.Journal.left_since g.J.Journal.holds g.met.J.Journal.at_rest
     c.args.journal.now (summary c.args.self.now.core) _ c.requires.open (search rules)
 
+pub returns-in-Ok-None-clause-served : goal.returns-in-Ok-None-clause-served
+returns-in-Ok-None-clause-served g c =
+    says_blank c.args.self.now c.args.line.now _ (search rules)
+    (rw c.in-Ok-None.field-0-is at c.in-Ok-None.ensures.says) c.requires.outside (search rules)
+
 pub returns-in-Ok-Some-clause-served : goal.returns-in-Ok-Some-clause-served
 returns-in-Ok-Some-clause-served g c =
     let says = rw c.in-Ok-Some.field-0-is at c.in-Ok-Some.ensures.says in
     let one = rw c.in-Ok-Some.field-0-is at c.in-Ok-Some.ensures.one in
-    says_command c.args.self.now.core c.command.new.self.core (unended c.command.new.self) c.args.line.now c.in-Ok-Some.command c.command.result says one c.command.ensures.served
+    says_command c.args.self.now.core c.command.new.self.core (unended c.command.new.self) c.args.line.now c.in-Ok-Some.command c.command.result (search rules) says one c.command.ensures.served
 
 pub returns-in-Err-Word-clause-served : goal.returns-in-Err-Word-clause-served
 returns-in-Err-Word-clause-served g c =
     let refused = rw c.in-Err-Word.field-0-is at c.in-Err-Word.ensures.refused in
     let none = rw c.in-Err-Word.field-0-is at c.in-Err-Word.ensures.none in
     let first = rw c.in-Err-Word.field-0-is at c.in-Err-Word.ensures.first in
-    says_none c.args.self.now c.args.line.now c.in-Err-Word.place c.numbered.result (record { refused = refused; none = none; first = first }) c.requires.outside (search rules)
+    says_none c.args.self.now c.args.line.now c.in-Err-Word.place c.numbered.result (search rules) (record { refused = refused; none = none; first = first }) c.requires.outside (search rules)
 
 pub returns-then-line-gt-MOST_LINE-clause-cause : goal.returns-then-line-gt-MOST_LINE-clause-cause
 returns-then-line-gt-MOST_LINE-clause-cause g c = silent (g.J.Journal.faults c.args.journal.now) c.words.result c.words.ensures.silent

@@ -20,7 +20,13 @@ returns-clause-makes g c =
     c.args.journal.now (summary c.args.self.now.core) _ c.requires.open (search rules)
 
 pub returns-in-Ok-Do-clause-turned : goal.returns-in-Ok-Do-clause-turned
-returns-in-Ok-Do-clause-turned g c = takes_front c.make.result c.args.self.now.core c.make.new.self.core c.args.queue _ c.in-Ok-Do.t c.in-Ok-Do.ensures (search rules) c.make.ensures.applied
+returns-in-Ok-Do-clause-turned g c =
+    takes_front c.make.result c.args.self.now.core c.make.new.self.core c.args.queue _ c.in-Ok-Do.t c.in-Ok-Do.ensures
+    (search rules) c.make.ensures.applied
+    (leads_ok c.make.result c.args.self.now.core c.make.new.self.core (TurnCommand c.args.queue) _ c.in-Ok-Do.t
+    c.in-Ok-Do.ensures c.in-Ok-Do.field-0-is c.make.ensures.applied c.make.ensures.counts)
+    (λ was. c.make.ensures.right (asks_open c.args.self.now.core (TurnCommand c.args.queue) _ c.in-Ok-Do.t
+    c.in-Ok-Do.ensures c.in-Ok-Do.field-0-is was) was)
 
 pub returns-in-Ok-Do-clause-right : goal.returns-in-Ok-Do-clause-right
 returns-in-Ok-Do-clause-right g c = λ was.
