@@ -25,27 +25,31 @@ const CHECKS: [Case; 13] = [
     Case {
         shows: "connectors in a circle",
         words: &["check"],
-        input: &["STRUCTURE 'E' END 'E'
+        input: &[
+            "STRUCTURE 'E' END 'E'
 PROCESS 'C' ('E','E')
 PROGRAM_ACTIVITY 'A' ('E','E') END 'A'
 PROGRAM_ACTIVITY 'B' ('E','E') END 'B'
 CONTROL FROM 'A' TO 'B'
 CONTROL FROM 'B' TO 'A'
 END 'C'
-"],
+",
+        ],
         prints: "no RULE 11 5\n",
         status: Status::Refused,
     },
     Case {
         shows: "a connector back to its own activity",
         words: &["check"],
-        input: &["STRUCTURE 'E' END 'E'
+        input: &[
+            "STRUCTURE 'E' END 'E'
 PROCESS 'C' ('E','E')
 PROGRAM_ACTIVITY 'A' ('E','E') END 'A'
 PROGRAM_ACTIVITY 'B' ('E','E') END 'B'
 CONTROL FROM 'A' TO 'A'
 END 'C'
-"],
+",
+        ],
         prints: "no RULE 11 5\n",
         status: Status::Refused,
     },
@@ -82,55 +86,73 @@ END 'ann'
     Case {
         shows: "a structure that is not declared",
         words: &["check"],
-        input: &["PROCESS 'P' ('S','S') PROGRAM_ACTIVITY 'A' ('S','S') EXIT WHEN (NOT ('n'=1 OR (('n' < 2)))) END 'A' END 'P'\n"],
+        input: &[
+            "PROCESS 'P' ('S','S') PROGRAM_ACTIVITY 'A' ('S','S') EXIT WHEN (NOT ('n'=1 OR (('n' < 2)))) END 'A' END 'P'\n",
+        ],
         prints: "no RULE 6 1\n",
         status: Status::Refused,
     },
     Case {
         shows: "a condition on a leaf that is not there",
         words: &["check"],
-        input: &[LOAN_HEAD, "CONTROL FROM 'A' TO 'B' WHEN ('Amont' > 100)
+        input: &[
+            LOAN_HEAD,
+            "CONTROL FROM 'A' TO 'B' WHEN ('Amont' > 100)
 CONTROL FROM 'A' TO 'C' OTHERWISE
-", LOAN_TAIL],
+",
+            LOAN_TAIL,
+        ],
         prints: "no RULE 13 8\n",
         status: Status::Refused,
     },
     Case {
         shows: "a condition that compares a text with a number",
         words: &["check"],
-        input: &[LOAN_HEAD, "CONTROL FROM 'A' TO 'B' WHEN ('Risk' > 100)
+        input: &[
+            LOAN_HEAD,
+            "CONTROL FROM 'A' TO 'B' WHEN ('Risk' > 100)
 CONTROL FROM 'A' TO 'C' OTHERWISE
-", LOAN_TAIL],
+",
+            LOAN_TAIL,
+        ],
         prints: "no RULE 14 8\n",
         status: Status::Refused,
     },
     Case {
         shows: "a condition besides OTHERWISE is wanted",
         words: &["check"],
-        input: &[LOAN_HEAD, "CONTROL FROM 'A' TO 'B'
+        input: &[
+            LOAN_HEAD,
+            "CONTROL FROM 'A' TO 'B'
 CONTROL FROM 'A' TO 'C' OTHERWISE
-", LOAN_TAIL],
+",
+            LOAN_TAIL,
+        ],
         prints: "no RULE 15 9\n",
         status: Status::Refused,
     },
     Case {
         shows: "data from an activity to one before it",
         words: &["check"],
-        input: &[LOAN_HEAD, "CONTROL FROM 'A' TO 'B' WHEN ('Amount' > 100)
+        input: &[
+            LOAN_HEAD,
+            "CONTROL FROM 'A' TO 'B' WHEN ('Amount' > 100)
 CONTROL FROM 'A' TO 'C' OTHERWISE
 CONTROL FROM 'B' TO 'D'
 CONTROL FROM 'C' TO 'D'
 DATA FROM SOURCE TO 'A' MAP 'Amount' TO 'Amount'
 DATA FROM 'D' TO 'A' MAP 'Amount' TO 'Amount'
 END 'P'
-"],
+",
+        ],
         prints: "no RULE 16 13\n",
         status: Status::Refused,
     },
     Case {
         shows: "a join of none",
         words: &["check"],
-        input: &["STRUCTURE 'E' END 'E'
+        input: &[
+            "STRUCTURE 'E' END 'E'
 PERSON 'ann' END 'ann'
 PROCESS 'K' ('E','E')
 PROGRAM_ACTIVITY 'A' ('E','E') END 'A'
@@ -141,14 +163,16 @@ CONTROL FROM 'A' TO 'D' WHEN ('_RC' = 0)
 CONTROL FROM 'B' TO 'D' WHEN ('_RC' = 0)
 CONTROL FROM 'C' TO 'D' WHEN ('_RC' = 0)
 END 'K'
-"],
+",
+        ],
         prints: "no RULE 23 7\n",
         status: Status::Refused,
     },
     Case {
         shows: "a join of more than there are",
         words: &["check"],
-        input: &["STRUCTURE 'E' END 'E'
+        input: &[
+            "STRUCTURE 'E' END 'E'
 PERSON 'ann' END 'ann'
 PROCESS 'K' ('E','E')
 PROGRAM_ACTIVITY 'A' ('E','E') END 'A'
@@ -159,7 +183,8 @@ CONTROL FROM 'A' TO 'D' WHEN ('_RC' = 0)
 CONTROL FROM 'B' TO 'D' WHEN ('_RC' = 0)
 CONTROL FROM 'C' TO 'D' WHEN ('_RC' = 0)
 END 'K'
-"],
+",
+        ],
         prints: "no RULE 23 7\n",
         status: Status::Refused,
     },

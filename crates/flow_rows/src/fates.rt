@@ -60,21 +60,27 @@ const FATES: [Case; 9] = [
     Case {
         shows: "a completion of an activity that waits is refused",
         words: &["fate"],
-        input: &[DIAMOND, ".
+        input: &[
+            DIAMOND,
+            ".
 DONE 'B'
-"],
+",
+        ],
         prints: "no NOTREADY 13\n",
         status: Status::Refused,
     },
     Case {
         shows: "all activities are done, and the output is shown",
         words: &["fate"],
-        input: &[DIAMOND, ".
+        input: &[
+            DIAMOND,
+            ".
 DONE 'A'
 DONE 'B'
 DONE 'C'
 DONE 'D'
-"],
+",
+        ],
         prints: "ok FATE DONE 4
 '1/A' FINISHED 1
 '1/B' FINISHED 1
@@ -87,11 +93,14 @@ ok OUTPUT 1 0
     Case {
         shows: "blocks repeat until their exit conditions hold",
         words: &["fate"],
-        input: &[NESTED, ".
+        input: &[
+            NESTED,
+            ".
 DONE '1/Out#1/In#1/A#1'
 DONE '1/Out#1/In#2/A#1' WITH 'n' = 1
 DONE '1/Out#2/In#1/A#1' WITH 'n' = 2
-"],
+",
+        ],
         prints: "ok FATE DONE 6
 '1/Out' FINISHED 2
 '1/Out#1/In' FINISHED 2
@@ -107,11 +116,14 @@ ok OUTPUT 1 1
     Case {
         shows: "two of three suffice",
         words: &["fate"],
-        input: &[TWO_OF_THREE, ".
+        input: &[
+            TWO_OF_THREE,
+            ".
 DONE 'A'
 DONE 'B' RC 1
 DONE 'C'
-"],
+",
+        ],
         prints: "ok FATE OPEN 4
 '1/A' FINISHED 1
 '1/B' FINISHED 1
@@ -123,11 +135,14 @@ DONE 'C'
     Case {
         shows: "one of three does not",
         words: &["fate"],
-        input: &[TWO_OF_THREE, ".
+        input: &[
+            TWO_OF_THREE,
+            ".
 DONE 'A'
 DONE 'B' RC 1
 DONE 'C' RC 1
-"],
+",
+        ],
         prints: "ok FATE DONE 4
 '1/A' FINISHED 1
 '1/B' FINISHED 1
@@ -147,18 +162,23 @@ ok OUTPUT 1 0
     Case {
         shows: "a text without a process",
         words: &["fate"],
-        input: &["PERSON 'x' END 'x'
+        input: &[
+            "PERSON 'x' END 'x'
 .
-"],
+",
+        ],
         prints: "no PROCESS\n",
         status: Status::Refused,
     },
     Case {
         shows: "a completion that cannot be read",
         words: &["fate"],
-        input: &[DIAMOND, ".
+        input: &[
+            DIAMOND,
+            ".
 DONE 'A' RD
-"],
+",
+        ],
         prints: "no WORD 13 10\n",
         status: Status::Refused,
     },

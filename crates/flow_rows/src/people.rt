@@ -7,7 +7,8 @@ const SCRIPTS: [Case; 2] = [
     Case {
         shows: "a worklist, a claim, a transfer",
         words: &["try"],
-        input: &["IMPORT
+        input: &[
+            "IMPORT
 STRUCTURE 'E' END 'E'
 PERSON 'ann' ROLES 'clerk' END 'ann'
 PERSON 'bob' ROLES 'clerk' END 'bob'
@@ -29,7 +30,8 @@ CLAIM '1/A#1' BY 'dan'
 WORKLIST 'bob'
 DONE '1/A#1' BY 'bob'
 AUDIT 1
-"],
+",
+        ],
         prints: "ok 1 IMPORT 1
 ok 2 ROOT 1
 ok TURNS 1
@@ -57,7 +59,8 @@ ok AUDIT 1 5
     Case {
         shows: "credit: people, agents, a subprocess and a block",
         words: &["try"],
-        input: &["IMPORT
+        input: &[
+            "IMPORT
 STRUCTURE 'Case' 'Customer' : STRING ; 'Amount' : LONG ;
 'Score' : LONG ; 'Verdict' : STRING ; END 'Case'
 PERSON 'ann' ROLES 'clerk' END 'ann'
@@ -144,7 +147,8 @@ TAKE '1/Archive#1'
 DONE '1/Archive#1' TAKE 1
 DRAIN
 OUTPUT 1
-"],
+",
+        ],
         prints: "ok 1 IMPORT 2
 ok 2 ROOT 1
 ok TURNS 1

@@ -246,7 +246,13 @@ fn full_stores_refuse(rt: HostRuntime) -> Result<(), Fail> {
     for (before, command, limit) in FULL {
         let refusal = format!(in rt.alloc(); "FULL {limit}")?;
         assert!(rt;
-            is_refused(rt.alloc(), &["try", "LIMIT", limit], before, command, refusal.as_str())?,
+            is_refused(
+                rt.alloc(),
+                &["try", "LIMIT", limit],
+                before,
+                command,
+                refusal.as_str()
+            )?,
             "{command}: wanted no FULL {limit}"
         );
     }

@@ -32,7 +32,10 @@ const SCRIPTS: [Case; 16] = [
     Case {
         shows: "the way that is not taken is dead",
         words: &["try"],
-        input: &["IMPORT\n", LOAN, ".
+        input: &[
+            "IMPORT\n",
+            LOAN,
+            ".
 START 'P' BY 'ann' WITH 'Amount' = 50
 DRAIN
 TAKE '1/A#1'
@@ -40,7 +43,8 @@ DONE '1/A#1' TAKE 1 WITH 'Amount' = 50
 QUEUE 1
 DRAIN
 SHOW 1
-"],
+",
+        ],
         prints: "ok 1 IMPORT 1
 ok 2 ROOT 1
 ok TURNS 1
@@ -61,7 +65,8 @@ ok SHOW 1 ACTIVE 4
     Case {
         shows: "the other way is taken to the end",
         words: &["try"],
-        input: &["IMPORT
+        input: &[
+            "IMPORT
 STRUCTURE 'Loan' 'Amount' : LONG ; 'Risk' : STRING ; END 'Loan'
 PERSON 'ann' ROLES 'clerk' END 'ann'
 PROCESS 'P' ('Loan','Loan')
@@ -71,7 +76,9 @@ PROGRAM_ACTIVITY 'C' ('Loan','Loan') END 'C'
 PROGRAM_ACTIVITY 'D' ('Loan','Loan') END 'D'
 CONTROL FROM 'A' TO 'B' WHEN ('Amount' > 100)
 CONTROL FROM 'A' TO 'C' OTHERWISE
-", LOAN_TAIL, ".
+",
+            LOAN_TAIL,
+            ".
 START 'P' BY 'ann' WITH 'Amount' = 50
 DRAIN
 TAKE '1/A#1'
@@ -84,7 +91,8 @@ DONE '1/C#1' TAKE 1
 DRAIN
 SHOW 1
 OUTPUT 1
-"],
+",
+        ],
         prints: "ok 1 IMPORT 1
 ok 2 ROOT 1
 ok TURNS 1
@@ -116,7 +124,10 @@ ok OUTPUT 1 2
     Case {
         shows: "a number beyond 64 bits is refused",
         words: &["try"],
-        input: &["IMPORT\n", LOAN, ".
+        input: &[
+            "IMPORT\n",
+            LOAN,
+            ".
 START 'P' BY 'ann' WITH 'Amount' = 50
 DRAIN
 TAKE '1/A#1'
@@ -124,7 +135,8 @@ DONE '1/A#1' TAKE 1 WITH 'Amount' = 9223372036854775808
 DONE '1/A#1' TAKE 1 WITH 'Amount' = 9223372036854775807
 DRAIN
 SHOW 1
-"],
+",
+        ],
         prints: "ok 1 IMPORT 1
 ok 2 ROOT 1
 ok TURNS 1
@@ -143,7 +155,8 @@ ok SHOW 1 ACTIVE 4
     Case {
         shows: "an exit condition repeats an activity",
         words: &["try"],
-        input: &["IMPORT
+        input: &[
+            "IMPORT
 STRUCTURE 'N' 'n' : LONG ; END 'N'
 PERSON 'ann' END 'ann'
 PROCESS 'L' ('N','N')
@@ -163,7 +176,8 @@ TAKE '1/A#3'
 DONE '1/A#3' TAKE 1 WITH 'n' = 3
 DRAIN
 OUTPUT 1
-"],
+",
+        ],
         prints: "ok 1 IMPORT 1
 ok 2 ROOT 1
 ok TURNS 1
@@ -184,7 +198,8 @@ ok OUTPUT 1 1
     Case {
         shows: "a subprocess is in the other queue",
         words: &["try", "QUEUES", "2"],
-        input: &["IMPORT
+        input: &[
+            "IMPORT
 STRUCTURE 'E' END 'E'
 PERSON 'ann' END 'ann'
 PROCESS 'Sub' ('E','E')
@@ -205,7 +220,8 @@ DONE '1/Y#1' TAKE 1
 TURN 1
 TURN 2
 SHOW 1
-"],
+",
+        ],
         prints: "ok 1 IMPORT 2
 ok 2 ROOT 1
 no EMPTY 1
@@ -225,7 +241,8 @@ ok SHOW 1 ACTIVE 4
     Case {
         shows: "the later of two data lines wins",
         words: &["try"],
-        input: &["IMPORT
+        input: &[
+            "IMPORT
 STRUCTURE 'N' 'n' : LONG ; END 'N'
 PERSON 'ann' END 'ann'
 PROCESS 'J' ('N','N')
@@ -244,7 +261,8 @@ FORCE '1/B#1' WITH 'n' = 2
 FORCE '1/A#1' WITH 'n' = 1
 DRAIN
 INPUT '1/J#1'
-"],
+",
+        ],
         prints: "ok 1 IMPORT 1
 ok 2 ROOT 1
 ok TURNS 1
@@ -259,14 +277,16 @@ ok INPUT '1/J#1' 1
     Case {
         shows: "queues that are not there, words that are wrong",
         words: &["try", "QUEUES", "2"],
-        input: &["TURN 1
+        input: &[
+            "TURN 1
 TURN 9
 TURN 0
 TURN
 turn 1
 SHOW 1
 START 'P' BY 'ann'
-"],
+",
+        ],
         prints: "no EMPTY 1
 no QUEUE 2
 no QUEUE 2
@@ -280,7 +300,10 @@ no PERSON 'ann'
     Case {
         shows: "a take is of one attempt",
         words: &["try"],
-        input: &["IMPORT\n", LOAN, ".
+        input: &[
+            "IMPORT\n",
+            LOAN,
+            ".
 START 'P' BY 'ann' WITH 'Amount' = 50
 DRAIN
 TAKE '1/A#1'
@@ -291,7 +314,8 @@ DONE '1/A#1' TAKE 1
 FORCE '1/A#1'
 DONE '1/A#1' TAKE 2
 TAKE '1/A#2'
-"],
+",
+        ],
         prints: "ok 1 IMPORT 1
 ok 2 ROOT 1
 ok TURNS 1
@@ -309,12 +333,16 @@ no ITEM '1/A#2'
     Case {
         shows: "the limit is met by a command",
         words: &["try", "LIMIT", "3"],
-        input: &["IMPORT\n", LOAN, ".
+        input: &[
+            "IMPORT\n",
+            LOAN,
+            ".
 START 'P' BY 'ann'
 DRAIN
 TAKE '1/A#1'
 DRAIN
-"],
+",
+        ],
         prints: "ok 1 IMPORT 1
 ok 2 ROOT 1
 ok TURNS 1
@@ -326,10 +354,14 @@ ok TURNS 0
     Case {
         shows: "the limit is met by a drain",
         words: &["try", "LIMIT", "2"],
-        input: &["IMPORT\n", LOAN, ".
+        input: &[
+            "IMPORT\n",
+            LOAN,
+            ".
 START 'P' BY 'ann'
 DRAIN
-"],
+",
+        ],
         prints: "ok 1 IMPORT 1
 ok 2 ROOT 1
 no FULL 2 TURNS 0
@@ -339,11 +371,15 @@ no FULL 2 TURNS 0
     Case {
         shows: "a key starts one root",
         words: &["try"],
-        input: &["IMPORT\n", LOAN, ".
+        input: &[
+            "IMPORT\n",
+            LOAN,
+            ".
 START 'P' BY 'ann' KEY 'k1'
 START 'P' BY 'ann' KEY 'k1'
 TEMPLATES
-"],
+",
+        ],
         prints: "ok 1 IMPORT 1
 ok 2 ROOT 1
 ok SAME 1
@@ -355,7 +391,10 @@ ok TEMPLATES 1
     Case {
         shows: "a root is deleted when its messages are gone",
         words: &["try"],
-        input: &["IMPORT\n", LOAN, ".
+        input: &[
+            "IMPORT\n",
+            LOAN,
+            ".
 START 'P' BY 'ann' WITH 'Amount' = 50
 DRAIN
 TAKE '1/A#1'
@@ -367,7 +406,8 @@ DELETE 1
 SHOW 1
 CHECKPOINT
 START 'P' BY 'ann'
-"],
+",
+        ],
         prints: "ok 1 IMPORT 1
 ok 2 ROOT 1
 ok TURNS 1
@@ -386,16 +426,21 @@ ok 10 ROOT 2
     Case {
         shows: "an import without its end",
         words: &["try"],
-        input: &["IMPORT
+        input: &[
+            "IMPORT
 PERSON 'x' END 'x'
-"],
+",
+        ],
         prints: "no UNENDED\n",
         status: Status::Done,
     },
     Case {
         shows: "a suspended root takes no completion",
         words: &["try"],
-        input: &["IMPORT\n", LOAN, ".
+        input: &[
+            "IMPORT\n",
+            LOAN,
+            ".
 START 'P' BY 'ann' WITH 'Amount' = 50
 DRAIN
 TAKE '1/A#1'
@@ -404,7 +449,8 @@ DONE '1/A#1' TAKE 1
 RESUME 1
 RESUME 1
 OUTPUT 1
-"],
+",
+        ],
         prints: "ok 1 IMPORT 1
 ok 2 ROOT 1
 ok TURNS 1

@@ -20,7 +20,7 @@ last count xs = drop (length xs - count) xs
 abbrev pub shipped : Opened → ℕ → ℕ → List ℕ
 shipped opened number from =
     stream_bytes (record { queues = opened.header.queues; limit = opened.header.limit; from = from })
-        (payloads_of (last (number - from) opened.records))
+    (payloads_of (last (number - from) opened.records))
 
 -- the transactions above a number are records of the opened store, which has so many transactions
 abbrev pub HasFrom : Opened → ℕ → ℕ → Type 0

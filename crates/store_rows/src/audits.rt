@@ -195,7 +195,12 @@ const NEEDED: [usize; 10] = [1, 2, 10, 4, 5, 6, 7, 8, 9, 10];
 fn lines_are_needed(rt: HostRuntime) -> Result<(), Fail> {
     for (i, number) in NEEDED.iter().enumerate() {
         let shows = format!(in rt.alloc(); "without line {i}")?;
-        stop_at(rt.alloc(), shows.as_str(), &without(rt.alloc(), i)?, *number)?;
+        stop_at(
+            rt.alloc(),
+            shows.as_str(),
+            &without(rt.alloc(), i)?,
+            *number,
+        )?;
     }
     Ok(())
 }

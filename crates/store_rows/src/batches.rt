@@ -87,7 +87,11 @@ fn cut_frames_are_refused(rt: HostRuntime) -> Result<(), Fail> {
 fn a_refusal_keeps_the_frames_before(rt: HostRuntime) -> Result<(), Fail> {
     let stream = stream_of(rt.alloc(), &[5, 6, 4])?;
     let followed = ran(rt.alloc(), "follow", &stream, new_disk(rt.alloc())?)?;
-    followed.check("a clock that goes back", "no NOTALLOWED 3\n", Status::Refused)?;
+    followed.check(
+        "a clock that goes back",
+        "no NOTALLOWED 3\n",
+        Status::Refused,
+    )?;
     clocked(rt.alloc(), followed.disk)?.check("the store after it", "ok 3 CLOCK 9\n", Status::Done)
 }
 

@@ -85,7 +85,13 @@ fn altered(alloc: Global, at: usize, byte: u8) -> Result<Vec<u8>, Fail> {
 #[test]
 fn a_store_is_made_so(rt: HostRuntime) -> Result<(), Fail> {
     let disk = new_store(rt.alloc())?.disk(rt.alloc())?;
-    let outcome = run_over(rt.alloc(), &["run", "a", "b"], b"CLOCK 5\n", (&[], &[]), disk)?;
+    let outcome = run_over(
+        rt.alloc(),
+        &["run", "a", "b"],
+        b"CLOCK 5\n",
+        (&[], &[]),
+        disk,
+    )?;
     outcome.check("a session over a new store", "ok 1 CLOCK 5\n", Status::Done)?;
     assert_eq!(rt; outcome.disk.bytes(Slot::A), STORE.as_slice());
     Ok(())

@@ -82,7 +82,11 @@ fn stores_are_shipped(rt: HostRuntime) -> Result<(), Fail> {
     assert_eq!(rt; first.text.as_slice(), STREAM.as_slice());
     let ahead = shipped(rt.alloc(), "2", first.disk)?;
     ahead.check("from behind the end", "no AHEAD 1\n", Status::Refused)?;
-    let gone = shipped(rt.alloc(), "0", store(rt.alloc(), b"CLOCK 5\nCHECKPOINT\n")?)?;
+    let gone = shipped(
+        rt.alloc(),
+        "0",
+        store(rt.alloc(), b"CLOCK 5\nCHECKPOINT\n")?,
+    )?;
     gone.check("from before a checkpoint", "no GONE 1\n", Status::Refused)
 }
 
@@ -125,8 +129,18 @@ fn changed_streams_are_judged(rt: HostRuntime) -> Result<(), Fail> {
 fn longer_streams_are_refused(rt: HostRuntime) -> Result<(), Fail> {
     let mut longer = Vec::from_slice(rt.alloc(), &STREAM)?;
     longer.push(0)?;
-    answered(rt.alloc(), "a byte behind the end", &longer, "no FRAME 48\n")?;
-    answered(rt.alloc(), "a refusal of ship", b"no GONE 1\n", "no FRAME 0\n")
+    answered(
+        rt.alloc(),
+        "a byte behind the end",
+        &longer,
+        "no FRAME 48\n",
+    )?;
+    answered(
+        rt.alloc(),
+        "a refusal of ship",
+        b"no GONE 1\n",
+        "no FRAME 0\n",
+    )
 }
 
 #[test]

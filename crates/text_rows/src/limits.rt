@@ -117,28 +117,48 @@ fn calling(alloc: Global, count: usize, calls: usize) -> Result<Vec<u8>, Fail> {
 fn processes_nest_16_deep(rt: HostRuntime) -> Result<(), Fail> {
     let alloc = rt.alloc();
     accept(alloc, "17 levels", &calling(alloc, 17, 1)?)?;
-    refuse(alloc, "18 levels", &calling(alloc, 18, 1)?, "no RULE 21 19\n")
+    refuse(
+        alloc,
+        "18 levels",
+        &calling(alloc, 18, 1)?,
+        "no RULE 21 19\n",
+    )
 }
 
 #[test]
 fn processes_expand_to_65536(rt: HostRuntime) -> Result<(), Fail> {
     let alloc = rt.alloc();
     accept(alloc, "15 doublings", &calling(alloc, 15, 2)?)?;
-    refuse(alloc, "16 doublings", &calling(alloc, 16, 2)?, "no RULE 22 17\n")
+    refuse(
+        alloc,
+        "16 doublings",
+        &calling(alloc, 16, 2)?,
+        "no RULE 22 17\n",
+    )
 }
 
 #[test]
 fn texts_have_256_processes(rt: HostRuntime) -> Result<(), Fail> {
     let alloc = rt.alloc();
     accept(alloc, "256 processes", &calling(alloc, 256, 0)?)?;
-    refuse(alloc, "257 processes", &calling(alloc, 257, 0)?, "no RULE 24 258\n")
+    refuse(
+        alloc,
+        "257 processes",
+        &calling(alloc, 257, 0)?,
+        "no RULE 24 258\n",
+    )
 }
 
 #[test]
 fn texts_have_a_mebibyte(rt: HostRuntime) -> Result<(), Fail> {
     let alloc = rt.alloc();
     accept(alloc, "a mebibyte", &filled(alloc, 1_048_576)?)?;
-    refuse(alloc, "one byte more", &filled(alloc, 1_048_577)?, "no RULE 24 1\n")
+    refuse(
+        alloc,
+        "one byte more",
+        &filled(alloc, 1_048_577)?,
+        "no RULE 24 1\n",
+    )
 }
 
 #[test]
@@ -159,5 +179,10 @@ fn conditions_have_64_levels(rt: HostRuntime) -> Result<(), Fail> {
 fn graphs_have_1024_activities(rt: HostRuntime) -> Result<(), Fail> {
     let alloc = rt.alloc();
     accept(alloc, "1,024 activities", &chained(alloc, 1_024)?)?;
-    refuse(alloc, "1,025 activities", &chained(alloc, 1_025)?, "no RULE 24 1027\n")
+    refuse(
+        alloc,
+        "1,025 activities",
+        &chained(alloc, 1_025)?,
+        "no RULE 24 1027\n",
+    )
 }

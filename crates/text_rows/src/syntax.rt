@@ -288,7 +288,12 @@ fn refuse_each(alloc: Global, tokens: &[&str]) -> Result<(), Fail> {
 
 #[test]
 fn wrong_tokens_are_refused(rt: HostRuntime) -> Result<(), Fail> {
-    for tokens in [STRUCTURE.as_slice(), PERSON.as_slice(), PROCESS.as_slice(), NESTED.as_slice()] {
+    for tokens in [
+        STRUCTURE.as_slice(),
+        PERSON.as_slice(),
+        PROCESS.as_slice(),
+        NESTED.as_slice(),
+    ] {
         refuse_each(rt.alloc(), tokens)?;
     }
     Ok(())

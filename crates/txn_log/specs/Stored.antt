@@ -29,8 +29,8 @@ abbrev pub listed : ℕ → ℕ → List ℕ → Listed
 listed skip place [] = Breaks place
 listed zero place (gate ∷ rest) =
     if gate == 1 then
-        (if is_whole rest then led (take (length_at rest) (drop 4 rest)) (listed (4 + length_at rest) (place + 1) rest)
-        else Breaks place)
+    (if is_whole rest then led (take (length_at rest) (drop 4 rest)) (listed (4 + length_at rest) (place + 1) rest)
+    else Breaks place)
     else Ends [] place
 listed (suc skip) place (byte ∷ rest) = listed skip (place + 1) rest
 
@@ -98,7 +98,7 @@ abbrev pub slot_state : List ℕ → SlotState
 slot_state bytes =
     let head = take 42 bytes in
     state_of (is_unmade head) (has_magic head) (header_fault (length head) (header_of head)) (header_of head)
-        (listed 0 42 (drop 42 bytes))
+    (listed 0 42 (drop 42 bytes))
 
 -- a good slot with these records more
 abbrev pub extended : List (List ℕ) → SlotState → SlotState

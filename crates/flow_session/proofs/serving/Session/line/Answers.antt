@@ -32,7 +32,7 @@ returns-in-Err-NoMemory-clause-makes g c =
 pub returns-in-Ok-None-clause-served : goal.returns-in-Ok-None-clause-served
 returns-in-Ok-None-clause-served g c =
     says_blank c.args.self.now c.args.line.now _ (search rules)
-    (rw c.in-Ok-None.field-0-is at c.in-Ok-None.ensures.says) c.requires.outside (search rules)
+    (rw c.in-Ok-None.field-0-is at c.in-Ok-None.ensures.read) c.requires.outside (search rules)
 
 pub returns-in-Ok-Some-clause-served : goal.returns-in-Ok-Some-clause-served
 returns-in-Ok-Some-clause-served g c =
