@@ -1,0 +1,48 @@
+-- A session as the machine sees it: its state, its inputs, and the text of an IMPORT that isn't ended yet.
+use Rattle.std.specs.Prelude.{ℕ, ◌≤◌, Option, option_map, List, [], ◌∷◌, length}
+use Rattle.flow_model.specs.Rows.{deepest}
+use Rattle.flow_core.specs.Driving.{templates}
+use Rattle.flow_core.specs.declared.state.Core.{Core}
+use Rattle.flow_session.specs.Inputs.{Given, Line, Long, End, Unended, unended}
+use Rattle.flow_session.specs.declared.serving.Session.{Session}
+use Rattle.machine_laws.specs.Script as machine
+use Rattle.machine_laws.specs.Viewed.{view}
+use Rattle.machine_verdicts.specs.Answers.{NestsWithin}
+use Rattle.machine_verdicts.specs.Keyed.{AreKeyed}
+use Rattle.worklist_laws.specs.Shelved.{IsRightAndListed}
+
+-- an input as the machine reads it
+abbrev pub input_of : Given → machine.Given
+input_of (Line line) = machine.Line line
+input_of Long = machine.Long
+input_of End = machine.End
+
+-- the text of an IMPORT that isn't ended yet, as the machine gathers it
+abbrev pub text_of : Unended → machine.Unended
+text_of u = record { text = u.text; has_long = u.has_long }
+
+-- a session as the machine sees it
+abbrev pub sitting : Session → machine.Sitting
+sitting s = record { state = view s.core; unended = option_map text_of (unended s) }
+
+-- a line is no longer than a line of a script may be; what is longer comes as an input that is too long
+abbrev pub IsShort : Given → Type 0
+IsShort (Line line) = length line ≤ 65536
+IsShort Long = Unit {0}
+IsShort End = Unit {0}
+
+-- so it is of each of these inputs
+abbrev pub AreShort : List Given → Type 0
+AreShort [] = Unit {0}
+AreShort (input ∷ inputs) = IsShort input × AreShort inputs
+
+-- a state is right, its worklists hold exactly its open manual items, and its keys are the machine's
+pub record IsWhole (c : Core) : Type 0 where
+  pub right : IsRightAndListed c
+  pub keyed : AreKeyed c
+
+-- a state is within its bounds: it has no more transactions than its limit, and its processes nest no deeper than the
+-- machine looks
+pub record IsBounded (c : Core) : Type 0 where
+  pub counts : c.number ≤ c.limit
+  pub nests : NestsWithin (templates c) deepest
