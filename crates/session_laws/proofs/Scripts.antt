@@ -8,6 +8,7 @@ use Rattle.flow_core.specs.Summaries.{Summary, summary, next}
 use Rattle.flow_core.specs.declared.state.Core.{Core}
 use Rattle.flow_disk.specs.Images.{Image}
 use Rattle.flow_disk.specs.declared.disk.Slot.{Slot}
+use Rattle.flow_model.specs.Rows.{deepest}
 use Rattle.flow_model.specs.ScopeContainers.{graph_in, graph_of}
 use Rattle.flow_model.specs.declared.graphs.Activity.{Activity}
 use Rattle.flow_model.specs.declared.graphs.Graph.{Graph, out-Graph}
@@ -107,7 +108,7 @@ bounded_before c c' ts right leads bounded = record {
       let counted = bounded.counts in
       omega arith;
   nests =
-      nests_less (templates c) (templates c') _ right.1.sound (runs_agree (view c) ts (view c') (leads.steps right))
+      nests_less (templates c) (templates c') deepest right.1.sound (runs_agree (view c) ts (view c') (leads.steps right))
       bounded.nests;
 }
 

@@ -9,7 +9,7 @@ use Rattle.flow_model.specs.declared.commands.Command.TheVariants.{Take, Done, F
 use Rattle.flow_model.specs.declared.commands.Command.TheVariants.{Terminate, Delete, Clock, Checkpoint, Ask}
 use Rattle.flow_session.specs.Inputs as session
 use Rattle.flow_session.specs.Inputs.{Given, Line, Long, End, Unended, unended, is_end}
-use Rattle.flow_session.specs.Replying.{IsObeyed, IsMade, IsUnmade}
+use Rattle.flow_session.specs.Replying.{IsObeyed, IsMade, IsUnmade, checkpoint_text}
 use Rattle.flow_session.specs.declared.serving.Session.{Session}
 use Rattle.machine_laws.specs.Script as machine
 use Rattle.machine_laws.specs.Viewed.{view}
@@ -66,10 +66,10 @@ module _ (c : Core) (whole : IsWhole c) where
     commanded_seen (Import text) is = answers_seen c c' (Some session.no_lines) after [] reply is
     commanded_seen Drain is = (drain_seen c c' reply is.0 whole.right.0 bounded.counts, ap gathered_of is.1)
     commanded_seen Checkpoint is =
-        answers_seen c c' None after (session.checkpoint_text (length c.live.items)) reply is
+        answers_seen c c' None after (checkpoint_text (length c.live.items)) reply is
     commanded_seen (Ask query) is =
         let there = subst IsBounded is.0 bounded in
-        (ap view is.0, ap gathered_of is.1.0, answer_seen c query reply whole.right there.nests is.1.1)
+        (ap view is.0, ap gathered_of is.1, answer_seen c query reply whole.right there.nests is.2)
     commanded_seen (Start process starter key settings) is = ended_seen c' (Start process starter key settings) after reply is
     commanded_seen (Turn queue) is = ended_seen c' (Turn queue) after reply is
     commanded_seen (Claim token who) is = ended_seen c' (Claim token who) after reply is
