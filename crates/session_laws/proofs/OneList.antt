@@ -14,10 +14,10 @@ module _ {J K : Type 0} (tells : Type 0) (holds : J → Summary → Type 0) (mom
     (tells' : Type 0) (holds' : K → Summary → Type 0) (moment' : K → ℕ) (left_since' : K → ℕ → Image → Type 0)
     (place' : K → Slot × ℕ) (moved' : K → K → Summary → Type 0) where
   pub one_list : ScriptsHaveOneList tells holds moment left_since place moved tells' holds' moment' left_since' place' moved'
-  one_list reads serves s t s' t' j j' k k' inputs replies replies' same whole whole' bounded bounded' short means all all' =
-      let first = script_replied tells holds moment left_since place moved s j inputs replies s' j' all whole bounded short in
+  one_list reads serves s t s' t' j j' k k' inputs replies replies' same whole whole' shallow shallow' means all all' =
+      let first = script_replied tells holds moment left_since place moved s j inputs replies s' j' all whole shallow in
       let second = script_replied tells' holds' moment' left_since' place' moved' t k inputs replies' t' k' all' whole'
-          bounded' short in
+      shallow' in
       let one = scripts reads serves (map input_of inputs) (sitting s) (sitting s') (sitting t') replies replies' means first
-          (subst (λ (x : machine.Sitting). machine.Replies x (map input_of inputs) replies' (sitting t')) (sym same) second) in
+      (subst (λ (x : machine.Sitting). machine.Replies x (map input_of inputs) replies' (sitting t')) (sym same) second) in
       (one.1, one.0)

@@ -1,21 +1,18 @@
 -- The replies of a session to a script are the machine's.
-use Rattle.std.proofs.Common.{◌≡◌, ℕ, zero, suc, ◌+◌, ◌≤◌, Option, Some, None, List, [], ◌∷◌, ◌++◌, length, map, refl, sym, ap, subst, ◌∙◌, arith}
-use Rattle.std.specs.Prelude.{slice_get}
+use Rattle.std.proofs.Common.{◌≡◌, ℕ, zero, suc, Some, List, [], ◌∷◌, ◌++◌, map, refl, sym, ap, subst}
 use Rattle.core_laws.proofs.ServedTogether.{served_together}
 use Rattle.core_laws.specs.RightStates.{IsRightCore}
 use Rattle.flow_core.specs.Driving.{templates}
-use Rattle.flow_core.specs.Summaries.{Summary, summary, next}
+use Rattle.flow_core.specs.Summaries.{Summary}
 use Rattle.flow_core.specs.declared.state.Core.{Core}
 use Rattle.flow_disk.specs.Images.{Image}
 use Rattle.flow_disk.specs.declared.disk.Slot.{Slot}
 use Rattle.flow_model.specs.Rows.{deepest}
 use Rattle.flow_model.specs.ScopeContainers.{graph_in, graph_of}
-use Rattle.flow_model.specs.declared.graphs.Activity.{Activity}
-use Rattle.flow_model.specs.declared.graphs.Graph.{Graph, out-Graph}
+use Rattle.flow_model.specs.declared.graphs.Graph.{Graph}
 use Rattle.flow_model.specs.declared.graphs.Template.{Template}
 use Rattle.flow_model.specs.declared.graphs.Work.{Work, Program, Block', Process}
 use Rattle.flow_model.specs.declared.transactions.Transaction.{Transaction}
-use Rattle.flow_session.specs.Histories.{after}
 use Rattle.flow_session.specs.Inputs.{Given}
 use Rattle.flow_session.specs.Leading.{LeadsBy}
 use Rattle.flow_session.specs.Scripts.{ServesOne, ServesAll, NoInput, OneMore}
@@ -29,10 +26,10 @@ use Rattle.machine_laws.specs.Viewed.{view}
 use Rattle.navigator.specs.Serving.{Served}
 use Rattle.template_check.specs.Built.{AreSound}
 use Rattle.machine_verdicts.specs.Answers.{NestsWithin}
-use Rattle.session_laws.specs.Sittings.{input_of, sitting, IsShort, AreShort, IsWhole, IsBounded}
+use Rattle.session_laws.specs.Sittings.{input_of, sitting, IsWhole, IsShallow}
 use Rattle.session_laws.proofs.Served.{input_served}
 
--- ---- bounds: what holds of a later state held of each earlier one
+-- ---- depth: what holds of a later state held of each earlier one
 
 -- the graph that an activity runs stays in a larger library
 runs_on : (ts ts' : List Template) → Agrees ts ts' → (work : Work) (h : Graph) → graph_in ts work ≡ Some h
@@ -85,43 +82,20 @@ runs_agree s [] s' run = subst (λ (x : State). Agrees s.library.templates x.lib
 runs_agree s (t ∷ ts) s' run =
     let step = run.1 in
     let first : Agrees s.library.templates run.0.library.templates =
-        subst (λ (x : State). Agrees s.library.templates x.library.templates) (sym step.next)
-        (longer_agrees s.library.templates step.added.templates) in
+    subst (λ (x : State). Agrees s.library.templates x.library.templates) (sym step.next)
+    (longer_agrees s.library.templates step.added.templates) in
     λ place g is. runs_agree run.0 ts s' run.2 place g (first place g is)
 
--- transactions count, and leave the limit
-count_grows : (s : Summary) (ts : List Transaction) → s.transactions ≤ (after s ts).transactions
-count_grows s [] = omega arith
-count_grows s (t ∷ ts) = let rest = count_grows (next t s) ts in omega arith
-
-limit_stays : (s : Summary) (ts : List Transaction) → (after s ts).limit ≡ s.limit
-limit_stays s [] = refl
-limit_stays s (t ∷ ts) = limit_stays (next t s) ts
-
-bounded_before : (c c' : Core) (ts : List Transaction) → IsRightCore c → LeadsBy c ts c' → IsBounded c' → IsBounded c
-bounded_before c c' ts right leads bounded = record {
-  counts =
-      let grows = count_grows (summary c) ts in
-      let stays = limit_stays (summary c) ts in
-      let number : c'.number ≡ (after (summary c) ts).transactions = ap (λ (s : Summary). s.transactions) leads.came in
-      let limit : c'.limit ≡ (after (summary c) ts).limit = ap (λ (s : Summary). s.limit) leads.came in
-      let counted = bounded.counts in
-      omega arith;
-  nests =
-      nests_less (templates c) (templates c') deepest right.1.sound (runs_agree (view c) ts (view c') (leads.steps right))
-      bounded.nests;
-}
+shallow_before : (c c' : Core) (ts : List Transaction) → IsRightCore c → LeadsBy c ts c' → IsShallow c' → IsShallow c
+shallow_before c c' ts right leads shallow =
+    nests_less (templates c) (templates c') deepest right.1.sound (runs_agree (view c) ts (view c') (leads.steps right))
+    shallow
 
 -- ---- one input behind others
 
 map_behind : {X Y : Type 0} (f : X → Y) (xs : List X) (x : X) → map f (xs ++ x ∷ []) ≡ map f xs ++ f x ∷ []
 map_behind f [] x = refl
 map_behind f (y ∷ ys) x = ap (λ zs. f y ∷ zs) (map_behind f ys x)
-
-short_front : (inputs : List Given) (input : Given) → AreShort (inputs ++ input ∷ []) → AreShort inputs × IsShort input
-short_front [] input short = (tt, short.0)
-short_front (i ∷ is) input short =
-    let rest = short_front is input short.1 in ((short.0, rest.0), rest.1)
 
 -- one more input of the machine behind others
 replies_behind : (inputs : List machine.Given) (replies : List (List ℕ)) (input : machine.Given) (reply : List ℕ)
@@ -158,14 +132,13 @@ module _ {J : Type 0} (tells : Type 0) (holds : J → Summary → Type 0) (momen
 
   pub script_replied : (s : Session) (j : J) (inputs : List Given) (replies : List (List ℕ)) (s' : Session) (j' : J)
       → ServesAll tells holds moment left_since place moved s j inputs replies s' j' → IsWhole s.core
-      → IsBounded s'.core → AreShort inputs → machine.Replies (sitting s) (map input_of inputs) replies (sitting s')
-  script_replied s j _ _ _ _ NoInput whole bounded short = refl
-  script_replied s j _ _ _ _ (OneMore {inputs} {replies} {input} {reply} {s'} {s''} {j'} {j''} all one) whole bounded short =
+      → IsShallow s'.core → machine.Replies (sitting s) (map input_of inputs) replies (sitting s')
+  script_replied s j _ _ _ _ NoInput whole shallow = refl
+  script_replied s j _ _ _ _ (OneMore {inputs} {replies} {input} {reply} {s'} {s''} {j'} {j''} all one) whole shallow =
       let now = all_whole s j inputs replies s' j' all whole in
-      let before = bounded_before s'.core s''.core one.makes.transactions now.right.0 one.makes.ended bounded in
-      let each = short_front inputs input short in
-      let first = script_replied s j inputs replies s' j' all whole before each.0 in
-      let last = input_served s' s'' input reply one.served now bounded each.1 in
+      let before = shallow_before s'.core s''.core one.makes.transactions now.right.0 one.makes.ended shallow in
+      let first = script_replied s j inputs replies s' j' all whole before in
+      let last = input_served s' s'' input reply one.served now shallow in
       subst (λ (is : List machine.Given). machine.Replies (sitting s) is (replies ++ reply ∷ []) (sitting s''))
       (sym (map_behind input_of inputs input))
       (replies_behind (map input_of inputs) replies (input_of input) reply (sitting s) (sitting s') (sitting s'') first last)

@@ -15,7 +15,7 @@ use Rattle.machine_laws.specs.Script as machine
 use Rattle.machine_laws.specs.Viewed.{view}
 use Rattle.machine_verdicts.proofs.EachQuery.{answer_seen}
 use Rattle.machine_verdicts.proofs.Obeyed.{command_obeyed, refusal_obeyed, same_obeyed}
-use Rattle.session_laws.specs.Sittings.{input_of, text_of, sitting, IsShort, IsWhole, IsBounded}
+use Rattle.session_laws.specs.Sittings.{input_of, text_of, sitting, IsWhole, IsShallow}
 use Rattle.session_laws.proofs.Turning.{drain_seen}
 
 -- ---- what changes nothing
@@ -60,16 +60,16 @@ module _ (c : Core) (whole : IsWhole c) where
       → machine.IsObeyed (view c) (view c') command reply × (gathered_of after ≡ None)
   ended_seen c' command after reply (obeyed, none) = (obeyed_seen c' command reply obeyed, ap gathered_of none)
 
-  module _ (c' : Core) (bounded : IsBounded c') (after : Option Unended) (reply : List ℕ) where
+  module _ (c' : Core) (shallow : IsShallow c') (after : Option Unended) (reply : List ℕ) where
     commanded_seen : (command : Command) → session.IsCommanded c c' command after reply
         → machine.IsCommanded (view c) (view c') command (gathered_of after) reply
     commanded_seen (Import text) is = answers_seen c c' (Some session.no_lines) after [] reply is
-    commanded_seen Drain is = (drain_seen c c' reply is.0 whole.right.0 bounded.counts, ap gathered_of is.1)
+    commanded_seen Drain is = (drain_seen c c' reply is.0 whole.right.0, ap gathered_of is.1)
     commanded_seen Checkpoint is =
         answers_seen c c' None after (checkpoint_text (length c.live.items)) reply is
     commanded_seen (Ask query) is =
-        let there = subst IsBounded is.0 bounded in
-        (ap view is.0, ap gathered_of is.1, answer_seen c query reply whole.right there.nests is.2)
+        let there = subst IsShallow is.0 shallow in
+        (ap view is.0, ap gathered_of is.1, answer_seen c query reply whole.right there is.2)
     commanded_seen (Start process starter key settings) is = ended_seen c' (Start process starter key settings) after reply is
     commanded_seen (Turn queue) is = ended_seen c' (Turn queue) after reply is
     commanded_seen (Claim token who) is = ended_seen c' (Claim token who) after reply is
@@ -87,25 +87,25 @@ module _ (c : Core) (whole : IsWhole c) where
 
     -- ---- lines and inputs outside an IMPORT
 
-    line_seen : (line : List ℕ) → length line ≤ 65536 → session.ServesLine line c c' after reply
+    line_seen : (line : List ℕ) → session.ServesLine line c c' after reply
         → machine.ServesLine line (view c) (view c') (gathered_of after) reply
-    line_seen line short (session.LongLine long is) =
+    line_seen line (session.LongLine long is) =
         (machine.AsLong, long, answers_seen c c' None after session.long_text reply is)
-    line_seen line short (session.BlankLine blank is) =
+    line_seen line (session.BlankLine short blank is) =
         (machine.AsBlank, (short, blank), answers_seen c c' None after [] reply is)
-    line_seen line short (session.CommandLine {command} says is) =
+    line_seen line (session.CommandLine {command} short says is) =
         (machine.AsCommand command, (short, says), commanded_seen command is)
-    line_seen line short (session.WrongLine {place} wrong is) = (
+    line_seen line (session.WrongLine {place} short wrong is) = (
       machine.AsWrong place,
       (short, record { refused = wrong.refused; none = wrong.none; first = wrong.first }),
       answers_seen c c' None after (session.word_text place) reply is,
     )
 
-    outside_seen : (input : Given) → IsShort input → session.ServesOutside input c c' after reply
+    outside_seen : (input : Given) → session.ServesOutside input c c' after reply
         → machine.ServesOutside (input_of input) (view c) (view c') (gathered_of after) reply
-    outside_seen (Line line) short is = line_seen line short is
-    outside_seen Long short is = answers_seen c c' None after session.long_text reply is
-    outside_seen End short is = answers_seen c c' None after [] reply is
+    outside_seen (Line line) is = line_seen line is
+    outside_seen Long is = answers_seen c c' None after session.long_text reply is
+    outside_seen End is = answers_seen c c' None after [] reply is
 
     -- ---- inputs inside an IMPORT
 
@@ -127,14 +127,14 @@ module _ (c : Core) (whole : IsWhole c) where
     inside_seen u End is =
         answers_seen c c' None after (if u.has_long then session.long_text else session.unended_text) reply is
 
-    input_seen : (o : Option Unended) (input : Given) → IsShort input → session.ServesInput o input c c' after reply
+    input_seen : (o : Option Unended) (input : Given) → session.ServesInput o input c c' after reply
         → machine.ServesInput (gathered_of o) (input_of input) (view c) (view c') (gathered_of after) reply
-    input_seen None input short is = outside_seen input short is
-    input_seen (Some u) input short is = inside_seen u input is
+    input_seen None input is = outside_seen input is
+    input_seen (Some u) input is = inside_seen u input is
 
 -- an input of a session is an input of the machine
 pub input_served : (s s' : Session) (input : Given) (reply : List ℕ) → session.IsServed s s' input reply
-    → IsWhole s.core → IsBounded s'.core → IsShort input
+    → IsWhole s.core → IsShallow s'.core
     → machine.ServesInput (sitting s).unended (input_of input) (view s.core) (view s'.core) (sitting s').unended reply
-input_served s s' input reply is whole bounded short =
-    input_seen s.core whole s'.core bounded (unended s') reply (unended s) input short is
+input_served s s' input reply is whole shallow =
+    input_seen s.core whole s'.core shallow (unended s') reply (unended s) input is

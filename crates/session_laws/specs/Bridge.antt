@@ -9,13 +9,13 @@ use Rattle.flow_session.specs.declared.serving.Session.{Session}
 use Rattle.machine_laws.specs.One.{ReadsOne, ServesOne, TextsMeanOne}
 use Rattle.machine_laws.specs.Script as machine
 use Rattle.machine_laws.specs.Viewed.{view}
-use Rattle.session_laws.specs.Sittings.{input_of, sitting, IsShort, AreShort, IsWhole, IsBounded}
+use Rattle.session_laws.specs.Sittings.{input_of, sitting, IsWhole, IsShallow}
 
 -- what an input does to a session, and what is replied, is what it does to the machine and what that replies
 abbrev pub InputsAreReplies : Type 0
 InputsAreReplies =
     (s s' : Session) (input : Given) (reply : List ℕ) → IsServed s s' input reply → IsWhole s.core
-    → IsBounded s'.core → IsShort input
+    → IsShallow s'.core
     → machine.ServesInput (sitting s).unended (input_of input) (view s.core) (view s'.core) (sitting s').unended reply
 
 -- the replies of a session to a script are the machine's, and lead the machine to where they lead the session
@@ -23,8 +23,8 @@ abbrev pub ScriptsAreReplies : {J : Type 0} → Type 0 → (J → Summary → Ty
     → (J → Slot × ℕ) → (J → J → Summary → Type 0) → Type 0
 ScriptsAreReplies {J} tells holds moment left_since place moved =
     (s : Session) (j : J) (inputs : List Given) (replies : List (List ℕ)) (s' : Session) (j' : J)
-    → ServesAll tells holds moment left_since place moved s j inputs replies s' j' → IsWhole s.core → IsBounded s'.core
-    → AreShort inputs → machine.Replies (sitting s) (map input_of inputs) replies (sitting s')
+    → ServesAll tells holds moment left_since place moved s j inputs replies s' j' → IsWhole s.core → IsShallow s'.core
+    → machine.Replies (sitting s) (map input_of inputs) replies (sitting s')
 
 -- two sessions that the machine sees as one have one list of replies to a script, and end as one, whatever journals they
 -- have, if what is read has one meaning
@@ -34,7 +34,7 @@ abbrev pub ScriptsHaveOneList : {J K : Type 0} → Type 0 → (J → Summary →
 ScriptsHaveOneList {J} {K} tells holds moment left_since place moved tells' holds' moment' left_since' place' moved' =
     ReadsOne → ServesOne → (s t s' t' : Session) (j j' : J) (k k' : K) (inputs : List Given)
     (replies replies' : List (List ℕ)) → sitting s ≡ sitting t → IsWhole s.core → IsWhole t.core
-    → IsBounded s'.core → IsBounded t'.core → AreShort inputs
+    → IsShallow s'.core → IsShallow t'.core
     → TextsMeanOne (sitting s).unended (map input_of inputs)
     → ServesAll tells holds moment left_since place moved s j inputs replies s' j'
     → ServesAll tells' holds' moment' left_since' place' moved' t k inputs replies' t' k'

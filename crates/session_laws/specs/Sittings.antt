@@ -1,5 +1,5 @@
 -- A session as the machine sees it: its state, its inputs, and the text of an IMPORT that isn't ended yet.
-use Rattle.std.specs.Prelude.{ℕ, ◌≤◌, Option, option_map, List, [], ◌∷◌, length}
+use Rattle.std.specs.Prelude.{Option, option_map}
 use Rattle.flow_model.specs.Rows.{deepest}
 use Rattle.flow_core.specs.Driving.{templates}
 use Rattle.flow_core.specs.declared.state.Core.{Core}
@@ -25,24 +25,11 @@ text_of u = record { text = u.text; has_long = u.has_long }
 abbrev pub sitting : Session → machine.Sitting
 sitting s = record { state = view s.core; unended = option_map text_of (unended s) }
 
--- a line is no longer than a line of a script may be; what is longer comes as an input that is too long
-abbrev pub IsShort : Given → Type 0
-IsShort (Line line) = length line ≤ 65536
-IsShort Long = Unit {0}
-IsShort End = Unit {0}
-
--- so it is of each of these inputs
-abbrev pub AreShort : List Given → Type 0
-AreShort [] = Unit {0}
-AreShort (input ∷ inputs) = IsShort input × AreShort inputs
-
 -- a state is right, its worklists hold exactly its open manual items, and its keys are the machine's
 pub record IsWhole (c : Core) : Type 0 where
   pub right : IsRightAndListed c
   pub keyed : AreKeyed c
 
--- a state is within its bounds: it has no more transactions than its limit, and its processes nest no deeper than the
--- machine looks
-pub record IsBounded (c : Core) : Type 0 where
-  pub counts : c.number ≤ c.limit
-  pub nests : NestsWithin (templates c) deepest
+-- the processes of a state nest no deeper than the machine looks
+abbrev pub IsShallow : Core → Type 0
+IsShallow c = NestsWithin (templates c) deepest
