@@ -6,7 +6,7 @@ use Rattle.flow_disk.specs.declared.disk.Slot.{Slot}
 use Rattle.machine_laws.proofs.Scripts.{scripts}
 use Rattle.machine_laws.specs.Script as machine
 use Rattle.session_laws.specs.Bridge.{ScriptsHaveOneList}
-use Rattle.session_laws.specs.Sittings.{input_of, sitting}
+use Rattle.session_laws.specs.Sittings.{machine_input, sitting}
 use Rattle.session_laws.proofs.Scripts.{script_replied}
 
 module _ {J K : Type 0} (tells : Type 0) (holds : J → Summary → Type 0) (moment : J → ℕ)
@@ -18,6 +18,6 @@ module _ {J K : Type 0} (tells : Type 0) (holds : J → Summary → Type 0) (mom
       let first = script_replied tells holds moment left_since place moved s j inputs replies s' j' all whole shallow in
       let second = script_replied tells' holds' moment' left_since' place' moved' t k inputs replies' t' k' all' whole'
       shallow' in
-      let one = scripts reads serves (map input_of inputs) (sitting s) (sitting s') (sitting t') replies replies' means first
-      (subst (λ (x : machine.Sitting). machine.Replies x (map input_of inputs) replies' (sitting t')) (sym same) second) in
+      let one = scripts reads serves (map machine_input inputs) (sitting s) (sitting s') (sitting t') replies replies' means first
+      (subst (λ (x : machine.Sitting). machine.Replies x (map machine_input inputs) replies' (sitting t')) (sym same) second) in
       (one.1, one.0)

@@ -26,7 +26,7 @@ use Rattle.machine_laws.specs.Viewed.{view}
 use Rattle.navigator.specs.Serving.{Served}
 use Rattle.template_check.specs.Built.{AreSound}
 use Rattle.machine_verdicts.specs.Answers.{NestsWithin}
-use Rattle.session_laws.specs.Sittings.{input_of, sitting, IsWhole, IsShallow}
+use Rattle.session_laws.specs.Sittings.{machine_input, sitting, IsWhole, IsShallow}
 use Rattle.session_laws.proofs.Served.{input_served}
 
 -- ---- depth: what holds of a later state held of each earlier one
@@ -132,7 +132,7 @@ module _ {J : Type 0} (tells : Type 0) (holds : J → Summary → Type 0) (momen
 
   pub script_replied : (s : Session) (j : J) (inputs : List Given) (replies : List (List ℕ)) (s' : Session) (j' : J)
       → ServesAll tells holds moment left_since place moved s j inputs replies s' j' → IsWhole s.core
-      → IsShallow s'.core → machine.Replies (sitting s) (map input_of inputs) replies (sitting s')
+      → IsShallow s'.core → machine.Replies (sitting s) (map machine_input inputs) replies (sitting s')
   script_replied s j _ _ _ _ NoInput whole shallow = refl
   script_replied s j _ _ _ _ (OneMore {inputs} {replies} {input} {reply} {s'} {s''} {j'} {j''} all one) whole shallow =
       let now = all_whole s j inputs replies s' j' all whole in
@@ -140,5 +140,5 @@ module _ {J : Type 0} (tells : Type 0) (holds : J → Summary → Type 0) (momen
       let first = script_replied s j inputs replies s' j' all whole before in
       let last = input_served s' s'' input reply one.served now shallow in
       subst (λ (is : List machine.Given). machine.Replies (sitting s) is (replies ++ reply ∷ []) (sitting s''))
-      (sym (map_behind input_of inputs input))
-      (replies_behind (map input_of inputs) replies (input_of input) reply (sitting s) (sitting s') (sitting s'') first last)
+      (sym (map_behind machine_input inputs input))
+      (replies_behind (map machine_input inputs) replies (machine_input input) reply (sitting s) (sitting s') (sitting s'') first last)

@@ -15,21 +15,21 @@ use Rattle.machine_laws.specs.Script as machine
 use Rattle.machine_laws.specs.Viewed.{view}
 use Rattle.machine_verdicts.proofs.EachQuery.{answer_seen}
 use Rattle.machine_verdicts.proofs.Obeyed.{command_obeyed, refusal_obeyed, same_obeyed}
-use Rattle.session_laws.specs.Sittings.{input_of, text_of, sitting, IsWhole, IsShallow}
+use Rattle.session_laws.specs.Sittings.{machine_input, machine_text, sitting, IsWhole, IsShallow}
 use Rattle.session_laws.proofs.Turning.{drain_seen}
 
 -- ---- what changes nothing
 
 -- the text that is gathered, as the machine gathers it
-abbrev gathered_of : Option Unended → Option machine.Unended
-gathered_of o = option_map text_of o
+abbrev machine_gathered : Option Unended → Option machine.Unended
+machine_gathered o = option_map machine_text o
 
 answers_seen : (c c' : Core) (gathered after : Option Unended) (text reply : List ℕ)
     → session.Answers c c' gathered after text reply
-    → machine.Answers (view c) (view c') (gathered_of gathered) (gathered_of after) text reply
+    → machine.Answers (view c) (view c') (machine_gathered gathered) (machine_gathered after) text reply
 answers_seen c c' gathered after text reply is = record {
   same = ap view is.same;
-  gathers = ap gathered_of is.gathers;
+  gathers = ap machine_gathered is.gathers;
   replies = is.replies;
 }
 
@@ -57,19 +57,19 @@ module _ (c : Core) (whole : IsWhole c) where
   -- a command that is obeyed, and no text is gathered afterwards
   ended_seen : (c' : Core) (command : Command) (after : Option Unended) (reply : List ℕ)
       → IsObeyed c c' command reply × (after ≡ None)
-      → machine.IsObeyed (view c) (view c') command reply × (gathered_of after ≡ None)
-  ended_seen c' command after reply (obeyed, none) = (obeyed_seen c' command reply obeyed, ap gathered_of none)
+      → machine.IsObeyed (view c) (view c') command reply × (machine_gathered after ≡ None)
+  ended_seen c' command after reply (obeyed, none) = (obeyed_seen c' command reply obeyed, ap machine_gathered none)
 
   module _ (c' : Core) (shallow : IsShallow c') (after : Option Unended) (reply : List ℕ) where
     commanded_seen : (command : Command) → session.IsCommanded c c' command after reply
-        → machine.IsCommanded (view c) (view c') command (gathered_of after) reply
+        → machine.IsCommanded (view c) (view c') command (machine_gathered after) reply
     commanded_seen (Import text) is = answers_seen c c' (Some session.no_lines) after [] reply is
-    commanded_seen Drain is = (drain_seen c c' reply is.0 whole.right.0, ap gathered_of is.1)
+    commanded_seen Drain is = (drain_seen c c' reply is.0 whole.right.0, ap machine_gathered is.1)
     commanded_seen Checkpoint is =
         answers_seen c c' None after (checkpoint_text (length c.live.items)) reply is
     commanded_seen (Ask query) is =
         let there = subst IsShallow is.0 shallow in
-        (ap view is.0, ap gathered_of is.1, answer_seen c query reply whole.right there is.2)
+        (ap view is.0, ap machine_gathered is.1, answer_seen c query reply whole.right there is.2)
     commanded_seen (Start process starter key settings) is = ended_seen c' (Start process starter key settings) after reply is
     commanded_seen (Turn queue) is = ended_seen c' (Turn queue) after reply is
     commanded_seen (Claim token who) is = ended_seen c' (Claim token who) after reply is
@@ -88,7 +88,7 @@ module _ (c : Core) (whole : IsWhole c) where
     -- ---- lines and inputs outside an IMPORT
 
     line_seen : (line : List ℕ) → session.ServesLine line c c' after reply
-        → machine.ServesLine line (view c) (view c') (gathered_of after) reply
+        → machine.ServesLine line (view c) (view c') (machine_gathered after) reply
     line_seen line (session.LongLine long is) =
         (machine.AsLong, long, answers_seen c c' None after session.long_text reply is)
     line_seen line (session.BlankLine short blank is) =
@@ -102,7 +102,7 @@ module _ (c : Core) (whole : IsWhole c) where
     )
 
     outside_seen : (input : Given) → session.ServesOutside input c c' after reply
-        → machine.ServesOutside (input_of input) (view c) (view c') (gathered_of after) reply
+        → machine.ServesOutside (machine_input input) (view c) (view c') (machine_gathered after) reply
     outside_seen (Line line) is = line_seen line is
     outside_seen Long is = answers_seen c c' None after session.long_text reply is
     outside_seen End is = answers_seen c c' None after [] reply is
@@ -110,31 +110,31 @@ module _ (c : Core) (whole : IsWhole c) where
     -- ---- inputs inside an IMPORT
 
     text_seen : (has_long : Bool) (text : List ℕ) → session.ServesText has_long text c c' after reply
-        → machine.ServesText has_long text (view c) (view c') (gathered_of after) reply
+        → machine.ServesText has_long text (view c) (view c') (machine_gathered after) reply
     text_seen true text is = answers_seen c c' None after session.long_text reply is
     text_seen false text is = ended_seen c' (Import text) after reply is
 
     text_line_seen : (ends : Bool) (u : Unended) (line : List ℕ) → session.ServesTextLine ends u line c c' after reply
-        → machine.ServesTextLine ends (text_of u) line (view c) (view c') (gathered_of after) reply
+        → machine.ServesTextLine ends (machine_text u) line (view c) (view c') (machine_gathered after) reply
     text_line_seen true u line is = text_seen u.has_long u.text is
     text_line_seen false u line is =
         answers_seen c c' (Some (record u { text = session.with_line u.text line })) after [] reply is
 
     inside_seen : (u : Unended) (input : Given) → session.ServesInside u input c c' after reply
-        → machine.ServesInside (text_of u) (input_of input) (view c) (view c') (gathered_of after) reply
+        → machine.ServesInside (machine_text u) (machine_input input) (view c) (view c') (machine_gathered after) reply
     inside_seen u (Line line) is = text_line_seen (is_end line) u line is
     inside_seen u Long is = answers_seen c c' (Some (record u { has_long = true })) after [] reply is
     inside_seen u End is =
         answers_seen c c' None after (if u.has_long then session.long_text else session.unended_text) reply is
 
     input_seen : (o : Option Unended) (input : Given) → session.ServesInput o input c c' after reply
-        → machine.ServesInput (gathered_of o) (input_of input) (view c) (view c') (gathered_of after) reply
+        → machine.ServesInput (machine_gathered o) (machine_input input) (view c) (view c') (machine_gathered after) reply
     input_seen None input is = outside_seen input is
     input_seen (Some u) input is = inside_seen u input is
 
 -- an input of a session is an input of the machine
 pub input_served : (s s' : Session) (input : Given) (reply : List ℕ) → session.IsServed s s' input reply
     → IsWhole s.core → IsShallow s'.core
-    → machine.ServesInput (sitting s).unended (input_of input) (view s.core) (view s'.core) (sitting s').unended reply
+    → machine.ServesInput (sitting s).unended (machine_input input) (view s.core) (view s'.core) (sitting s').unended reply
 input_served s s' input reply is whole shallow =
     input_seen s.core whole s'.core shallow (unended s') reply (unended s) input is

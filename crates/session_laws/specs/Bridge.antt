@@ -9,14 +9,15 @@ use Rattle.flow_session.specs.declared.serving.Session.{Session}
 use Rattle.machine_laws.specs.One.{ReadsOne, ServesOne, TextsMeanOne}
 use Rattle.machine_laws.specs.Script as machine
 use Rattle.machine_laws.specs.Viewed.{view}
-use Rattle.session_laws.specs.Sittings.{input_of, sitting, IsWhole, IsShallow}
+use Rattle.session_laws.specs.Sittings.{machine_input, sitting, IsWhole, IsShallow}
 
 -- what an input does to a session, and what is replied, is what it does to the machine and what that replies
 abbrev pub InputsAreReplies : Type 0
 InputsAreReplies =
     (s s' : Session) (input : Given) (reply : List ℕ) → IsServed s s' input reply → IsWhole s.core
     → IsShallow s'.core
-    → machine.ServesInput (sitting s).unended (input_of input) (view s.core) (view s'.core) (sitting s').unended reply
+    → machine.ServesInput (sitting s).unended (machine_input input) (view s.core) (view s'.core)
+    (sitting s').unended reply
 
 -- the replies of a session to a script are the machine's, and lead the machine to where they lead the session
 abbrev pub ScriptsAreReplies : {J : Type 0} → Type 0 → (J → Summary → Type 0) → (J → ℕ) → (J → ℕ → Image → Type 0)
@@ -24,7 +25,7 @@ abbrev pub ScriptsAreReplies : {J : Type 0} → Type 0 → (J → Summary → Ty
 ScriptsAreReplies {J} tells holds moment left_since place moved =
     (s : Session) (j : J) (inputs : List Given) (replies : List (List ℕ)) (s' : Session) (j' : J)
     → ServesAll tells holds moment left_since place moved s j inputs replies s' j' → IsWhole s.core → IsShallow s'.core
-    → machine.Replies (sitting s) (map input_of inputs) replies (sitting s')
+    → machine.Replies (sitting s) (map machine_input inputs) replies (sitting s')
 
 -- two sessions that the machine sees as one have one list of replies to a script, and end as one, whatever journals they
 -- have, if what is read has one meaning
@@ -35,7 +36,7 @@ ScriptsHaveOneList {J} {K} tells holds moment left_since place moved tells' hold
     ReadsOne → ServesOne → (s t s' t' : Session) (j j' : J) (k k' : K) (inputs : List Given)
     (replies replies' : List (List ℕ)) → sitting s ≡ sitting t → IsWhole s.core → IsWhole t.core
     → IsShallow s'.core → IsShallow t'.core
-    → TextsMeanOne (sitting s).unended (map input_of inputs)
+    → TextsMeanOne (sitting s).unended (map machine_input inputs)
     → ServesAll tells holds moment left_since place moved s j inputs replies s' j'
     → ServesAll tells' holds' moment' left_since' place' moved' t k inputs replies' t' k'
     → (replies ≡ replies') × (sitting s' ≡ sitting t')

@@ -12,18 +12,18 @@ use Rattle.machine_verdicts.specs.Keyed.{AreKeyed}
 use Rattle.worklist_laws.specs.Shelved.{IsRightAndListed}
 
 -- an input as the machine reads it
-abbrev pub input_of : Given → machine.Given
-input_of (Line line) = machine.Line line
-input_of Long = machine.Long
-input_of End = machine.End
+abbrev pub machine_input : Given → machine.Given
+machine_input (Line line) = machine.Line line
+machine_input Long = machine.Long
+machine_input End = machine.End
 
 -- the text of an IMPORT that isn't ended yet, as the machine gathers it
-abbrev pub text_of : Unended → machine.Unended
-text_of u = record { text = u.text; has_long = u.has_long }
+abbrev pub machine_text : Unended → machine.Unended
+machine_text u = record { text = u.text; has_long = u.has_long }
 
 -- a session as the machine sees it
 abbrev pub sitting : Session → machine.Sitting
-sitting s = record { state = view s.core; unended = option_map text_of (unended s) }
+sitting s = record { state = view s.core; unended = option_map machine_text (unended s) }
 
 -- a state is right, its worklists hold exactly its open manual items, and its keys are the machine's
 pub record IsWhole (c : Core) : Type 0 where
