@@ -1,5 +1,5 @@
 -- The graphs of the scopes that are told of are laid out right at every depth, where those of the templates are.
-use Rattle.std.proofs.Common.{◌≡◌, ℕ, zero, suc, ◌-◌, ◌==◌, Bool, true, false, ◌&&◌, cond, List, length, Option, Some, None, refl, sym, subst}
+use Rattle.std.proofs.Common.{◌≡◌, ℕ, zero, suc, ◌-◌, ◌==◌, Bool, true, false, cond, List, length, Option, Some, None, refl, sym, subst}
 use Rattle.std.specs.Prelude.{IfSome, option_map, option_and_then, slice_get, nat_lt, position, bytes_eq, ◌^◌}
 use Rattle.std.specs.List.{All}
 use Rattle.std.specs.Option.{option_or}
@@ -13,13 +13,12 @@ use Rattle.flow_model.specs.declared.instances.SourceEnd.TheVariants as end
 use Rattle.flow_model.specs.declared.names.Name.{Name}
 use Rattle.flow_model.specs.Conditions.{holds}
 use Rattle.flow_model.specs.Rows.{below}
-use Rattle.flow_model.specs.Scopes.{part, is_fed}
+use Rattle.flow_model.specs.Scopes.{part}
 use Rattle.flow_model.specs.ScopeContainers.{graph_in, looped}
 use Rattle.fate_laws.specs.Layout.{IsLaid, Laid, OfInside}
-use Rattle.blocks_subprocs.specs.Ends.{ends_of}
 use Rattle.certificates.specs.declared.lines.CertLine.{CertLine}
 use Rattle.certificates.specs.declared.lines.CertLine.TheVariants.{Scope, Dead, Finished, Ended}
-use Rattle.certificates.specs.Told.{Opened, Told, Basis, Placed, opened, same_path, beginning, changed, with_end, with_output, placed, activity_at, join_in, is_known, first_input, is_active, first_start, attempt_start, start_after, next_start, start, joined_at, final_at, scope_gives, last_part, outer, inner_begins, root_begins, root_graph, begins_as, begins, line_scope, next, taken}
+use Rattle.certificates.specs.Told.{Opened, Told, Basis, Placed, opened, same_path, beginning, changed, with_end, with_output, placed, activity_at, first_input, is_active, first_start, attempt_start, start_after, next_start, start, joined_at, final_at, scope_gives, last_part, outer, inner_begins, root_begins, root_graph, begins_as, begins, line_scope, next, taken}
 use Rattle.certificates.specs.Kept.{AreLaid, AreLaidTemplates}
 
 -- ---- what holds of the value of an option

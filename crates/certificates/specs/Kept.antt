@@ -1,5 +1,5 @@
 -- How what is told stands in the memory of the checker.
-use Rattle.std.specs.Prelude.{◌≡◌, ℕ, Bool, Option, option_map, is_some, unwrap_or, IfSome, List, bytes_eq}
+use Rattle.std.specs.Prelude.{◌≡◌, ℕ, Bool, Option, Some, option_map, is_some, unwrap_or, IfSome, List, bytes_eq}
 use Rattle.std.specs.Borrow.{Bor}
 use Rattle.std.specs.List.{All}
 use Rattle.std.specs.Global.{Vec}
@@ -14,7 +14,8 @@ use Rattle.certificates.specs.declared.graphs.Placed.{Placed as PlacedActivity}
 use Rattle.certificates.specs.declared.grounds.Grounds.{Grounds}
 use Rattle.certificates.specs.declared.grounds.Checker.{Checker}
 use Rattle.certificates.specs.declared.scopes.Begun.{Begun}
-use Rattle.certificates.specs.Told.{Opened, Told, Basis, Placed, accepted}
+use Rattle.certificates.specs.declared.lines.CertLine.{CertLine}
+use Rattle.certificates.specs.Told.{Opened, Told, Basis, Placed, accepted, taken}
 
 -- what a certificate rests on, as the checker is given it
 abbrev pub basis_of : Grounds → Basis
@@ -63,3 +64,7 @@ AreLaidTemplates ts = (depth : ℕ) → All (λ t. Laid ts depth t.graph) ts
 pub record Takes (old new : Told) (after : Option Told) (yes : Bool) : Type 0 where
   pub answered : yes ≡ is_some after
   pub told : (p : Path) → new p ≡ unwrap_or after old p
+
+-- each of these lines follows from what is told, and tells nothing more
+abbrev pub TellNoMore : Basis → Told → List CertLine → Type 0
+TellNoMore b t lines = All (λ line. taken b t line ≡ Some t) lines

@@ -6,13 +6,14 @@ ghost use Rattle.flow_model.specs.ScopeContainers.{up_to};
 ghost use Rattle.certificates.specs.Told.{joined_at, gave, goes_on as goes_on_after, stops, final_at, next, taken};
 ghost use Rattle.certificates.specs.Told.{scope_gives};
 ghost use Rattle.certificates.specs.Kept.{basis_of, opened_of, placed_of, told_by, AreLaid, AreLaidTemplates};
-ghost use Rattle.certificates.specs.Kept.{IsReadied, Takes};
+ghost use Rattle.certificates.specs.Kept.{TellNoMore, IsReadied, Takes};
 ghost use Rattle.certificates.specs.Justified.{AreJustified, StopsAt, IsWithin};
 ghost use Rattle.certificates.specs.declared.accepting.AcceptFault.TheVariants.{NoMemory};
 
 use crate::graphs::{Placed, activity_at, path_below};
 use crate::grounds::{Checker, Grounds};
-use crate::lines::CertLine;
+use crate::lines::{CertLine, line_bytes};
+use crate::repeats::{Said, is_repeated};
 use crate::scopes::{Begun, Scopes, begin, give, is_known, scope_at, settle};
 use crate::starting::starting;
 use conditions::holds;
@@ -343,6 +344,28 @@ fn take<'a>(
     take_next(checker, scopes, line)
 }
 
+/// Takes a line once. One that stands before, too, is justified and tells nothing more: that costs a look-up.
+fn take_once<'a>(
+    checker: &Checker<'a>,
+    scopes: &mut Scopes<'a>,
+    said: &mut Said,
+    before: &[CertLine],
+    line: &CertLine,
+) -> Result<bool, AllocError>
+    requires { IsReadied checker.now }
+    ensures { AreLaid (told_by scopes.old) → TellNoMore (basis_of checker.now.grounds) (told_by scopes.old) before.now
+        → IfOk result (Takes (told_by scopes.old) (told_by scopes.new)
+        (taken (basis_of checker.now.grounds) (told_by scopes.old) line.now)) }
+{
+    let text = line_bytes(checker.alloc, line)?;
+    if is_repeated(said, before, text.as_slice(), line) {
+        return Ok(true);
+    }
+    let justified = take(checker, scopes, line)?;
+    said.insert(text, before.len())?;
+    Ok(justified)
+}
+
 /// Checks a certificate over a root's completions.
 ///
 /// `Line` comes with the first line that isn't justified by those before it. A line that says again what a
@@ -355,8 +378,9 @@ pub fn accept(alloc: Global, grounds: &Grounds<'_>, lines: &[CertLine]) -> Resul
 {
     let checker = Checker::new(alloc, grounds)?;
     let mut scopes = IndexMap::new(alloc);
+    let mut said = IndexMap::new(alloc);
     for (number, line) in lines.iter().enumerate() {
-        if !take(&checker, &mut scopes, line)? {
+        if !take_once(&checker, &mut scopes, &mut said, &lines[..number], line)? {
             return Err(AcceptFault::Line(number as u64));
         }
     }

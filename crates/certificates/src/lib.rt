@@ -10,8 +10,11 @@ mod graphs;
 mod grounds;
 mod lines;
 mod reading;
+mod repeats;
 mod scopes;
 mod starting;
+#[cfg(test)]
+mod tests;
 
 pub use accepting::{AcceptFault, accept};
 pub use graphs::{Placed, activity_at, path_below};
