@@ -113,7 +113,7 @@ fn keeps_none_or_all(
 fn stops_of_a_batch(rt: HostRuntime) -> Result<(), Fail> {
     let new = new_store(rt.alloc())?;
     let stream = rising(rt.alloc(), 3)?;
-    for call in 1..9 {
+    for call in 1..11 {
         for choice in [0, 1, 215, 221] {
             assert!(rt;
                 keeps_none_or_all(rt.alloc(), &new, &stream, call, choice)?,

@@ -115,14 +115,14 @@ fn script_without_a_fault(rt: HostRuntime) -> Result<(), Fail> {
     let disk = new_store(rt.alloc())?.disk(rt.alloc())?;
     let outcome = ran(rt.alloc(), SCRIPT, disk)?;
     assert!(rt; outcome.status == Status::Done && outcome.text.as_slice() == ANSWERS);
-    assert_eq!(rt; outcome.disk.calls(), 93);
+    assert_eq!(rt; outcome.disk.calls(), 95);
     Ok(())
 }
 
 #[test]
 fn stops_of_the_disk(rt: HostRuntime) -> Result<(), Fail> {
     let store = new_store(rt.alloc())?;
-    for call in 1..94 {
+    for call in 1..96 {
         assert!(rt; may_stop(rt.alloc(), &store, call)?, "call {call}");
     }
     Ok(())
@@ -131,7 +131,7 @@ fn stops_of_the_disk(rt: HostRuntime) -> Result<(), Fail> {
 #[test]
 fn faults_of_the_disk(rt: HostRuntime) -> Result<(), Fail> {
     let store = new_store(rt.alloc())?;
-    for call in 1..94 {
+    for call in 1..96 {
         assert!(rt; may_fail(rt.alloc(), &store, call)?, "call {call}");
     }
     Ok(())

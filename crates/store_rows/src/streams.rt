@@ -164,7 +164,7 @@ fn survives(alloc: Global, new: &Store, call: u64, choice: u64) -> Result<bool, 
 #[test]
 fn stops_of_the_second_store(rt: HostRuntime) -> Result<(), Fail> {
     let new = new_store(rt.alloc())?;
-    for call in 1..9 {
+    for call in 1..11 {
         for choice in [0, 1, 215, 221] {
             assert!(rt;
                 survives(rt.alloc(), &new, call, choice)?,

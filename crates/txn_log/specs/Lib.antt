@@ -2,6 +2,7 @@ pub mod Stored
 pub mod Records
 pub mod Batches
 pub mod Judging
+pub mod Outlines
 pub mod Stores
 pub mod Causes
 pub mod Opening

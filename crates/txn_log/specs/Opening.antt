@@ -1,5 +1,6 @@
 -- What is answered when a store is opened or made.
-use Rattle.std.specs.Prelude.{◌≡◌, ◌⊎◌, ℕ, [], length, false, Result, Ok, Err}
+use Rattle.std.specs.Prelude.{◌≡◌, ◌⊎◌, ℕ, [], length, false, Option, Some, None, Result, Ok, Err}
+use Rattle.flow_disk.specs.declared.disk.Slot.{Slot}
 use Rattle.flow_disk.specs.declared.disk.Slot.TheVariants.{A}
 use Rattle.flow_disk.specs.Images.{Image}
 use Rattle.txn_log.specs.declared.chosen.Chosen.{Chosen}
@@ -19,11 +20,22 @@ IsVerdict (Damaged slot place) state = state ≡ DamagedIn slot place
 IsVerdict StoreFault state = ⊥
 IsVerdict NoMemory state = ⊥
 
+-- the slot that counts
+abbrev pub slot_in : StoreState → Option Slot
+slot_in NoStore = None
+slot_in (ForeignIn slot) = None
+slot_in (DamagedIn slot place) = None
+slot_in (Counts slot h ps e) = Some slot
+
 -- what both slots give: the one that counts, or the verdict
-abbrev pub IsChoice : Result Chosen LogStop → StoreState → Type 0
-IsChoice (Ok chosen) state =
-    state ≡ Counts chosen.slot chosen.body.header (payloads_of chosen.body.records) chosen.body.end
+abbrev pub IsChoice : Result Slot LogStop → StoreState → Type 0
+IsChoice (Ok slot) state = slot_in state ≡ Some slot
 IsChoice (Err stop) state = IsVerdict stop state
+
+-- the slot that counts, with the header and the payloads of its body
+abbrev pub IsChosen : Chosen → StoreState → Type 0
+IsChosen chosen state =
+    state ≡ Counts chosen.slot chosen.body.header (payloads_of chosen.body.records) chosen.body.end
 
 -- why opening stopped: the verdict, or a cause outside of the store
 abbrev pub IsRefusal : LogStop → StoreState → Type 0

@@ -1,5 +1,5 @@
 -- What the bytes of a slot stand for.
-use Rattle.std.specs.Prelude.{ℕ, zero, suc, ◌+◌, ◌≤◌, ◌^◌, Bool, true, false, ◌&&◌, ◌||◌, not, nat_lt, nat_le, nat_eq, ◌==◌, if◌then◌else◌, List, [], ◌∷◌, ◌++◌, length, take, drop, slice_index, Option, Some, None, codes}
+use Rattle.std.specs.Prelude.{◌≡◌, ℕ, zero, suc, ◌+◌, ◌≤◌, ◌^◌, Bool, true, false, ◌&&◌, ◌||◌, not, nat_lt, nat_le, nat_eq, ◌==◌, if◌then◌else◌, List, [], ◌∷◌, ◌++◌, length, take, drop, slice_index, Option, Some, None, codes}
 use Rattle.std.specs.Int.{w32, w64, from_be_bytes, to_be_bytes}
 use Rattle.std.specs.List.{starts_with}
 use Rattle.txn_log.specs.declared.header.Header.{Header}
@@ -99,6 +99,10 @@ slot_state bytes =
     let head = take 42 bytes in
     state_of (is_unmade head) (has_magic head) (header_fault (length head) (header_of head)) (header_of head)
     (listed 0 42 (drop 42 bytes))
+
+-- a slot is good
+abbrev pub IsGoodState : SlotState → Type 0
+IsGoodState state = (header : Header) × (payloads : List (List ℕ)) × (end : ℕ) × (state ≡ Good header payloads end)
 
 -- a good slot with these records more
 abbrev pub extended : List (List ℕ) → SlotState → SlotState

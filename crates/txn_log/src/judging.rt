@@ -1,10 +1,12 @@
 //! What the bytes of a slot are: of no store, of another, damaged, or a header with records.
-ghost use Rattle.std.specs.Prelude.{◌≡◌, ℕ, ◌+◌, ◌<◌, ◌≤◌, ◌^◌, List, [], ◌∷◌, ◌++◌, length, take, drop, slice_index, IfOk, OnOk, None, true, false};
+ghost use Rattle.std.specs.Prelude.{◌≡◌, ℕ, ◌+◌, ◌<◌, ◌≤◌, ◌^◌, List, [], ◌∷◌, ◌++◌, length, take, drop, slice_index, ◌==◌, if◌then◌else◌, IfOk, OnOk, None, true, false};
 ghost use Rattle.txn_log.specs.Judging.{IsPlaced, listed_of, state_in};
+ghost use Rattle.txn_log.specs.Outlines.{outline_of};
 ghost use Rattle.txn_log.specs.Stored.{has_magic as magic_test, header_fault as fault_of, header_of as spelled_header, is_field as field_test, is_unmade as unmade_test, is_whole, length_at, listed, with_header, number_at as spelled_number, slot_state};
 
 use crate::header::Header;
 use crate::judged::{Body, Found, Judged, Record};
+use crate::outline::{Frame, Outline};
 use flow_model::{Bytes, List};
 use std::alloc::{AllocError, Global};
 
@@ -58,6 +60,17 @@ fn header_of(head: &[u8]) -> Header
         limit: number_at(head, 18),
         transactions: number_at(head, 26),
         roots: number_at(head, 34),
+    }
+}
+
+/// The generation that a slot with this front has, or 0 where its gate isn't open.
+pub fn open_generation(head: &[u8]) -> u64
+    ensures { result ≡ if slice_index head.now 0 == 1 then spelled_number head.now 9 else 0 }
+{
+    if byte_at(head, 0) == 1 {
+        number_at(head, 9)
+    } else {
+        0
     }
 }
 
@@ -143,6 +156,31 @@ fn list(alloc: Global, bytes: &[u8]) -> Result<Found, AllocError>
     Ok(Found::Breaks(at as u64))
 }
 
+/// The outline of a slot with this header, by the gates of its records.
+fn outline_with(header: Header, bytes: &[u8]) -> Outline
+    requires { length bytes.now < 2 ^ 63 }
+    ensures { result ≡ outline_of (with_header None header (listed 0 42 (drop 42 bytes.now))) }
+{
+    let mut records = 0;
+    let mut at = 42;
+    'gates: while at < bytes.len() {
+        if bytes[at] != 1 {
+            return Outline::Good(Frame {
+                header,
+                records,
+                end: at as u64,
+            });
+        }
+        let len = whole_len(&bytes[at + 1..]);
+        if len == 0 {
+            return Outline::Damaged(at as u64);
+        }
+        records += 1;
+        at += 5 + len;
+    }
+    Outline::Damaged(at as u64)
+}
+
 /// The first 42 bytes.
 fn head_of(bytes: &[u8]) -> &[u8]
     ensures { result.now ≡ take 42 bytes.now }
@@ -187,4 +225,23 @@ pub fn judge(alloc: Global, bytes: &[u8]) -> Result<Judged, AllocError>
     }
     let found = list(alloc, bytes)?;
     Ok(judged_of(header, found))
+}
+
+/// The judgement of a slot by its bytes, without its records. Takes no memory.
+pub fn outline(bytes: &[u8]) -> Outline
+    requires { length bytes.now < 2 ^ 63 }
+    ensures { result ≡ outline_of (slot_state bytes.now) }
+{
+    let head = head_of(bytes);
+    if is_unmade(head) {
+        return Outline::Unmade;
+    }
+    if !has_magic(head) {
+        return Outline::Foreign;
+    }
+    let header = header_of(head);
+    if let Some(place) = header_fault(head.len(), &header) {
+        return Outline::Damaged(place);
+    }
+    outline_with(header, bytes)
 }

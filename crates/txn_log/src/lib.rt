@@ -19,6 +19,7 @@ mod judged;
 mod judging;
 mod log;
 mod opening;
+mod outline;
 mod reading;
 mod steps;
 mod stops;

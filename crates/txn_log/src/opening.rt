@@ -1,25 +1,27 @@
 //! A store opened and made.
-ghost use Rattle.std.specs.Prelude.{◌≡◌, ℕ, ◌<◌, ◌≤◌, [], OnOk, IfOk, IfErr, Ok, Err};
+ghost use Rattle.std.specs.Prelude.{◌≡◌, ℕ, ◌<◌, ◌≤◌, [], OnOk, IfOk, IfErr, Ok, Err, length, ◌^◌, true};
 ghost use Rattle.flow_disk.specs.Causes.{HasCause};
 ghost use Rattle.flow_disk.specs.Images.{Image, bytes_in, opposite};
 ghost use Rattle.flow_disk.specs.Moments.{LeavesOnly, Only, Within};
 ghost use Rattle.txn_log.specs.Causes.{IsCause, IsOutside, UnlessFault};
-ghost use Rattle.txn_log.specs.Judging.{state_in};
-ghost use Rattle.txn_log.specs.Opening.{HasRecords, IsChoice, IsMakeRefusal, IsOpened, IsRefusal, IsStanding, MayBeMade, MayBeNew, first_header};
+ghost use Rattle.txn_log.specs.Opening.{HasRecords, IsChosen, IsMakeRefusal, IsOpened, IsRefusal, IsStanding, MayBeMade, MayBeNew, first_header};
+ghost use Rattle.txn_log.specs.Outlines.{outline_of};
+ghost use Rattle.txn_log.specs.Records.{payloads_of};
 ghost use Rattle.txn_log.specs.Standing.{IsAt, StandsOn};
 ghost use Rattle.txn_log.specs.Steps.{Stands, StandsOrUnmade};
-ghost use Rattle.txn_log.specs.Stored.{Good, InRange, Unmade, slot_state};
+ghost use Rattle.txn_log.specs.Stored.{Good, InRange, IsGoodState, Unmade, slot_state};
 ghost use Rattle.txn_log.specs.Stores.{Counts, NoStore, store_of};
-ghost use Rattle.txn_log.specs.declared.stops.LogStop.TheVariants.{StoreFault};
+ghost use Rattle.txn_log.specs.declared.stops.LogStop.TheVariants.{NoMemory, StoreFault};
 
-use crate::choosing::choose;
+use crate::choosing::choose_by;
 use crate::chosen::Chosen;
 use crate::header::Header;
-use crate::judged::{Judged, Record};
-use crate::judging::judge;
+use crate::judged::{Body, Judged, Record};
+use crate::judging::{judge, open_generation, outline};
 use crate::log::Log;
+use crate::outline::Outline;
 use crate::reading::read_slot;
-use crate::steps::{fill, shut};
+use crate::steps::{fill, other_slot, shut};
 use crate::stops::LogStop;
 use flow_disk::{Disk, Failed, Slot};
 use flow_model::List;
@@ -33,32 +35,111 @@ pub struct Opened {
     pub records: List<Record>,
 }
 
-/// The judgement of a slot, as read.
-fn judge_slot<D: Disk>(alloc: Global, disk: &mut D, slot: Slot) -> Result<Judged, LogStop>
+/// How the front of a slot ranks: by its generation where its gate is open, else last.
+fn rank<D: Disk>(disk: &mut D, slot: Slot) -> Result<u64, Failed>
+    ensures seen { D.seen disk.new ≡ D.seen disk.old }
+    ensures crash { Within (D.images disk.old) (D.images disk.new) }
+    ensures any_moment { LeavesOnly D.moment D.left_since disk.old disk.new (D.images disk.old) }
+    ensures cause { HasCause (D.faults disk.old) (D.faults disk.new) result }
+{
+    let mut head = [0; 42];
+    disk.read_at(slot, 0, &mut head)?;
+    Ok(open_generation(&head))
+}
+
+/// The slot that counts, if one does, by the fronts of both. It says only which one is to be read
+/// last, so that its bytes are still there when its records are wanted.
+fn likely<D: Disk>(disk: &mut D) -> Result<Slot, Failed>
+    ensures seen { D.seen disk.new ≡ D.seen disk.old }
+    ensures crash { Within (D.images disk.old) (D.images disk.new) }
+    ensures any_moment { LeavesOnly D.moment D.left_since disk.old disk.new (D.images disk.old) }
+    ensures cause { HasCause (D.faults disk.old) (D.faults disk.new) result }
+{
+    let a = rank(disk, Slot::A)?;
+    let b = rank(disk, Slot::B)?;
+    Ok(if b > a { Slot::B } else { Slot::A })
+}
+
+/// The outline of a slot, as read; the bytes that were read are dropped.
+fn outline_slot<D: Disk>(alloc: Global, disk: &mut D, slot: Slot) -> Result<Outline, LogStop>
     ensures outside { IfErr result IsOutside }
-    ensures judged { IfOk result (λ judged. D.tells → state_in judged ≡ slot_state (bytes_in (D.seen disk.old) slot)) }
+    ensures outline { IfOk result (λ outline. D.tells
+        → outline ≡ outline_of (slot_state (bytes_in (D.seen disk.old) slot))) }
     ensures seen { D.seen disk.new ≡ D.seen disk.old }
     ensures crash { Within (D.images disk.old) (D.images disk.new) }
     ensures any_moment { LeavesOnly D.moment D.left_since disk.old disk.new (D.images disk.old) }
     ensures cause { IsCause (D.faults disk.old) (D.faults disk.new) result }
 {
     let bytes = read_slot(alloc, disk, slot)?;
-    let judged = judge(alloc, &bytes)?;
-    Ok(judged)
+    Ok(outline(&bytes))
 }
 
-/// The slot that counts, as read.
+/// What stands in a slot that is good by its bytes. Of a disk that doesn't tell, they may have
+/// changed since it was judged.
+fn body_of(alloc: Global, slot: Slot, bytes: &[u8]) -> Result<Body, LogStop>
+    requires { length bytes.now < 2 ^ 63 }
+    ensures outside { IfErr result (λ stop. IsGoodState (slot_state bytes.now) → stop ≡ NoMemory) }
+    ensures inside { IfErr result (λ stop. stop ≡ StoreFault → ⊥) }
+    ensures body { IfOk result (λ body. slot_state bytes.now
+        ≡ Good body.header (payloads_of body.records) body.end) }
+{
+    match judge(alloc, bytes)? {
+        Judged::Good(body) => Ok(body),
+        Judged::Damaged(place) => Err(LogStop::Damaged(slot, place)),
+        Judged::Foreign => Err(LogStop::Foreign(slot)),
+        Judged::Unmade => Err(LogStop::Unmade),
+    }
+}
+
+/// Whether both are the same slot.
+fn is_same(a: Slot, b: Slot) -> bool
+    ensures { result ≡ true → a ≡ b }
+{
+    a == b
+}
+
+/// What stands in a good slot, by these bytes of the slot `read`, or as read again if it is the
+/// other one.
+fn body_in<D: Disk>(
+    alloc: Global,
+    disk: &mut D,
+    slot: Slot,
+    read: Slot,
+    bytes: Vec<u8>,
+) -> Result<Body, LogStop>
+    requires bytes { D.tells → bytes.items ≡ bytes_in (D.seen disk.old) read }
+    requires good { D.tells → IsGoodState (slot_state (bytes_in (D.seen disk.old) slot)) }
+    ensures outside { IfErr result (λ stop. D.tells → IsOutside stop) }
+    ensures body { IfOk result (λ body. D.tells → slot_state (bytes_in (D.seen disk.old) slot)
+        ≡ Good body.header (payloads_of body.records) body.end) }
+    ensures seen { D.seen disk.new ≡ D.seen disk.old }
+    ensures crash { Within (D.images disk.old) (D.images disk.new) }
+    ensures any_moment { LeavesOnly D.moment D.left_since disk.old disk.new (D.images disk.old) }
+    ensures cause { IsCause (D.faults disk.old) (D.faults disk.new) result }
+{
+    if is_same(slot, read) {
+        return body_of(alloc, slot, &bytes);
+    }
+    drop(bytes);
+    let again = read_slot(alloc, disk, slot)?;
+    body_of(alloc, slot, &again)
+}
+
+/// The slot that counts, as read: both are judged before any record is kept.
 fn chosen<D: Disk>(alloc: Global, disk: &mut D) -> Result<Chosen, LogStop>
-    ensures chosen { IfOk result (λ chosen. D.tells → IsChoice (Ok chosen) (store_of (D.seen disk.old))) }
+    ensures chosen { IfOk result (λ chosen. D.tells → IsChosen chosen (store_of (D.seen disk.old))) }
     ensures refused { IfErr result (λ stop. D.tells → IsRefusal stop (store_of (D.seen disk.old))) }
     ensures seen { D.seen disk.new ≡ D.seen disk.old }
     ensures crash { Within (D.images disk.old) (D.images disk.new) }
     ensures any_moment { LeavesOnly D.moment D.left_since disk.old disk.new (D.images disk.old) }
     ensures cause { IsCause (D.faults disk.old) (D.faults disk.new) result }
 {
-    let a = judge_slot(alloc, disk, Slot::A)?;
-    let b = judge_slot(alloc, disk, Slot::B)?;
-    choose(a, b)
+    let last = likely(disk)?;
+    let beside = outline_slot(alloc, disk, other_slot(last))?;
+    let bytes = read_slot(alloc, disk, last)?;
+    let slot = choose_by(last, outline(&bytes), beside)?;
+    let body = body_in(alloc, disk, slot, last, bytes)?;
+    Ok(Chosen { slot, body })
 }
 
 /// How the store stands before one is made.
@@ -122,7 +203,8 @@ impl Log {
     ///
     /// `Unmade`, `Foreign` and `Damaged` come exactly where both slots say so, `Made` never,
     /// `StoreFault` exactly where the disk's count of faults rose, and `NoMemory` for want of
-    /// memory. The disk isn't written.
+    /// memory. The disk isn't written. Both slots are judged before any record is kept, and then
+    /// those of the slot that counts are, of no other.
     pub fn reopen<D: Disk>(alloc: Global, disk: &mut D) -> Result<Opened, LogStop>
         ensures opened { IfOk result (λ opened. D.tells → IsOpened (D.seen disk.new) opened) }
         ensures stands { IfOk result (λ opened. D.tells → StandsOn opened.log (D.seen disk.new)) }

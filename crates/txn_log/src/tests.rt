@@ -183,6 +183,43 @@ fn stores_that_are_refused(rt: HostRuntime) -> Result<(), Fail> {
     Ok(())
 }
 
+/// A slot without records, of a generation below 256.
+fn made(rt: &HostRuntime, generation: u8) -> Result<Vec<u8>, Fail> {
+    let mut bytes = MADE.to_vec(rt.alloc())?;
+    if let Some(last) = bytes.get_mut(16) {
+        *last = generation;
+    }
+    Ok(bytes)
+}
+
+/// Which slot counts, and how many calls it takes to find it.
+fn found(rt: &HostRuntime, a: &[u8], b: &[u8]) -> Result<(Result<Slot, LogStop>, u64), Fail> {
+    let mut disk = MemDisk::with(rt.alloc(), a, b, &[])?;
+    let found = match Log::reopen(rt.alloc(), &mut disk) {
+        Ok(opened) => Ok(opened.log.slot()),
+        Err(stop) => Err(stop),
+    };
+    Ok((found, disk.calls()))
+}
+
+// Of both slots the fronts are read, then all of each until nothing comes, and no slot again.
+#[test]
+fn two_slots(rt: HostRuntime) -> Result<(), Fail> {
+    let (older, newer) = (made(&rt, 1)?, made(&rt, 2)?);
+    assert_eq!(rt; found(&rt, &older, &newer)?, (Ok(Slot::B), 7));
+    assert_eq!(rt; found(&rt, &newer, &older)?, (Ok(Slot::A), 7));
+    assert_eq!(rt; found(&rt, &older, &[])?, (Ok(Slot::A), 6));
+    assert_eq!(rt; found(&rt, &[], &older)?, (Ok(Slot::B), 6));
+    let cut = LogStop::Damaged(Slot::A, 42);
+    assert_eq!(rt; found(&rt, &MADE[..42], &newer)?, (Err(cut), 7));
+    let other = LogStop::Foreign(Slot::B);
+    assert_eq!(rt;
+        found(&rt, &MADE[..42], b"hello".as_slice())?,
+        (Err(other), 7)
+    );
+    Ok(())
+}
+
 #[test]
 fn cut_and_altered(rt: HostRuntime) -> Result<(), Fail> {
     let alloc = rt.alloc();
