@@ -6,7 +6,7 @@ use Rattle.flow_model.specs.declared.transactions.Transaction.TheVariants.{Impor
 use Rattle.flow_model.specs.declared.transactions.Transaction.TheVariants.{Transfer, Take, Done, Force, Restart}
 use Rattle.flow_model.specs.declared.transactions.Transaction.TheVariants.{Suspend, Resume, Terminate, Delete, Clock}
 use Rattle.machine.specs.Imports.{Added, Adds}
-use Rattle.machine.specs.Laws.{AddsOne, AllAddOne}
+use Rattle.machine.specs.Steps.{AddsOne, AllAddOne}
 use Rattle.machine.specs.States.{State}
 use Rattle.machine.specs.Steps.{after, Steps, Runs}
 

@@ -5,4 +5,6 @@ pub mod Queues
 pub mod States
 pub mod Imports
 pub mod Steps
-pub mod Laws
+pub mod Verdicts
+pub mod Answers
+pub mod Scripts

@@ -164,7 +164,7 @@ decided ts g path clock a activity None x = x
 decided ts g path clock a activity (Some true) x = opens ts g path clock a activity (slice_get x.row.standings a) x
 decided ts g path clock a activity (Some false) x = dies g path a x
 
--- the same, for the activity and the tally at a place, where there are such
+-- the same, for the activity and the tally at a place, where there are any
 abbrev pub decided_by : List Template → Graph → Path → ℕ → ℕ → Option Activity → Option Tally → Scene → Scene
 decided_by ts g path clock a None t x = x
 decided_by ts g path clock a (Some activity) None x = x

@@ -25,7 +25,7 @@ use Rattle.flow_model.specs.declared.transactions.Transaction.TheVariants.{Trans
 use Rattle.flow_model.specs.declared.transactions.Transaction.TheVariants.{Suspend, Resume, Terminate, Delete, Clock}
 use Rattle.process_rules.specs.Imports.{newest_place}
 use Rattle.recover_queue.specs.Queues.{root_of as root_of_message}
-use Rattle.machine.specs.Imports.{Added, with_added, Adds}
+use Rattle.machine.specs.Imports.{Added, with_added, Adds, IsMeaning}
 use Rattle.machine.specs.Items.{Entry}
 use Rattle.machine.specs.Moves.{Outcome, Told, nothing, given_of, takes, completes_item, holds_item, Holding, ByPerson}
 use Rattle.machine.specs.Moves.{ByAgent, ByNobody}
@@ -232,3 +232,27 @@ pub record Steps (s : State) (t : Transaction) (s' : State) : Type 0 where
 abbrev pub Runs : State → List Transaction → State → Type 0
 Runs s [] s' = s' ≡ s
 Runs s (t ∷ ts) s' = (mid : State) × Steps s t mid × Runs mid ts s'
+
+-- ---- laws: a step leads to one state, and so does a history
+
+-- a text means one thing behind a library
+abbrev pub MeansOne : Library → List ℕ → Type 0
+MeansOne library text = (x y : Added) → IsMeaning library text x → IsMeaning library text y → x ≡ y
+
+-- what a transaction adds to a library is one thing: asked of the text of an Import, and of no other transaction
+abbrev pub AddsOne : Library → Transaction → Type 0
+AddsOne library (Import text) = MeansOne library text
+AddsOne library t = Unit {0}
+
+-- a transaction leads to one state
+abbrev pub OneStepOnly : Type 0
+OneStepOnly = (s s' s'' : State) (t : Transaction) → AddsOne s.library t → Steps s t s' → Steps s t s'' → s' ≡ s''
+
+-- each text that is imported means one thing behind every library
+abbrev pub AllAddOne : List Transaction → Type 0
+AllAddOne [] = Unit {0}
+AllAddOne (t ∷ ts) = ((library : Library) → AddsOne library t) × AllAddOne ts
+
+-- a history, transactions one after the other, leads to one state
+abbrev pub OneHistory : Type 0
+OneHistory = (ts : List Transaction) → AllAddOne ts → (s s' s'' : State) → Runs s ts s' → Runs s ts s'' → s' ≡ s''
