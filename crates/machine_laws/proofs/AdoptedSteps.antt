@@ -24,7 +24,7 @@ use Rattle.navigator.specs.Items.{Entry}
 use Rattle.view_laws.specs.Runs.{Event}
 use Rattle.machine_laws.specs.Applied.{Adopted, IsGood}
 use Rattle.machine_laws.specs.Right.{HoldsOpen}
-use Rattle.machine_laws.specs.Script.{StepsAs}
+use Rattle.machine.specs.Scripts.{StepsAs}
 use Rattle.machine_laws.specs.Viewed.{view}
 use Rattle.machine_laws.proofs.AppliedSteps.{applied_step}
 

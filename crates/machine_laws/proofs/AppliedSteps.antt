@@ -1,15 +1,13 @@
 -- What a call that applies a transaction says, whole, is a step of the machine.
-use Rattle.std.proofs.Common.{◌≡◌, ℕ, List, [], ◌++◌, Option, Some, None, refl, sym, ap, subst, ◌∙◌, append-nil}
-use Rattle.std.proofs.lemmas.Option.{none-some}
+use Rattle.std.proofs.Common.{◌≡◌, ℕ, List, Option, Some, None, refl, sym, ap, subst, ◌∙◌, append-nil}
 use Rattle.activity_states.specs.declared.states.Completed.{Completed}
 use Rattle.containers.specs.Settings.{filled}
 use Rattle.core_laws.specs.RightStates.{IsRightState}
 use Rattle.flow_core.specs.Allowing.{IsAllowed}
 use Rattle.flow_core.specs.Answers.{instance_of}
-use Rattle.flow_core.specs.Driving.{templates, item_of, Drives, StoreAfter, BecomesCompleted, ChangesRoot, clock_after}
+use Rattle.flow_core.specs.Driving.{templates, item_of, Drives, BecomesCompleted, ChangesRoot, clock_after}
 use Rattle.flow_core.specs.Shelving as f
 use Rattle.flow_core.specs.Shelving.{performer_named}
-use Rattle.flow_core.specs.Summaries.{summary, next, root_about}
 use Rattle.flow_core.specs.declared.state.Core.{Core}
 use Rattle.flow_model.specs.Containers.{fresh}
 use Rattle.flow_model.specs.declared.graphs.Template.{Template}
@@ -30,7 +28,7 @@ use Rattle.process_rules.specs.declared.catalog.Catalog.{Catalog}
 use Rattle.recover_queue.specs.Queues.{root_of as root_of_message}
 use Rattle.view_laws.specs.Runs.{Event}
 use Rattle.machine_laws.specs.Applied.{Applied, IsGood}
-use Rattle.machine_laws.specs.Right.{IsExact, CompletesIfThere, HoldsOpen}
+use Rattle.machine_laws.specs.Right.{CompletesIfThere, HoldsOpen}
 use Rattle.machine_laws.specs.Viewed.{view, Does, TakesExactly, CompletesExactly, WhereLive}
 use Rattle.machine_laws.proofs.RightSteps.{allowed}
 

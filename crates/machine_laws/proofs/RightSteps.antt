@@ -1,10 +1,9 @@
 -- In a right state, a transaction that is allowed is the step of the machine.
-use Rattle.std.proofs.Common.{◌≡◌, ℕ, false, List, [], ◌∷◌, Option, Some, None, option_map, option_and_then, refl, sym}
+use Rattle.std.proofs.Common.{◌≡◌, ℕ, false, List, ◌∷◌, Option, Some, None, option_map, option_and_then, refl, sym}
 use Rattle.std.proofs.Common.{ap, subst, ◌∙◌}
 use Rattle.std.specs.Prelude.{slice_get}
 use Rattle.std.proofs.lemmas.Option.{none-some}
 use Rattle.activity_states.specs.declared.states.Completed.{Completed}
-use Rattle.containers.specs.Settings.{filled}
 use Rattle.core_laws.proofs.Asked.{IsOpen as IsOpenThen}
 use Rattle.core_laws.proofs.Standing.{front_of_root}
 use Rattle.core_laws.proofs.Staying.{awaited, program_is}
@@ -13,7 +12,6 @@ use Rattle.flow_core.specs.Allowing.{IsAllowed, IsOpen}
 use Rattle.flow_core.specs.Answers.{instance_of}
 use Rattle.flow_core.specs.Driving.{templates, item_of, entry_in, IsFront}
 use Rattle.flow_core.specs.declared.state.Core.{Core}
-use Rattle.flow_model.specs.Containers.{fresh}
 use Rattle.flow_model.specs.ScopeContainers.{graph_of}
 use Rattle.flow_model.specs.declared.graphs.Container.{Container}
 use Rattle.flow_model.specs.declared.graphs.Graph.{Graph}
@@ -44,9 +42,9 @@ use Rattle.root_laws.specs.RightRoots.{Queued, root_in, IsRight}
 use Rattle.view_laws.proofs.WholeRuns.{running_is}
 use Rattle.view_laws.specs.LegalRuns.{IsLegal, Awaits}
 use Rattle.view_laws.specs.Messages.{Note}
-use Rattle.view_laws.specs.Queues.{queue, first}
-use Rattle.view_laws.specs.Runs.{Root, Event, Turned, Completed as CompletedOf, is_stopped, running, seen, engine}
-use Rattle.machine_laws.specs.Right.{IsPlaced, IsExact, HoldsOpen, AddsOnly}
+use Rattle.view_laws.specs.Queues.{queue}
+use Rattle.view_laws.specs.Runs.{Root, Event, Turned, Completed as CompletedOf, is_stopped, seen, engine}
+use Rattle.machine_laws.specs.Right.{IsExact, HoldsOpen, AddsOnly}
 use Rattle.machine_laws.specs.Viewed.{entry_of, view, Does, HasGraph, IfThere}
 use Rattle.machine_laws.proofs.Seen.{items}
 use Rattle.machine_laws.proofs.Stepping.{clocks, suspends, resumes, terminates, deletes, imports, starts, claims}

@@ -1,9 +1,9 @@
 -- The item of a path is the machine's.
 use Rattle.std.proofs.Common.{◌≡◌, ℕ, Bool, true, false, ◌&&◌, if◌then◌else◌, List, [], ◌∷◌, map, Option, Some, None}
-use Rattle.std.proofs.Common.{option_map, option_and_then, refl, sym, ap, subst, ◌∙◌}
+use Rattle.std.proofs.Common.{option_map, option_and_then, refl, sym, ap, ◌∙◌}
 use Rattle.std.specs.Prelude.{nat_le, slice_get}
 use Rattle.std.proofs.Math.Path.{fun_ext}
-use Rattle.activity_states.specs.States.{State, fate_of}
+use Rattle.activity_states.specs.States.{fate_of}
 use Rattle.flow_core.specs.Answers.{instance_of}
 use Rattle.flow_core.specs.Driving as d
 use Rattle.flow_core.specs.Driving.{templates}
@@ -17,16 +17,16 @@ use Rattle.flow_model.specs.declared.instances.Part.{Part}
 use Rattle.flow_model.specs.declared.instances.Path.{Path}
 use Rattle.machine.specs.Items as m
 use Rattle.machine.specs.Moves.{graph_under}
-use Rattle.machine.specs.Rows.{Standing, Row, Step, Scopes, inside, attempt_place}
+use Rattle.machine.specs.Rows.{Standing, Step, Scopes, inside, attempt_place}
 use Rattle.machine.specs.States as s
 use Rattle.machine_scopes.specs.Seen.{standing_of, row_of, scope_in, inner_at, scopes_of}
 use Rattle.machine_scopes.proofs.Lists.{map_read, map_none}
 use Rattle.navigator.specs.Items as n
 use Rattle.navigator.specs.Reading.{place_of, inner_of, scope_of}
-use Rattle.navigator.specs.Steps.{Fields, fields}
+use Rattle.navigator.specs.Steps.{fields}
 use Rattle.navigator.specs.declared.instance.Instance.{Instance}
 use Rattle.navigator.specs.declared.scopes.ActivityState.{ActivityState, Program, Nested}
-use Rattle.navigator.specs.declared.scopes.NestedState.{NestedState, out-NestedState}
+use Rattle.navigator.specs.declared.scopes.NestedState.{out-NestedState}
 use Rattle.navigator.specs.declared.scopes.ScopeState.{ScopeState, out-ScopeState}
 use Rattle.machine_laws.specs.Viewed.{root_of, entry_of, view}
 

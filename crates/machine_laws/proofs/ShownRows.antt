@@ -1,12 +1,12 @@
 -- The rows of a view are those of the scopes that show it.
-use Rattle.std.proofs.Common.{◌≡◌, ℕ, zero, suc, ◌+◌, ◌<◌, Bool, true, false, if◌then◌else◌, List, [], ◌∷◌, ◌++◌, map}
-use Rattle.std.proofs.Common.{length, Option, Some, None, option_and_then, flat_map, refl, sym, ap, ap₂, subst, ◌∙◌}
+use Rattle.std.proofs.Common.{◌≡◌, ℕ, zero, suc, ◌+◌, Bool, if◌then◌else◌, List, [], ◌∷◌, ◌++◌, map}
+use Rattle.std.proofs.Common.{length, Option, Some, None, option_and_then, flat_map, refl, sym, ap, ap₂, ◌∙◌}
 use Rattle.std.proofs.Common.{arith}
 use Rattle.std.specs.Prelude.{slice_get}
 use Rattle.std.specs.Option.{option_map_or}
 use Rattle.flow_model.specs.Rows.{below}
 use Rattle.flow_model.specs.ScopeContainers.{graph_in, up_to}
-use Rattle.flow_model.specs.Scopes.{Known, at, part, Start, output, scope_ends, tree_ends, started_at, fate_given}
+use Rattle.flow_model.specs.Scopes.{Known, at, part, Start, output, scope_ends, tree_ends}
 use Rattle.flow_model.specs.declared.graphs.Activity.{Activity}
 use Rattle.flow_model.specs.declared.graphs.Container.{Container}
 use Rattle.flow_model.specs.declared.graphs.Graph.{Graph, out-Graph}
@@ -15,24 +15,24 @@ use Rattle.flow_model.specs.declared.instances.Fate.{Fate}
 use Rattle.flow_model.specs.declared.instances.Fate.TheVariants.{Waiting}
 use Rattle.flow_model.specs.declared.instances.FateRow.{FateRow}
 use Rattle.flow_model.specs.declared.instances.Path.{Path}
-use Rattle.machine.specs.Rows.{Standing, Item, Inner, Row, Step, Scopes, inside}
-use Rattle.machine_laws.specs.Answering as a
-use Rattle.machine_scopes.specs.Seen.{stage_of, standing_of, row_of, inner_at, scopes_of}
+use Rattle.machine.specs.Rows.{Scopes, inside}
+use Rattle.machine.specs.Answers as a
+use Rattle.machine_scopes.specs.Seen.{stage_of, standing_of, row_of, scopes_of}
 use Rattle.machine_scopes.proofs.Inside.{read_inside}
-use Rattle.machine_scopes.proofs.Lists.{map_read, map_none, present, within}
+use Rattle.machine_scopes.proofs.Lists.{map_read, present, within}
 use Rattle.machine_scopes.proofs.Meeting.{attempt_there}
 use Rattle.navigator.proofs.Leading.{has_scopes, started_place}
 use Rattle.navigator.proofs.ReadScopes.{shown_fate}
 use Rattle.navigator.proofs.RowLists.{started_numbered}
-use Rattle.navigator.specs.Reading.{state_fate, fate_in, hold_in, with_hold, attempt_place, scope_of, inner_of}
-use Rattle.navigator.specs.Steps.{Fields, fields}
+use Rattle.navigator.specs.Reading.{state_fate, scope_of, inner_of}
+use Rattle.navigator.specs.Steps.{fields}
 use Rattle.navigator.specs.ViewRows as v
 use Rattle.navigator.specs.Views.{ShowsWithin, Shows, stage_fate}
 use Rattle.navigator.specs.declared.scopes.ActivityState.{ActivityState, Program, Nested}
 use Rattle.navigator.specs.declared.scopes.NestedStage.{NestedStage}
 use Rattle.navigator.specs.declared.scopes.NestedStage.TheVariants as stages
-use Rattle.navigator.specs.declared.scopes.NestedState.{NestedState, out-NestedState}
-use Rattle.navigator.specs.declared.scopes.ScopeState.{ScopeState, out-ScopeState}
+use Rattle.navigator.specs.declared.scopes.NestedState.{out-NestedState}
+use Rattle.navigator.specs.declared.scopes.ScopeState.{ScopeState}
 use Rattle.view_laws.specs.Coming.{started_in}
 
 same_flat : {X Y : Type 0} (f g : X → List Y) (xs : List X) → ((x : X) → f x ≡ g x) → flat_map f xs ≡ flat_map g xs

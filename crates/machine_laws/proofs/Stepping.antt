@@ -1,28 +1,26 @@
 -- What a transaction does to a state is the step of the machine.
-use Rattle.std.proofs.Common.{◌≡◌, ◌≢◌, ℕ, ◌+◌, ◌≤◌, ◌^◌, Bool, true, false, ◌==◌, if◌then◌else◌, List, [], ◌∷◌, ◌++◌}
-use Rattle.std.proofs.Common.{length, Option, Some, None, option_map, option_and_then, refl, sym, ap, ap₂, subst, ◌∙◌}
+use Rattle.std.proofs.Common.{◌≡◌, ◌≢◌, ℕ, Bool, true, false, if◌then◌else◌, List, [], ◌∷◌}
+use Rattle.std.proofs.Common.{length, Option, Some, None, option_map, option_and_then, refl, sym, ap, subst, ◌∙◌}
 use Rattle.std.proofs.Common.{inl, inr, append-nil}
 use Rattle.std.proofs.Math.Path.{fun_ext}
 use Rattle.std.proofs.lemmas.Bool.Decides.{eqb_tells}
 use Rattle.flow_core.specs.Answers.{instance_of}
 use Rattle.flow_core.specs.Driving as d
 use Rattle.flow_core.specs.Driving.{templates, Drives, ChangesRoot, IfLive, BecomesQuietly, IsSuspended, IsTerminated}
-use Rattle.flow_core.specs.Summaries.{Summary, summary, next}
 use Rattle.flow_core.specs.declared.state.Core.{Core}
 use Rattle.flow_model.specs.ScopeContainers.{graph_of}
 use Rattle.flow_model.specs.declared.graphs.Graph.{Graph}
-use Rattle.flow_model.specs.declared.graphs.Library.{Library}
 use Rattle.flow_model.specs.declared.graphs.Template.{Template}
 use Rattle.flow_model.specs.declared.instances.Message.{Message}
 use Rattle.flow_model.specs.declared.transactions.Transaction.{Transaction}
 use Rattle.flow_model.specs.declared.transactions.Transaction.TheVariants.{Import, Start, Turn, Claim, Release}
 use Rattle.flow_model.specs.declared.transactions.Transaction.TheVariants.{Transfer, Take, Done, Force, Restart}
 use Rattle.flow_model.specs.declared.transactions.Transaction.TheVariants.{Suspend, Resume, Terminate, Delete, Clock}
-use Rattle.machine.specs.Imports.{Added, nothing_added, with_added}
+use Rattle.machine.specs.Imports.{Added, nothing_added}
 use Rattle.machine.specs.Queues.{put_in, taken_by, queue_in}
 use Rattle.machine.specs.States.{Root, State, graph_of_root}
 use Rattle.machine.specs.Steps.{After, after, root_about, is_root, given_by, roots_after, queue_then, queues_after}
-use Rattle.machine.specs.Steps.{clock_after, deleted, started, live_by, last_root_by, becomes, quietly}
+use Rattle.machine.specs.Steps.{becomes, quietly}
 use Rattle.navigator.specs.declared.instance.Instance.{Instance}
 use Rattle.recover_queue.specs.Queues.{root_of as root_of_message}
 use Rattle.activity_states.specs.declared.states.Completed.{Completed}
@@ -30,7 +28,6 @@ use Rattle.flow_model.specs.declared.instances.Path.{Path}
 use Rattle.flow_model.specs.declared.names.Name.{Name}
 use Rattle.machine.specs.Moves as m
 use Rattle.machine.specs.Steps.{turned, moved, moved_in, holds, stays}
-use Rattle.machine_scopes.specs.Events.{IsAsMoved}
 use Rattle.machine_scopes.specs.Seen.{scopes_of}
 use Rattle.machine_scopes.specs.Turns.{MeetsMessage, MeetsItem, MeetsHold, as_holding}
 use Rattle.machine_scopes.proofs.Turns.{turns_are_moves, completions_are_moves, holds_are_moves}

@@ -1,9 +1,9 @@
 -- One state, one verdict, one reply.
-use Rattle.std.proofs.Common.{◌≡◌, ℕ, ◌+◌, List, [], ◌∷◌, Option, Some, None, option_map, option_and_then, Result, Ok}
+use Rattle.std.proofs.Common.{◌≡◌, ℕ, ◌+◌, List, [], ◌∷◌, Option, Some, None, option_and_then, Result, Ok}
 use Rattle.std.proofs.Common.{refl, sym, ap, ap₂, subst, ◌∙◌, inl, inr}
 use Rattle.activity_states.specs.States.{next_take}
 use Rattle.containers.specs.Settings.{outcome_by}
-use Rattle.flow_core.specs.Replies.{applied_text, refusal_text}
+use Rattle.flow_core.specs.Replies.{applied_text}
 use Rattle.flow_core.specs.declared.applying.Note.{Note}
 use Rattle.flow_core.specs.declared.judging.Verdict.{Verdict}
 use Rattle.flow_core.specs.declared.judging.Verdict.TheVariants as verdict
@@ -12,12 +12,9 @@ use Rattle.flow_model.specs.Paths.{Spells}
 use Rattle.flow_model.specs.declared.commands.Command.{Command}
 use Rattle.flow_model.specs.declared.commands.Command.TheVariants as asked
 use Rattle.flow_model.specs.declared.commands.Outcome.{Outcome}
-use Rattle.flow_model.specs.declared.commands.RawSetting.{RawSetting}
 use Rattle.flow_model.specs.declared.graphs.Template.{Template}
 use Rattle.flow_model.specs.declared.graphs.Graph.{out-Graph}
-use Rattle.flow_model.specs.declared.instances.Message.{Message}
 use Rattle.flow_model.specs.declared.instances.Path.{Path}
-use Rattle.flow_model.specs.declared.names.Name.{Name}
 use Rattle.flow_model.specs.declared.transactions.Setting.{Setting}
 use Rattle.flow_model.specs.declared.transactions.Transaction.{Transaction}
 use Rattle.flow_model.specs.declared.transactions.Transaction.TheVariants as made
@@ -25,17 +22,17 @@ use Rattle.machine.proofs.One.{step}
 use Rattle.recover_queue.specs.Queues.{queue as messages_of}
 use Rattle.std.specs.Prelude.{slice_get}
 use Rattle.machine.specs.Items.{Entry, program_in}
-use Rattle.machine.specs.Laws.{AddsOne}
+use Rattle.machine.specs.Steps.{AddsOne}
 use Rattle.machine.specs.States.{State, item_of}
-use Rattle.machine.specs.Steps.{Steps}
-use Rattle.machine_laws.specs.Judging.{Subject, subject_by, subject_of, between, newest_of, next_root, first_of}
-use Rattle.machine_laws.specs.Judging.{full_test, tests_on_item, same_root, person_of, person_test, who_test}
-use Rattle.machine_laws.specs.Judging.{outcome_test, claim_test, release_test, transfer_test, taking_test}
-use Rattle.machine_laws.specs.Judging.{completing_test, forcing_test, restart_test, IsNamed, RefusesOnItem}
-use Rattle.machine_laws.specs.Judging.{IsFirstRefusal, IsFront, IsNewestFor, IsSetFor, IsNextTake, IsFor, IsNoteOf}
-use Rattle.machine_laws.specs.Judging.{IsVerdict}
-use Rattle.machine_laws.specs.One.{ReadsOne, CommandAddsOne}
-use Rattle.machine_laws.specs.Script.{Comes, IsObeyed, same_text}
+use Rattle.machine.specs.Verdicts.{Subject, subject_by, subject_of, between, newest_of, next_root, first_of}
+use Rattle.machine.specs.Verdicts.{full_test, tests_on_item, same_root, person_of, person_test, who_test}
+use Rattle.machine.specs.Verdicts.{outcome_test, claim_test, release_test, transfer_test, taking_test}
+use Rattle.machine.specs.Verdicts.{completing_test, forcing_test, restart_test, IsNamed, RefusesOnItem}
+use Rattle.machine.specs.Verdicts.{IsFirstRefusal, IsSetFor, IsFor, IsNoteOf}
+use Rattle.machine.specs.Verdicts.{IsVerdict}
+use Rattle.machine_laws.specs.One.{HasOneJudgement}
+use Rattle.machine.specs.Scripts.{Comes, IsObeyed}
+use Rattle.worklist_laws.proofs.Spelled.{spells_one}
 
 some_one : {X : Type 0} (o : Option X) (x y : X) → o ≡ Some x → o ≡ Some y → x ≡ y
 some_one o x y a b = let e : Some x ≡ Some y = sym a ∙ b in cc
@@ -46,11 +43,11 @@ never o x a b = let e : None ≡ Some x = sym a ∙ b in cc
 ok_one : {X Y : Type 0} (r : Result X Y) (x y : X) → r ≡ Ok x → r ≡ Ok y → x ≡ y
 ok_one r x y a b = let e : Ok x ≡ Ok y = sym a ∙ b in cc
 
-module _ (reads : ReadsOne) (c : State) where
+module _ (c : State) where
   none_some : (token : List ℕ) (s : Subject) → IsNamed c token None → IsNamed c token (Some s) → ⊥
   none_some token s (inl spelled_not) is = spelled_not is.0 is.1
   none_some token s (inr away) is =
-      let same : away.0 ≡ is.0 = reads.paths (between token) away.0 is.0 away.1 is.1 in
+      let same : away.0 ≡ is.0 = spells_one (between token) away.0 is.0 away.1 is.1 in
       never (subject_of c is.0) s (ap (option_and_then
       (λ e. subject_by e (program_in e.activity.work) (c.roots is.0.root))) (ap (item_of c) (sym same) ∙ away.2))
       is.2
@@ -60,45 +57,45 @@ module _ (reads : ReadsOne) (c : State) where
   named_one token None (Some s) a b = absurd (none_some token s a b)
   named_one token (Some s) None a b = absurd (none_some token s b a)
   named_one token (Some s) (Some s') a b =
-      sym a.2 ∙ ap (subject_of c) (reads.paths (between token) a.0 b.0 a.1 b.1) ∙ b.2
+      sym a.2 ∙ ap (subject_of c) (spells_one (between token) a.0 b.0 a.1 b.1) ∙ b.2
 
   on_item_one : (people : Option Refusal) (token : List ℕ) (test : Subject → Option Refusal) (r r' : Option Refusal)
       → RefusesOnItem c people token test r → RefusesOnItem c people token test r' → r ≡ r'
   on_item_one people token test r r' a b =
       a.2 ∙ ap (tests_on_item c people token test) (named_one token a.0 b.0 a.1 b.1) ∙ sym b.2
 
-  pub refusal_one : (command : Command) (r r' : Option Refusal) → IsFirstRefusal c command r
-      → IsFirstRefusal c command r' → r ≡ r'
-  refusal_one (asked.Import text) r r' a b =
-      a.2 ∙ ap (λ rule. first_of (rule ∷ full_test c ∷ [])) (reads.rules c text a.0 b.0 a.1 b.1) ∙ sym b.2
-  refusal_one (asked.Start process starter key written) r r' a b = a ∙ sym b
-  refusal_one (asked.Turn queue) r r' a b = a ∙ sym b
-  refusal_one asked.Drain r r' a b = absurd a
-  refusal_one (asked.Claim token name) r r' a b =
+  pub refusal_one : (command : Command) (r r' : Option Refusal) → HasOneJudgement command
+      → IsFirstRefusal c command r → IsFirstRefusal c command r' → r ≡ r'
+  refusal_one (asked.Import text) r r' judged a b =
+      a.2 ∙ ap (λ rule. first_of (rule ∷ full_test c ∷ [])) (judged.rules c a.0 b.0 a.1 b.1) ∙ sym b.2
+  refusal_one (asked.Start process starter key written) r r' judged a b = a ∙ sym b
+  refusal_one (asked.Turn queue) r r' judged a b = a ∙ sym b
+  refusal_one asked.Drain r r' judged a b = absurd a
+  refusal_one (asked.Claim token name) r r' judged a b =
       on_item_one (person_test c name) token (claim_test (person_of c name)) r r' a b
-  refusal_one (asked.Release token name) r r' a b = on_item_one (person_test c name) token (release_test name) r r' a b
-  refusal_one (asked.Transfer token from to) r r' a b =
+  refusal_one (asked.Release token name) r r' judged a b = on_item_one (person_test c name) token (release_test name) r r' a b
+  refusal_one (asked.Transfer token from to) r r' judged a b =
       on_item_one (first_of (person_test c from ∷ person_test c to ∷ [])) token
       (transfer_test from (person_of c to)) r r' a b
-  refusal_one (asked.Take token) r r' a b = on_item_one None token taking_test r r' a b
-  refusal_one (asked.Done token by outcome) r r' a b =
+  refusal_one (asked.Take token) r r' judged a b = on_item_one None token taking_test r r' a b
+  refusal_one (asked.Done token by outcome) r r' judged a b =
       on_item_one (who_test c by) token (λ s. first_of (completing_test by s ∷ outcome_test outcome s ∷ [])) r r' a b
-  refusal_one (asked.Force token outcome) r r' a b =
+  refusal_one (asked.Force token outcome) r r' judged a b =
       on_item_one None token (λ s. first_of (forcing_test s ∷ outcome_test outcome s ∷ [])) r r' a b
-  refusal_one (asked.Restart token) r r' a b = on_item_one None token restart_test r r' a b
-  refusal_one (asked.Suspend root) r r' a b = a ∙ sym b
-  refusal_one (asked.Resume root) r r' a b = a ∙ sym b
-  refusal_one (asked.Terminate root) r r' a b = a ∙ sym b
-  refusal_one (asked.Delete root) r r' a b = a ∙ sym b
-  refusal_one (asked.Clock number) r r' a b = a ∙ sym b
-  refusal_one asked.Checkpoint r r' a b = absurd a
-  refusal_one (asked.Ask query) r r' a b = absurd a
+  refusal_one (asked.Restart token) r r' judged a b = on_item_one None token restart_test r r' a b
+  refusal_one (asked.Suspend root) r r' judged a b = a ∙ sym b
+  refusal_one (asked.Resume root) r r' judged a b = a ∙ sym b
+  refusal_one (asked.Terminate root) r r' judged a b = a ∙ sym b
+  refusal_one (asked.Delete root) r r' judged a b = a ∙ sym b
+  refusal_one (asked.Clock number) r r' judged a b = a ∙ sym b
+  refusal_one asked.Checkpoint r r' judged a b = absurd a
+  refusal_one (asked.Ask query) r r' judged a b = absurd a
 
   -- ---- the transaction
 
   path_one : (token : List ℕ) (p q : Path) (f : Path → Transaction) (t t' : Transaction) → Spells (between token) p
       → Spells (between token) q → t ≡ f p → t' ≡ f q → t ≡ t'
-  path_one token p q f t t' a b is is' = is ∙ ap f (reads.paths (between token) p q a b) ∙ sym is'
+  path_one token p q f t t' a b is is' = is ∙ ap f (spells_one (between token) p q a b) ∙ sym is'
 
   settings_one : (p q : Path) (outcome : Outcome) (x y : List Setting) → p ≡ q → IsSetFor c p outcome x
       → IsSetFor c q outcome y → x ≡ y
@@ -124,15 +121,15 @@ module _ (reads : ReadsOne) (c : State) where
   for_one (asked.Transfer token who to) t t' a b =
       path_one token a.0 b.0 (λ p. made.Transfer p who to) t t' a.1 b.1 a.2 b.2
   for_one (asked.Take token) t t' a b =
-      let path = reads.paths (between token) a.0 b.0 a.2 b.2 in
+      let path = spells_one (between token) a.0 b.0 a.2 b.2 in
       let item : a.3.item ≡ b.3.item = some_one (item_of c b.0) a.3.item b.3.item (ap (item_of c) (sym path)
       ∙ a.3.there) b.3.there in
       a.4 ∙ ap₂ made.Take path (a.3.next ∙ ap (λ (e : Entry). next_take e.state) item ∙ sym b.3.next) ∙ sym b.4
   for_one (asked.Done token who outcome) t t' a b =
-      let path = reads.paths (between token) a.0 b.0 a.2 b.2 in
+      let path = spells_one (between token) a.0 b.0 a.2 b.2 in
       a.4 ∙ ap₂ (λ p s. made.Done p who s) path (settings_one a.0 b.0 outcome a.1 b.1 path a.3 b.3) ∙ sym b.4
   for_one (asked.Force token outcome) t t' a b =
-      let path = reads.paths (between token) a.0 b.0 a.2 b.2 in
+      let path = spells_one (between token) a.0 b.0 a.2 b.2 in
       a.4 ∙ ap₂ made.Force path (settings_one a.0 b.0 outcome a.1 b.1 path a.3 b.3) ∙ sym b.4
   for_one (asked.Restart token) t t' a b = path_one token a.0 b.0 made.Restart t t' a.1 b.1 a.2 b.2
   for_one (asked.Suspend root) t t' a b = a ∙ sym b
@@ -145,20 +142,21 @@ module _ (reads : ReadsOne) (c : State) where
 
   -- ---- the verdict
 
-  pub verdict_one : (command : Command) (v w : Verdict) → IsVerdict c command v → IsVerdict c command w → v ≡ w
-  verdict_one command (verdict.Do t) (verdict.Do t') a b = ap verdict.Do (for_one command t t' a.2 b.2)
-  verdict_one command (verdict.Do t) (verdict.Same root) a b = absurd (never (same_root c command) root a.0 b)
-  verdict_one command (verdict.Do t) (verdict.Refused r) a b =
-      absurd (let e : None ≡ Some r = refusal_one command None (Some r) a.1 b.1 in cc)
-  verdict_one command (verdict.Same root) (verdict.Do t) a b = absurd (never (same_root c command) root b.0 a)
-  verdict_one command (verdict.Same root) (verdict.Same root') a b =
+  pub verdict_one : (command : Command) (v w : Verdict) → HasOneJudgement command → IsVerdict c command v
+      → IsVerdict c command w → v ≡ w
+  verdict_one command (verdict.Do t) (verdict.Do t') judged a b = ap verdict.Do (for_one command t t' a.2 b.2)
+  verdict_one command (verdict.Do t) (verdict.Same root) judged a b = absurd (never (same_root c command) root a.0 b)
+  verdict_one command (verdict.Do t) (verdict.Refused r) judged a b =
+      absurd (let e : None ≡ Some r = refusal_one command None (Some r) judged a.1 b.1 in cc)
+  verdict_one command (verdict.Same root) (verdict.Do t) judged a b = absurd (never (same_root c command) root b.0 a)
+  verdict_one command (verdict.Same root) (verdict.Same root') judged a b =
       ap verdict.Same (some_one (same_root c command) root root' a b)
-  verdict_one command (verdict.Same root) (verdict.Refused r) a b = absurd (never (same_root c command) root b.0 a)
-  verdict_one command (verdict.Refused r) (verdict.Do t) a b =
-      absurd (let e : None ≡ Some r = refusal_one command None (Some r) b.1 a.1 in cc)
-  verdict_one command (verdict.Refused r) (verdict.Same root) a b = absurd (never (same_root c command) root a.0 b)
-  verdict_one command (verdict.Refused r) (verdict.Refused r') a b =
-      ap verdict.Refused (let e : Some r ≡ Some r' = refusal_one command (Some r) (Some r') a.1 b.1 in cc)
+  verdict_one command (verdict.Same root) (verdict.Refused r) judged a b = absurd (never (same_root c command) root b.0 a)
+  verdict_one command (verdict.Refused r) (verdict.Do t) judged a b =
+      absurd (let e : None ≡ Some r = refusal_one command None (Some r) judged b.1 a.1 in cc)
+  verdict_one command (verdict.Refused r) (verdict.Same root) judged a b = absurd (never (same_root c command) root a.0 b)
+  verdict_one command (verdict.Refused r) (verdict.Refused r') judged a b =
+      ap verdict.Refused (let e : Some r ≡ Some r' = refusal_one command (Some r) (Some r') judged a.1 b.1 in cc)
 
 -- ---- the reply
 
@@ -182,45 +180,46 @@ note_one s s' (made.Clock minutes) n n' a b = a ∙ sym b
 -- ---- what the transaction of a command adds
 
 -- the transaction that a command names adds one thing, where the command does
-for_adds_one : (c : State) (command : Command) (t : Transaction) → CommandAddsOne c.library command
-    → IsFor c command t → AddsOne c.library t
-for_adds_one c (asked.Import text) t means is = subst (λ (x : Transaction). AddsOne c.library x) (sym is) means
-for_adds_one c (asked.Start process starter key written) t means is =
+for_adds_one : (c : State) (command : Command) (t : Transaction) → HasOneJudgement command → IsFor c command t
+    → AddsOne c.library t
+for_adds_one c (asked.Import text) t judged is =
+    subst (λ (x : Transaction). AddsOne c.library x) (sym is) (judged.means c)
+for_adds_one c (asked.Start process starter key written) t judged is =
     subst (λ (x : Transaction). AddsOne c.library x) (sym is.3) tt
-for_adds_one c (asked.Turn queue) t means is = subst (λ (x : Transaction). AddsOne c.library x) (sym is.2) tt
-for_adds_one c asked.Drain t means is = absurd is
-for_adds_one c (asked.Claim token who) t means is = subst (λ (x : Transaction). AddsOne c.library x) (sym is.2) tt
-for_adds_one c (asked.Release token who) t means is = subst (λ (x : Transaction). AddsOne c.library x) (sym is.2) tt
-for_adds_one c (asked.Transfer token who to) t means is =
+for_adds_one c (asked.Turn queue) t judged is = subst (λ (x : Transaction). AddsOne c.library x) (sym is.2) tt
+for_adds_one c asked.Drain t judged is = absurd is
+for_adds_one c (asked.Claim token who) t judged is = subst (λ (x : Transaction). AddsOne c.library x) (sym is.2) tt
+for_adds_one c (asked.Release token who) t judged is = subst (λ (x : Transaction). AddsOne c.library x) (sym is.2) tt
+for_adds_one c (asked.Transfer token who to) t judged is =
     subst (λ (x : Transaction). AddsOne c.library x) (sym is.2) tt
-for_adds_one c (asked.Take token) t means is = subst (λ (x : Transaction). AddsOne c.library x) (sym is.4) tt
-for_adds_one c (asked.Done token who outcome) t means is =
+for_adds_one c (asked.Take token) t judged is = subst (λ (x : Transaction). AddsOne c.library x) (sym is.4) tt
+for_adds_one c (asked.Done token who outcome) t judged is =
     subst (λ (x : Transaction). AddsOne c.library x) (sym is.4) tt
-for_adds_one c (asked.Force token outcome) t means is =
+for_adds_one c (asked.Force token outcome) t judged is =
     subst (λ (x : Transaction). AddsOne c.library x) (sym is.4) tt
-for_adds_one c (asked.Restart token) t means is = subst (λ (x : Transaction). AddsOne c.library x) (sym is.2) tt
-for_adds_one c (asked.Suspend root) t means is = subst (λ (x : Transaction). AddsOne c.library x) (sym is) tt
-for_adds_one c (asked.Resume root) t means is = subst (λ (x : Transaction). AddsOne c.library x) (sym is) tt
-for_adds_one c (asked.Terminate root) t means is = subst (λ (x : Transaction). AddsOne c.library x) (sym is) tt
-for_adds_one c (asked.Delete root) t means is = subst (λ (x : Transaction). AddsOne c.library x) (sym is) tt
-for_adds_one c (asked.Clock minutes) t means is = subst (λ (x : Transaction). AddsOne c.library x) (sym is) tt
-for_adds_one c asked.Checkpoint t means is = absurd is
-for_adds_one c (asked.Ask query) t means is = absurd is
+for_adds_one c (asked.Restart token) t judged is = subst (λ (x : Transaction). AddsOne c.library x) (sym is.2) tt
+for_adds_one c (asked.Suspend root) t judged is = subst (λ (x : Transaction). AddsOne c.library x) (sym is) tt
+for_adds_one c (asked.Resume root) t judged is = subst (λ (x : Transaction). AddsOne c.library x) (sym is) tt
+for_adds_one c (asked.Terminate root) t judged is = subst (λ (x : Transaction). AddsOne c.library x) (sym is) tt
+for_adds_one c (asked.Delete root) t judged is = subst (λ (x : Transaction). AddsOne c.library x) (sym is) tt
+for_adds_one c (asked.Clock minutes) t judged is = subst (λ (x : Transaction). AddsOne c.library x) (sym is) tt
+for_adds_one c asked.Checkpoint t judged is = absurd is
+for_adds_one c (asked.Ask query) t judged is = absurd is
 
 -- ---- the command
 
-module _ (s s' s'' : State) (command : Command) (means : CommandAddsOne s.library command) where
+module _ (s s' s'' : State) (command : Command) (judged : HasOneJudgement command) where
   comes_one : (v : Verdict) (reply reply' : List ℕ) → IsVerdict s command v → Comes s v s' reply
       → Comes s v s'' reply' → (s' ≡ s'') × (reply ≡ reply')
   comes_one (verdict.Do t) reply reply' is a b =
-      let same : s' ≡ s'' = step s s' s'' t (for_adds_one s command t means is.2) a.1 b.1 in
+      let same : s' ≡ s'' = step s s' s'' t (for_adds_one s command t judged is.2) a.1 b.1 in
       let note = note_one s s'' t a.0 b.0 (subst (λ m. IsNoteOf s t m a.0) same a.2) b.2 in
       (same, a.3 ∙ ap (λ n. applied_text (record { number = s.transactions + 1; note = n })) note ∙ sym b.3)
   comes_one (verdict.Same root) reply reply' is a b = (a.0 ∙ sym b.0, a.1 ∙ sym b.1)
   comes_one (verdict.Refused r) reply reply' is a b = (a.0 ∙ sym b.0, a.1 ∙ sym b.1)
 
-  pub commands : ReadsOne → (reply reply' : List ℕ) → IsObeyed s s' command reply → IsObeyed s s'' command reply'
+  pub commands : (reply reply' : List ℕ) → IsObeyed s s' command reply → IsObeyed s s'' command reply'
       → (s' ≡ s'') × (reply ≡ reply')
-  commands reads reply reply' a b =
-      let same = verdict_one reads s command a.0 b.0 a.1 b.1 in
+  commands reply reply' a b =
+      let same = verdict_one s command a.0 b.0 judged a.1 b.1 in
       comes_one b.0 reply reply' b.1 (subst (λ v. Comes s v s' reply) same a.2) b.2

@@ -18,7 +18,7 @@ use Rattle.machine.specs.Steps.{Steps}
 use Rattle.template_check.specs.Judged.{IsFaultless}
 use Rattle.view_laws.specs.Runs.{Event}
 use Rattle.machine_laws.specs.Right.{HoldsOpen}
-use Rattle.machine_laws.specs.Script.{StepsAs}
+use Rattle.machine.specs.Scripts.{StepsAs}
 use Rattle.machine_laws.specs.Viewed.{view}
 
 -- the clauses of `apply` that fix the next state

@@ -1,6 +1,5 @@
 -- Each transaction by itself is the step of the machine, where the state has what the transaction needs.
-use Rattle.std.specs.Prelude.{◌≡◌, ℕ, ◌≤◌, ◌^◌, true, false, Option, Some, None, option_map, List, length}
-use Rattle.activity_states.specs.declared.states.Completed.{Completed}
+use Rattle.std.specs.Prelude.{◌≡◌, ℕ, false, Option, Some, None, option_map, List}
 use Rattle.containers.specs.Settings.{filled}
 use Rattle.flow_core.specs.Answers.{instance_of}
 use Rattle.flow_core.specs.Driving.{templates, item_of, IsNewestVersion, RunsAt}
@@ -8,10 +7,8 @@ use Rattle.flow_core.specs.Shelving.{performer_named}
 use Rattle.flow_model.specs.declared.instances.Who.{Who}
 use Rattle.machine.specs.States as m
 use Rattle.navigator.specs.Items.{Entry}
-use Rattle.navigator.specs.declared.instance.Instance.{Instance}
 use Rattle.flow_core.specs.declared.state.Core.{Core}
 use Rattle.flow_model.specs.Containers.{fresh}
-use Rattle.flow_model.specs.ScopeContainers.{graph_of}
 use Rattle.flow_model.specs.declared.instances.Message.{Message}
 use Rattle.flow_model.specs.declared.instances.Path.{Path}
 use Rattle.flow_model.specs.declared.names.Name.{Name}

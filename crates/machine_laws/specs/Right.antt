@@ -1,6 +1,5 @@
 -- In a right state, a transaction that is allowed is the step of the machine.
-use Rattle.std.specs.Prelude.{◌≡◌, ℕ, ◌≤◌, ◌^◌, Option, Some, None, List, length}
-use Rattle.activity_states.specs.declared.states.Completed.{Completed}
+use Rattle.std.specs.Prelude.{◌≡◌, ℕ, Option, Some, None, List}
 use Rattle.containers.specs.Settings.{filled}
 use Rattle.core_laws.specs.RightStates.{IsRightState}
 use Rattle.flow_core.specs.Allowing.{IsAllowed, IsOpen}
@@ -16,11 +15,9 @@ use Rattle.flow_model.specs.declared.transactions.Setting.{Setting}
 use Rattle.flow_model.specs.declared.transactions.Transaction.{Transaction}
 use Rattle.flow_model.specs.declared.transactions.Transaction.TheVariants.{Import, Start, Turn, Claim, Release}
 use Rattle.flow_model.specs.declared.transactions.Transaction.TheVariants.{Transfer, Take, Done, Force, Restart}
-use Rattle.flow_model.specs.declared.transactions.Transaction.TheVariants.{Suspend, Resume, Terminate, Delete, Clock}
 use Rattle.machine.specs.Imports.{Added, nothing_added}
 use Rattle.machine.specs.Steps.{after}
 use Rattle.navigator.specs.Items.{Entry}
-use Rattle.navigator.specs.declared.instance.Instance.{Instance}
 use Rattle.recover_queue.specs.Queues.{root_of as root_of_message}
 use Rattle.view_laws.specs.Runs.{Event}
 use Rattle.machine_laws.specs.Viewed.{view, Does, TakesExactly, CompletesExactly, WhereLive}

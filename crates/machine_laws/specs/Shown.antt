@@ -5,7 +5,7 @@ use Rattle.flow_model.specs.declared.graphs.Container.{Container}
 use Rattle.flow_model.specs.declared.graphs.Graph.{Graph}
 use Rattle.flow_model.specs.declared.graphs.Template.{Template}
 use Rattle.flow_model.specs.declared.instances.Path.{Path}
-use Rattle.machine_laws.specs.Answering.{rows_within}
+use Rattle.machine.specs.Answers.{rows_within}
 use Rattle.machine_scopes.specs.Seen.{scopes_of}
 use Rattle.navigator.specs.ViewRows.{rows_within as view_rows_within}
 use Rattle.navigator.specs.Views.{ShowsWithin}

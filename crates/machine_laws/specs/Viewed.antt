@@ -1,12 +1,10 @@
 -- The state of the machine that a state of the engine stands for.
-use Rattle.std.specs.Prelude.{◌≡◌, ℕ, true, false, Option, Some, None, option_map, List, [], ◌∷◌, ◌++◌}
+use Rattle.std.specs.Prelude.{◌≡◌, ℕ, false, Option, Some, None, option_map, List, [], ◌∷◌, ◌++◌}
 use Rattle.activity_states.specs.declared.states.Completed.{Completed}
-use Rattle.containers.specs.Settings.{filled}
 use Rattle.flow_core.specs.Answers.{instance_of}
-use Rattle.flow_core.specs.Driving.{templates, item_of, Drives}
+use Rattle.flow_core.specs.Driving.{Drives}
 use Rattle.flow_core.specs.Summaries.{summary, next}
 use Rattle.flow_core.specs.declared.state.Core.{Core}
-use Rattle.flow_model.specs.Containers.{fresh}
 use Rattle.flow_model.specs.ScopeContainers.{graph_of}
 use Rattle.flow_model.specs.declared.graphs.Graph.{Graph}
 use Rattle.flow_model.specs.declared.graphs.Template.{Template}
@@ -20,7 +18,6 @@ use Rattle.machine.specs.Steps.{clock_after}
 use Rattle.machine.specs.Items as m
 use Rattle.machine_scopes.specs.Seen.{scopes_of, row_of}
 use Rattle.navigator.specs.Steps.{fields}
-use Rattle.machine_scopes.specs.Turns.{MeetsMessage, MeetsItem, MeetsHold}
 use Rattle.navigator.specs.Events.{Takes, Happens, Completes}
 use Rattle.navigator.specs.Items.{Entry}
 use Rattle.navigator.specs.declared.instance.Instance.{Instance}

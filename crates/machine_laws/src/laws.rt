@@ -6,7 +6,8 @@ ghost use Rattle.machine_laws.specs.Laws.{TransfersAreSteps, AgentTakesAreSteps,
 ghost use Rattle.machine_laws.specs.Shown.{RowsAreShown};
 ghost use Rattle.machine_laws.specs.Applied.{AppliedAreSteps, AdoptedAreSteps, VerdictsAreGood, AdmittedAreGood};
 ghost use Rattle.machine_laws.specs.Right.{AllowedAreSteps};
-ghost use Rattle.machine_laws.specs.One.{VerdictsAreOne, CommandsAreOne, ScriptsAreOne};
+ghost use Rattle.machine_laws.specs.One.{PathsAreOne, LinesAreOne, VerdictsAreOne, CommandsAreOne, DrainsAreOne};
+ghost use Rattle.machine_laws.specs.One.{WorklistsAreOne, AnswersAreOne, ScriptsAreOne};
 
 /// Law: a Clock is a step of the machine.
 pub fn clocks_are_steps()
@@ -88,17 +89,42 @@ pub fn items_are_seen()
     ensures { ItemsAreSeen }
 {}
 
-/// Law: a command has one verdict in a state, if what is read has one meaning.
+/// Law: a token spells at most one path.
+pub fn paths_are_one()
+    ensures { PathsAreOne }
+{}
+
+/// Law: a line is read in one way.
+pub fn lines_are_one()
+    ensures { LinesAreOne }
+{}
+
+/// Law: a command has one verdict in a state; an IMPORT, if its text is judged in one way.
 pub fn verdicts_are_one()
     ensures { VerdictsAreOne }
 {}
 
-/// Law: a command leads to one state and has one reply, if what is read has one meaning.
+/// Law: a command leads to one state and has one reply; an IMPORT, if its text is judged in one way.
 pub fn commands_are_one()
     ensures { CommandsAreOne }
 {}
 
-/// Law: a script has one list of replies and leads to one state, if what is read has one meaning.
+/// Law: a DRAIN leads to one state and has one reply.
+pub fn drains_are_one()
+    ensures { DrainsAreOne }
+{}
+
+/// Law: a worklist lists its items in one order.
+pub fn worklists_are_one()
+    ensures { WorklistsAreOne }
+{}
+
+/// Law: a query has one reply.
+pub fn answers_are_one()
+    ensures { AnswersAreOne }
+{}
+
+/// Law: a script has one list of replies and leads to one state, if each text that it imports is judged in one way.
 pub fn scripts_are_one()
     ensures { ScriptsAreOne }
 {}

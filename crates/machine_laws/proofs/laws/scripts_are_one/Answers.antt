@@ -2,4 +2,4 @@ use Rattle.machine_laws.proofs.Scripts.{scripts}
 use Rattle.machine_laws.proofs.laws.scripts_are_one.Goals as goal
 
 pub returns : goal.returns
-returns c = λ reads serves inputs x y z rs qs means d e. scripts reads serves inputs x y z rs qs means d e
+returns c = scripts
