@@ -32,8 +32,8 @@ use Rattle.flow_model.specs.declared.instances.Mode.TheVariants.{Active, Suspend
 use Rattle.flow_model.specs.declared.instances.Part.{Part}
 use Rattle.flow_model.specs.declared.instances.Path.{Path}
 use Rattle.item_laws.proofs.Entering.{entry_in as entry_here, inside_of}
-use Rattle.machine_laws.specs.Answering as machine
-use Rattle.machine_laws.specs.Judging as judged
+use Rattle.machine.specs.Answers as machine
+use Rattle.machine.specs.Verdicts as judged
 use Rattle.machine_laws.specs.Viewed.{view, root_of, entry_of}
 use Rattle.machine_laws.proofs.Seen.{items}
 use Rattle.machine_scopes.specs.Seen.{row_of}

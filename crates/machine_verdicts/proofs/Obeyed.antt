@@ -18,7 +18,7 @@ use Rattle.flow_model.specs.declared.transactions.Transaction.TheVariants.{Trans
 use Rattle.flow_model.specs.declared.transactions.Transaction.TheVariants.{Suspend, Resume, Terminate, Delete, Clock}
 use Rattle.machine_laws.specs.Applied.{Applied, Adopted}
 use Rattle.machine_laws.specs.Right.{HoldsOpen}
-use Rattle.machine_laws.specs.Script.{IsObeyed, same_text, StepsAs}
+use Rattle.machine.specs.Scripts.{IsObeyed, same_text, StepsAs}
 use Rattle.machine_laws.specs.Viewed.{view}
 use Rattle.machine_laws.proofs.AdoptedSteps.{adopted_step}
 use Rattle.machine_laws.proofs.AppliedSteps.{applied_step}

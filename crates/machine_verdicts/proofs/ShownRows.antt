@@ -1,14 +1,13 @@
--- The rows that SHOW shows of a right root are the machine's, where its process nests no deeper than the machine looks.
+-- The rows that SHOW shows of a right root are the machine's.
 use Rattle.std.proofs.Common.{◌≡◌, ℕ, zero, suc, ◌+◌, ◌≤◌, List, [], ◌∷◌, Option, Some, None, if◌then◌else◌, flat_map}
-use Rattle.std.proofs.Common.{refl, sym, ap, ◌∙◌, inl, inr, arith, length, option_map}
+use Rattle.std.proofs.Common.{refl, sym, ap, subst, ◌∙◌, arith, length, option_map}
 use Rattle.std.specs.Prelude.{slice_get}
 use Rattle.std.proofs.Math.Path.{fun_ext}
-use Rattle.std.proofs.lemmas.Bool.{cases_lt}
 use Rattle.core_laws.specs.RightStates.{IsRightState, IsRightRoot, input_now}
-use Rattle.flow_core.specs.Answers.{instance_of, view_text, mode_now, AreRowsOf, IsShown}
+use Rattle.flow_core.specs.Answers.{instance_of, AreRowsOf, IsShown}
 use Rattle.flow_core.specs.Driving.{templates}
 use Rattle.flow_core.specs.declared.state.Core.{Core}
-use Rattle.flow_model.specs.Rows.{below, deepest}
+use Rattle.flow_model.specs.Rows.{below}
 use Rattle.flow_model.specs.ScopeContainers.{graph_in, up_to}
 use Rattle.flow_model.specs.Scopes.{part}
 use Rattle.flow_model.specs.declared.graphs.Activity.{Activity}
@@ -17,15 +16,14 @@ use Rattle.flow_model.specs.declared.graphs.Template.{Template}
 use Rattle.flow_model.specs.declared.instances.FateRow.{FateRow}
 use Rattle.flow_model.specs.declared.instances.Path.{Path}
 use Rattle.machine.specs.Rows.{Standing, Item, Inner, Row, Scopes, inside}
-use Rattle.machine_laws.specs.Answering as machine
-use Rattle.machine_laws.specs.Answering.{ShowRows}
+use Rattle.machine.specs.Answers as machine
+use Rattle.machine.specs.Answers.{ShowRows}
 use Rattle.machine_laws.specs.Viewed.{view, root_of}
 use Rattle.machine_laws.proofs.ShownRows.{shown_rows}
 use Rattle.machine_scopes.specs.Seen.{scopes_of}
 use Rattle.navigator.specs.Serving.{Served}
 use Rattle.navigator.specs.declared.instance.Instance.{Instance}
 use Rattle.view_laws.specs.Runs.{Event, seen, running}
-use Rattle.machine_verdicts.specs.Answers.{NestsWithin}
 
 -- ---- more levels show no more rows
 
@@ -67,52 +65,53 @@ module _ (ts : List Template) (rows rows' : ShowRows) (P : Graph → Type 0)
       (λ activity there h runs. is a activity h there runs)))
 
 -- a graph that nests no deeper has the same rows with more levels
-levels : (ts : List Template) (depth n : ℕ) → depth ≤ n → (g : Graph) (s : Scopes) (path : Path) → Served ts depth g
+more_levels : (ts : List Template) (depth n : ℕ) → depth ≤ n → (g : Graph) (s : Scopes) (path : Path) → Served ts depth g
     → machine.rows_within ts (suc n) g s path ≡ machine.rows_within ts (suc depth) g s path
-levels ts zero n le g s path served =
+more_levels ts zero n le g s path served =
     scope_same ts (machine.rows_within ts n) (machine.rows_within ts zero) (λ h. ⊥)
     (λ h t p never. absurd never) g served.inside s path (s [])
-levels ts (suc depth) zero le g s path served = absurd (omega arith)
-levels ts (suc depth) (suc n) le g s path served =
+more_levels ts (suc depth) zero le g s path served = absurd (omega arith)
+more_levels ts (suc depth) (suc n) le g s path served =
     scope_same ts (machine.rows_within ts (suc n)) (machine.rows_within ts (suc depth)) (Served ts depth)
-    (λ h t p inner. levels ts depth n (omega arith) h t p inner) g served.inside s path (s [])
+    (λ h t p inner. more_levels ts depth n (omega arith) h t p inner) g served.inside s path (s [])
 
 -- ---- the reply
 
-module _ (c : Core) (root : ℕ) (h : List Event) (i : Instance) (was : IsRightRoot c root h i)
-    (nests : NestsWithin (templates c) deepest) where
-  -- the rows with as many levels as its process has, and with as many as the machine looks at
-  deep_same : machine.rows_within (templates c) (suc was.right.depth) was.right.graph (scopes_of i.scope)
-      (machine.root_path root)
-      ≡ machine.rows_within (templates c) (suc deepest) was.right.graph (scopes_of i.scope) (machine.root_path root)
-  deep_same = elim (cases_lt was.right.depth deepest) [
-    | inl less ↦
-        sym (levels (templates c) was.right.depth deepest (omega arith) was.right.graph (scopes_of i.scope)
-        (machine.root_path root) was.right.served.served)
-    | inr least ↦
-        levels (templates c) deepest was.right.depth least was.right.graph (scopes_of i.scope)
-        (machine.root_path root) (nests i.template was.right.graph was.right.process)
-  ]
-
+module _ (c : Core) (root : ℕ) (h : List Event) (i : Instance) (was : IsRightRoot c root h i) where
+  -- the rows with as many levels as its process has
   rows_so : (rows : List FateRow) → AreRowsOf c.store.catalog.library i rows
-      → rows ≡ machine.rows_within (templates c) (suc deepest) was.right.graph (scopes_of i.scope)
+      → rows ≡ machine.rows_within (templates c) (suc was.right.depth) was.right.graph (scopes_of i.scope)
       (machine.root_path root)
   rows_so rows are =
       are was.right.graph was.right.process was.right.depth (seen (running h)) (input_now c root) was.right.shows
       ∙ (shown_rows (templates c) (suc was.right.depth) (seen (running h)) was.right.graph (input_now c root) i.scope
       (machine.root_path i.root) was.right.shows
-      ∙ (ap (λ n. machine.rows_within (templates c) (suc was.right.depth) was.right.graph (scopes_of i.scope)
-      (machine.root_path n)) was.number ∙ deep_same))
+      ∙ ap (λ n. machine.rows_within (templates c) (suc was.right.depth) was.right.graph (scopes_of i.scope)
+      (machine.root_path n)) was.number)
+
+  -- those are all
+  all_so : (rows : List FateRow)
+      → rows ≡ machine.rows_within (templates c) (suc was.right.depth) was.right.graph (scopes_of i.scope)
+      (machine.root_path root) → (levels : ℕ) → suc was.right.depth ≤ levels
+      → rows ≡ machine.rows_within (templates c) levels was.right.graph (scopes_of i.scope) (machine.root_path root)
+  all_so rows are zero enough = absurd (omega arith)
+  all_so rows are (suc n) enough =
+      are ∙ sym (more_levels (templates c) was.right.depth n (omega (arith, enough)) was.right.graph
+      (scopes_of i.scope) (machine.root_path root) was.right.served.served)
+
+  view_so : (rows : List FateRow) → AreRowsOf c.store.catalog.library i rows
+      → machine.AreAllRows (templates c) was.right.graph (scopes_of i.scope) (machine.root_path root) rows
+  view_so rows are = record { enough = suc was.right.depth; all = all_so rows (rows_so rows are) }
 
 pub show_seen : (c : Core) (runs : ℕ → List Event) (root : ℕ) (text : List ℕ) → IsRightState c runs
-    → NestsWithin (templates c) deepest → IsShown c.store.catalog.library root (instance_of c root) text
-    → text ≡ machine.show_answer (templates c) root ((view c).roots root)
-show_seen c runs root text right nests is = by (instance_of c root) refl is
+    → IsShown c.store.catalog.library root (instance_of c root) text
+    → machine.ShowSays (templates c) root ((view c).roots root) text
+show_seen c runs root text right is = by (instance_of c root) refl is
   where
     by : (o : Option Instance) → instance_of c root ≡ o → IsShown c.store.catalog.library root o text
-        → text ≡ machine.show_answer (templates c) root (option_map root_of o)
+        → machine.ShowSays (templates c) root (option_map root_of o) text
     by None absent told = told
     by (Some i) live told =
         let was = right.are root i live in
-        told.2 ∙ (ap (view_text root (mode_now i)) (rows_so c root (runs root) i was nests told.0 told.1)
-        ∙ sym (ap (machine.show_by (templates c) root (root_of i)) was.right.process))
+        subst (λ g. machine.ViewSays (templates c) root (root_of i) g text) (sym was.right.process)
+        (told.0, view_so c root (runs root) i was told.0 told.1, told.2)

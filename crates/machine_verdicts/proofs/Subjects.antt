@@ -16,7 +16,7 @@ use Rattle.machine.specs.Items.{program_in}
 use Rattle.machine.specs.Rows.{Standing}
 use Rattle.machine_scopes.specs.Seen.{standing_of}
 use Rattle.machine_scopes.proofs.Lists.{map_read, map_none}
-use Rattle.machine_laws.specs.Judging as machine
+use Rattle.machine.specs.Verdicts as machine
 use Rattle.machine_laws.specs.Viewed.{view, root_of, entry_of}
 use Rattle.machine_laws.proofs.Seen.{items}
 use Rattle.navigator.specs.Items as engine

@@ -27,7 +27,7 @@ use Rattle.flow_model.specs.declared.names.Name.{Name}
 use Rattle.flow_model.specs.declared.transactions.Setting.{Setting}
 use Rattle.flow_model.specs.declared.transactions.Transaction.{Transaction}
 use Rattle.flow_model.specs.declared.transactions.Transaction.TheVariants as made
-use Rattle.machine_laws.specs.Judging as machine
+use Rattle.machine.specs.Verdicts as machine
 use Rattle.machine_laws.specs.Viewed.{view, entry_of}
 use Rattle.machine_laws.proofs.Seen.{items}
 use Rattle.navigator.specs.Items.{Entry}

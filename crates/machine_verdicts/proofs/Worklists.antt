@@ -31,8 +31,8 @@ use Rattle.flow_model.specs.declared.instances.WorkLine.{WorkLine}
 use Rattle.item_laws.proofs.DoneScopes.{done_none}
 use Rattle.item_laws.specs.OpenItems.{is_open_phase, open_of}
 use Rattle.machine.specs.Moves.{graph_under}
-use Rattle.machine_laws.specs.Answering as machine
-use Rattle.machine_laws.specs.Judging as judged
+use Rattle.machine.specs.Answers as machine
+use Rattle.machine.specs.Verdicts as judged
 use Rattle.machine_laws.specs.Viewed.{view, root_of, entry_of}
 use Rattle.machine_laws.proofs.Seen.{items}
 use Rattle.navigator.specs.Instances.{mode_of}

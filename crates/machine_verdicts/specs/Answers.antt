@@ -1,18 +1,12 @@
 -- The reply to a query over the engine's state is its reply over the state of the machine.
-use Rattle.std.specs.Prelude.{◌≡◌, ℕ, Some, List}
+use Rattle.std.specs.Prelude.{ℕ, List}
 use Rattle.core_laws.specs.RightStates.{IsRightState}
-use Rattle.flow_core.specs.Driving.{templates}
 use Rattle.flow_core.specs.Queries as engine
 use Rattle.flow_core.specs.declared.state.Core.{Core}
-use Rattle.flow_model.specs.Rows.{deepest}
-use Rattle.flow_model.specs.ScopeContainers.{graph_of}
 use Rattle.flow_model.specs.declared.commands.Query.{Query}
 use Rattle.flow_model.specs.declared.commands.Query.TheVariants.{Show, Output, Input, Worklist, Queue, Audit, Templates}
-use Rattle.flow_model.specs.declared.graphs.Graph.{Graph}
-use Rattle.flow_model.specs.declared.graphs.Template.{Template}
-use Rattle.machine_laws.specs.Answering as machine
+use Rattle.machine.specs.Answers as machine
 use Rattle.machine_laws.specs.Viewed.{view}
-use Rattle.navigator.specs.Serving.{Served}
 use Rattle.view_laws.specs.Runs.{Event}
 use Rattle.worklist_laws.specs.Shelved.{IsRightAndListed}
 
@@ -46,19 +40,12 @@ InputsAreSeen =
 abbrev pub WorklistsAreSeen : Type 0
 WorklistsAreSeen = (c : Core) (name text : List ℕ) → IsRightAndListed c → IsSeen c (Worklist name) text
 
--- the processes of a library nest no deeper than this number of levels
-abbrev pub NestsWithin : List Template → ℕ → Type 0
-NestsWithin ts depth = (t : ℕ) (g : Graph) → graph_of ts t ≡ Some g → Served ts depth g
-
--- in a right state whose processes nest no deeper than the machine looks it is so of SHOW
+-- and of SHOW
 abbrev pub ShowsAreSeen : Type 0
 ShowsAreSeen =
-    (c : Core) (runs : ℕ → List Event) (root : ℕ) (text : List ℕ) → IsRightState c runs
-    → NestsWithin (templates c) deepest → IsSeen c (Show root) text
+    (c : Core) (runs : ℕ → List Event) (root : ℕ) (text : List ℕ) → IsRightState c runs → IsSeen c (Show root) text
 
--- in a right state whose worklists hold exactly its open manual items, and whose processes nest no deeper than the
--- machine looks, what is replied to each query is the machine's reply
+-- in a right state whose worklists hold exactly its open manual items, what is replied to each query is the machine's
+-- reply
 abbrev pub AnswersAreSeen : Type 0
-AnswersAreSeen =
-    (c : Core) (query : Query) (text : List ℕ) → IsRightAndListed c → NestsWithin (templates c) deepest
-    → IsSeen c query text
+AnswersAreSeen = (c : Core) (query : Query) (text : List ℕ) → IsRightAndListed c → IsSeen c query text

@@ -15,7 +15,7 @@ use Rattle.flow_core.specs.declared.state.Core.{Core}
 use Rattle.flow_model.specs.declared.commands.Command.{Command}
 use Rattle.flow_model.specs.declared.transactions.Transaction.{Transaction}
 use Rattle.machine_laws.specs.Applied.{Applied, Adopted}
-use Rattle.machine_laws.specs.Script.{IsObeyed, same_text, StepsAs}
+use Rattle.machine.specs.Scripts.{IsObeyed, same_text, StepsAs}
 use Rattle.machine_laws.specs.Viewed.{view}
 use Rattle.view_laws.specs.Runs.{Event}
 use Rattle.machine_verdicts.specs.Keyed.{AreKeyed}

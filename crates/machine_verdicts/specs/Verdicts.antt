@@ -8,7 +8,7 @@ use Rattle.flow_core.specs.declared.judging.Verdict.{Verdict}
 use Rattle.flow_core.specs.declared.state.Core.{Core}
 use Rattle.flow_model.specs.declared.commands.Command.{Command}
 use Rattle.flow_model.specs.declared.transactions.Transaction.{Transaction}
-use Rattle.machine_laws.specs.Judging as machine
+use Rattle.machine.specs.Verdicts as machine
 use Rattle.machine_laws.specs.Viewed.{view}
 use Rattle.machine_verdicts.specs.Keyed.{AreKeyed}
 

@@ -71,12 +71,12 @@ pub fn worklists_are_seen()
     ensures { WorklistsAreSeen }
 {}
 
-/// Law: in a right state whose processes nest no deeper than the machine looks it is so of SHOW.
+/// Law: and of SHOW.
 pub fn shows_are_seen()
     ensures { ShowsAreSeen }
 {}
 
-/// Law: in such a state whose worklists hold exactly its open manual items it is so of each query.
+/// Law: in a right state whose worklists hold exactly its open manual items it is so of each query.
 pub fn answers_are_seen()
     ensures { AnswersAreSeen }
 {}
