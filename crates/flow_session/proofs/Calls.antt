@@ -14,7 +14,7 @@ pub after_append : (s : Summary) (ts us : List Transaction) → after s (ts ++ u
 after_append s [] us = refl
 after_append s (t ∷ ts) us = after_append (next t s) ts us
 
--- the first so many of a list are the first so many of a longer one
+-- a front part of a list is a front part of a longer one
 take_front : (n : ℕ) (ts us : List Transaction) → (m : ℕ) × (take m (ts ++ us) ≡ take n ts)
 take_front zero ts us = (0, refl)
 take_front (suc n) [] us = (0, refl)

@@ -6,6 +6,7 @@ pub mod Queued
 pub mod Calls
 pub mod Rights
 pub mod Leading
+pub mod Asked
 pub mod Replaying
 pub mod Runs
 pub mod Turns

@@ -11,7 +11,7 @@ use Rattle.txn_log.specs.Records.{payloads_of}
 use Rattle.txn_log.specs.Stored.{Listed, Ends, Breaks, SlotState, Unmade, Foreign, Damaged, Good, header_fault, header_of, is_field, is_unmade, has_magic, listed, state_of, slot_state}
 use Rattle.txn_log.specs.Stores.{Counts, newer, judged_store, store_of}
 use Rattle.flow_core.specs.Summaries.{Summary, taken_up, all_taken_up}
-use Rattle.flow_session.specs.Histories.{under}
+use Rattle.flow_session.specs.Histories.{StandsFor, payloads, under}
 use Rattle.flow_session.specs.Keeping.{ComesTo}
 
 -- of tests one after the other the second passes where none fails
@@ -86,3 +86,12 @@ opened_has_queue image opened s is comes =
     let h = opened.header in
     let same : s.queues ≡ h.queues = sym (ap (λ (x : Summary). x.queues) comes.comes_to) ∙ taken_queues h.transactions comes.records (under h) in
     subst (λ (n : ℕ). 1 ≤ n) (sym same) (has_queue image opened.log.slot h (payloads_of opened.records) opened.log.end is)
+
+-- what a store stands for has a queue
+pub stands_queue : (image : Image) (s : Summary) → StandsFor s image → 1 ≤ s.queues
+stands_queue image s stands =
+    let h = stands.header in
+    let same : s.queues ≡ h.queues
+    = sym (ap (λ (x : Summary). x.queues) stands.comes_to) ∙ taken_queues h.transactions stands.records (under h) in
+    subst (λ (n : ℕ). 1 ≤ n) (sym same)
+    (has_queue image stands.slot h (payloads stands.records) stands.end stands.counts)

@@ -1,4 +1,4 @@
--- The state of a store that is opened is what its records come to by the steps of the machine.
+-- The state of a store that is opened is the one that its records give by the steps of the machine.
 use Rattle.std.proofs.Common.{◌≡◌, ℕ, ◌≤◌, List, [], ◌∷◌, ◌++◌, true, length}
 use Rattle.std.proofs.Common.{replicate, option_map, refl, sym, ap, subst, ◌∙◌, ◌==◌, eqb-true, arith}
 use Rattle.std.proofs.lemmas.Bool.{and_parts}
@@ -15,7 +15,7 @@ use Rattle.flow_txn.specs.Records.{record_bytes}
 use Rattle.machine.specs.States.{State, blank}
 use Rattle.machine_laws.proofs.AdoptedSteps.{adopted_step}
 use Rattle.machine_laws.proofs.Good.{admitted_good}
-use Rattle.machine_laws.specs.Script.{StepsAs, StateOf}
+use Rattle.machine.specs.Scripts.{StepsAs, StateOf}
 use Rattle.machine_laws.specs.Viewed.{view, root_of}
 use Rattle.machine_verdicts.proofs.Keyed.{adopted_keyed, admitted_free, blank_keyed}
 use Rattle.machine_verdicts.specs.Keyed.{AreKeyed}
@@ -96,7 +96,7 @@ state_more s [] n mid s' all one =
     (s', subst (λ (x : State). StepsAs n.number x n.transaction s') all one, refl)
 state_more s (m ∷ ns) n mid s' all one = (all.0, all.1, state_more all.0 ns n mid s' all.2 one)
 
--- what records with these payloads come to from a right state
+-- the state to which records with these payloads lead from a right state
 record Replayed (c : Core) (bytes : List (List ℕ)) (c' : Core) : Type 0 where
   pub records : List Numbered
   pub spelled : payloads records ≡ bytes

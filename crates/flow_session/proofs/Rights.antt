@@ -25,6 +25,6 @@ pub whatever : {T E P : Type 0} (r : Result T E) → P → OnOk r P
 whatever (Ok x) holds = holds
 whatever (Err e) holds = tt
 
--- a command that comes to a transaction has asked that its item is open
+-- a command that is judged to a transaction has asked that its item is open
 pub asks_open : (c : Core) (command : Command) (v : Verdict) (t : Transaction) → IsVerdict c command v → v ≡ Do t → IsRightAndListed c → AsksOpen c t
 asks_open c command v t verdict is right = verdict_asks c command t (subst (IsVerdict c command) is verdict) right.0.1.indexed

@@ -1,4 +1,4 @@
--- What stands after the first so many inputs of a script.
+-- What stands after the first inputs of a script, and what a whole script makes.
 use Rattle.std.proofs.Common.{◌≡◌, ◌⊎◌, inl, inr, ℕ, ◌+◌, ◌≤◌, ◌<◌, List, [], ◌∷◌, ◌++◌, length, take, refl, sym, ap, subst, ◌∙◌, arith}
 use Rattle.std.proofs.lemmas.List.{length-append, take-append-le}
 use Rattle.std.proofs.Math.Nat.{eq-or-lt_of_le}
@@ -7,12 +7,14 @@ use Rattle.flow_disk.specs.Images.{Image}
 use Rattle.flow_disk.specs.declared.disk.Slot.{Slot}
 use Rattle.flow_core.specs.Summaries.{Summary, summary}
 use Rattle.flow_session.specs.Histories.{StandsFor}
-use Rattle.flow_session.specs.Scripts.{ServesOne, ServesAll, NoInput, OneMore, IsKeptFrom, AnsweredIsKept, ScriptsAreRuns, ScriptsKeepRight}
+use Rattle.flow_session.specs.Scripts.{ServesOne, ServesAll, NoInput, OneMore, IsKeptFrom, AnsweredIsKept, ScriptsAreRuns, ScriptsKeepRight, ScriptsMakeAsked, AskNothing, AskMore}
 use Rattle.flow_session.specs.Inputs.{Given}
 use Rattle.flow_session.specs.declared.serving.Session.{Session}
+use Rattle.flow_session.specs.Asking.{AsksOf}
 use Rattle.flow_session.specs.Leading.{LeadsBy}
-use Rattle.flow_session.proofs.Calls.{makes_nothing}
-use Rattle.flow_session.proofs.Leading.{leads_none, leads_on}
+use Rattle.flow_session.specs.Serving.{Makes}
+use Rattle.flow_session.proofs.Calls.{makes_nothing, makes_more}
+use Rattle.flow_session.proofs.Leading.{leads_none, leads_more, leads_on}
 
 module _ {J : Type 0} (tells : Type 0) (holds : J → Summary → Type 0) (moment : J → ℕ)
     (left_since : J → ℕ → Image → Type 0) (place : J → Slot × ℕ) (moved : J → J → Summary → Type 0) where
@@ -25,6 +27,16 @@ module _ {J : Type 0} (tells : Type 0) (holds : J → Summary → Type 0) (momen
   pub keep_right : ScriptsKeepRight tells holds moment left_since place moved
   keep_right s j _ _ _ _ NoInput right = right
   keep_right s j _ _ _ _ (OneMore {inputs} {replies} {input} {reply} {s'} {s''} {j'} {j''} all one) right = one.right (keep_right s j inputs replies s' j' all right)
+
+  -- the transactions of one input, which asks for them
+  one_asked : (input : Given) (reply : List ℕ) (s s' : Session) (j j' : J)
+      → ServesOne tells holds moment left_since place moved input reply s s' j j'
+      → Makes tells moment left_since j j' (summary s.core) (λ ts. AsksOf s input ts × LeadsBy s.core ts s'.core)
+  one_asked input reply s s' j j' one = record {
+    transactions = one.makes.transactions;
+    any_moment = one.makes.any_moment;
+    ended = (one.asked, one.makes.ended);
+  }
 
   module _ (at_rest : (journal : J) (s : Summary) (c : Image) → tells → holds journal s → left_since journal (moment journal) c → StandsFor s c) where
     -- all of them
@@ -75,3 +87,11 @@ module _ {J : Type 0} (tells : Type 0) (holds : J → Summary → Type 0) (momen
     are_runs s j _ _ _ _ held_now (OneMore {inputs} {replies} {input} {reply} {s'} {s''} {j'} {j''} all one) =
         leads_on tells moment left_since j j' j'' s.core s'.core s''.core
         (are_runs s j inputs replies s' j' held_now all) one.makes
+
+    pub make_asked : ScriptsMakeAsked tells holds moment left_since place moved
+    make_asked s j _ _ _ _ held_now NoInput =
+        makes_nothing tells moment left_since holds at_rest j (summary s.core) _ held_now (AskNothing, leads_none s.core)
+    make_asked s j _ _ _ _ held_now (OneMore {inputs} {replies} {input} {reply} {s'} {s''} {j'} {j''} all one) =
+        makes_more tells moment left_since j j' j'' (summary s.core) (summary s'.core) _ _ _
+        (make_asked s j inputs replies s' j' held_now all) (λ ts so. so.1.came) (one_asked input reply s' s'' j' j'' one)
+        (λ ts us a b. (AskMore input us reply a.0 b.0 one.served, leads_more s.core s'.core s''.core ts us a.1 b.1))

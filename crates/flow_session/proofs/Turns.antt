@@ -18,6 +18,7 @@ use Rattle.flow_core.specs.declared.judging.Verdict.{Verdict}
 use Rattle.flow_core.specs.declared.judging.Verdict.TheVariants.{Do}
 use Rattle.machine_laws.specs.Applied.{Applied}
 use Rattle.worklist_laws.specs.Shelved.{IsRightAndListed}
+use Rattle.flow_session.specs.Asking.{IsTurnOf}
 use Rattle.flow_session.specs.Leading.{LeadsBy}
 use Rattle.flow_session.specs.Draining.{IsNextQueue, TakesFront, TakesInTurn, NoTurn, OneTurn, IsDrained, queues_before, queue_behind, turns_text, full_text}
 
@@ -145,18 +146,19 @@ behind_some count q = go (leb_tells (suc q) count)
 -- the transaction to which a TURN is judged, where it is made, takes the front of its queue
 pub takes_front : {T E : Type 0} (r : Result T E) (old new : Core) (q : ℕ) (v : Verdict) (t : Transaction)
     → IsVerdict old (TurnCommand q) v → v ≡ Do t → OnOk r (Applied old t new) → OnOk r (LeadsBy old (t ∷ []) new)
-    → (IsRightAndListed old → OnOk r (IsRightAndListed new)) → OnOk r (TakesFront old new q)
+    → (IsRightAndListed old → OnOk r (IsRightAndListed new)) → OnOk r (IsTurnOf old new q (t ∷ []))
 takes_front (Ok done) old new q v t verdict is applied leads right =
     let judged = subst (IsVerdict old (TurnCommand q)) is verdict in
     let made = judged.1 in
-    record {
+    let taken : TakesFront old new q = record {
       message = made.0;
       front = made.1;
       room = judged.0;
       applied = subst (λ (u : Transaction). Applied old u new) made.2 applied;
       leads = subst (λ (u : Transaction). LeadsBy old (u ∷ []) new) made.2 leads;
       right = right;
-    }
+    } in
+    (taken, ap (λ u. u ∷ []) made.2)
 takes_front (Err e) old new q v t verdict is applied leads right = tt
 
 -- a turn leaves one less up to the limit

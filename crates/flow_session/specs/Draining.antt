@@ -1,29 +1,21 @@
 -- A DRAIN: messages are taken one after another, from the queues in turn.
-use Rattle.std.specs.Prelude.{◌≡◌, ℕ, ◌+◌, ◌-◌, ◌^◌, ◌<◌, ◌≤◌, nat_le, nat_lt, min, true, false, if◌then◌else◌, List, [], ◌∷◌, ◌++◌, length, codes}
-use Rattle.std.specs.Fmt.{decimal}
+use Rattle.std.specs.Prelude.{◌≡◌, ℕ, ◌+◌, ◌-◌, ◌^◌, ◌<◌, ◌≤◌, min, true, false, if◌then◌else◌, List, [], ◌∷◌, length}
 use Rattle.recover_queue.specs.Queues.{is_quiet}
 use Rattle.flow_model.specs.declared.instances.Message.{Message}
 use Rattle.flow_model.specs.declared.transactions.Transaction.TheVariants.{Turn}
 use Rattle.flow_core.specs.Answers.{has_message}
 use Rattle.flow_core.specs.Verdicts.{IsFront}
 use Rattle.flow_core.specs.declared.state.Core.{Core}
+pub use Rattle.machine.specs.Scripts.{queues_before, queue_behind, turns_text, full_text}
 use Rattle.machine_laws.specs.Applied.{Applied}
 use Rattle.worklist_laws.specs.Shelved.{IsRightAndListed}
 use Rattle.flow_session.specs.Leading.{LeadsBy}
-
--- how many queues come before this one, in turn from another one on
-abbrev pub queues_before : ℕ → ℕ → ℕ → ℕ
-queues_before count from queue = if nat_le from queue then queue - from else queue + count - from
 
 -- of the queues that have a message, it is the first in turn from another one on
 pub record IsNextQueue (c : Core) (from queue : ℕ) : Type 0 where
   pub has : has_message c queue ≡ true
   pub first : (other : ℕ) → has_message c other ≡ true
       → queues_before (length c.queues) from queue ≤ queues_before (length c.queues) from other
-
--- the queue behind it, in turn
-abbrev pub queue_behind : ℕ → ℕ → ℕ
-queue_behind count queue = if nat_lt queue count then queue + 1 else 1
 
 -- below the limit, the message at the front of a queue is taken, as a TURN: it leads from the state before it to the one
 -- after it, and a right state whose worklists hold exactly its open manual items stays one
@@ -35,18 +27,11 @@ pub record TakesFront (old new : Core) (queue : ℕ) : Type 0 where
   pub leads : LeadsBy old (Turn queue message ∷ []) new
   pub right : IsRightAndListed old → IsRightAndListed new
 
--- so many messages are taken, one after another; then the turn is at this queue
+-- this number of messages is taken, one after another; then the turn is at this queue
 pub data TakesInTurn (c : Core) : ℕ → ℕ → Core → Type 0 where
   NoTurn : TakesInTurn c 0 1 c
   OneTurn : {n from queue : ℕ} {c' c'' : Core} → TakesInTurn c n from c' → IsNextQueue c' from queue
       → TakesFront c' c'' queue → TakesInTurn c (n + 1) (queue_behind (length c'.queues) queue) c''
-
--- the reply of a DRAIN that took so many messages: all, or until the limit was met
-abbrev pub turns_text : ℕ → List ℕ
-turns_text turns = codes "ok TURNS " ++ decimal turns ++ 10 ∷ []
-
-abbrev pub full_text : ℕ → ℕ → List ℕ
-full_text limit turns = codes "no FULL " ++ decimal limit ++ codes " TURNS " ++ decimal turns ++ 10 ∷ []
 
 -- messages are taken in turn until no queue has one, or the limit is met; the reply says which, and how many were taken
 pub record IsDrained (old new : Core) (reply : List ℕ) : Type 0 where

@@ -36,7 +36,7 @@ pub record IsLive (s : Summary) (n : Numbered) : Type 0 where
   pub no_delete : deleted n.transaction ≡ None
   pub root : roots_after n.transaction s.roots ≡ s.roots
 
--- the slot that counts has records that come to this summary
+-- the slot that counts has records that give this summary
 pub record StandsFor (s : Summary) (image : Image) : Type 0 where
   pub slot : Slot
   pub header : Header
@@ -52,6 +52,6 @@ abbrev pub after : Summary → List Transaction → Summary
 after s [] = s
 after s (t ∷ ts) = after (next t s) ts
 
--- an image stands for the summary after some of these transactions, from the first on
+-- an image stands for the summary after a front part of these transactions
 abbrev pub StandsAfterSome : Summary → List Transaction → Image → Type 0
 StandsAfterSome s ts image = (n : ℕ) × StandsFor (after s (take n ts)) image

@@ -1,13 +1,13 @@
 -- What one input of a session does: to the state, to the text of an IMPORT that isn't ended yet, and what is replied.
-use Rattle.std.specs.Prelude.{◌≡◌, ℕ, ◌<◌, ◌≤◌, nat_le, Bool, true, false, ◌||◌, if◌then◌else◌, Option, Some, None, option_map, List, [], ◌∷◌, ◌++◌, length, codes, bytes_eq}
-use Rattle.std.specs.Fmt.{decimal}
-use Rattle.command_lang.specs.Reading.{AreLineTokens, SaysCommand, IsOnlyCommand, IsRefusal, RefusesFirst}
-use Rattle.command_lang.specs.Refusing.{SomeCommand}
-use Rattle.command_lang.specs.declared.reading.CommandFault.TheVariants.{Word}
+use Rattle.std.specs.Prelude.{◌≡◌, ℕ, ◌<◌, ◌≤◌, Bool, true, false, if◌then◌else◌, Option, Some, None, option_map, List, []}
+use Rattle.std.specs.Prelude.{length}
+use Rattle.command_lang.specs.Reading.{AreLineTokens}
 use Rattle.flow_model.specs.declared.commands.Command.{Command}
 use Rattle.flow_model.specs.declared.commands.Command.TheVariants.{Import, Drain, Checkpoint, Ask}
 use Rattle.flow_core.specs.Queries.{IsAnswer}
 use Rattle.flow_core.specs.declared.state.Core.{Core}
+pub use Rattle.machine.specs.Scripts.{Unended, no_lines, is_end, with_line, Given, Line, Long, End, Says, IsWrongAt}
+pub use Rattle.machine.specs.Scripts.{long_text, unended_text, word_text}
 use Rattle.flow_session.specs.Draining.{IsDrained}
 use Rattle.flow_session.specs.Replying.{IsObeyed, checkpoint_text}
 use Rattle.flow_session.specs.declared.serving.Gathered.{Gathered}
@@ -17,37 +17,16 @@ use Rattle.flow_session.specs.declared.serving.Session.{Session}
 
 -- ---- the text of an IMPORT
 
--- the text so far of an IMPORT that isn't ended yet, and whether one of its lines was too long
-pub record Unended : Type 0 where
-  pub text : List ℕ
-  pub has_long : Bool
-
+-- the text so far of an IMPORT that isn't ended yet
 abbrev pub unended_in : Gathered → Unended
 unended_in g = record { text = g.text.items; has_long = g.has_long }
 
 abbrev pub unended : Session → Option Unended
 unended session = option_map unended_in session.gathered
 
--- a text of which no line has come
-abbrev pub no_lines : Unended
-no_lines = record { text = []; has_long = false }
-
--- a line that ends a text: `.`, or `.` and a carriage return
-abbrev pub is_end : List ℕ → Bool
-is_end line = bytes_eq line (codes ".") || bytes_eq line (46 ∷ 13 ∷ [])
-
--- a text with one more line, as far as it is judged
-abbrev pub with_line : List ℕ → List ℕ → List ℕ
-with_line text line = if nat_le (length text) 1048576 then text ++ line ++ 10 ∷ [] else text
-
 -- ---- what an input does
 
--- an input: a line, or one that is too long, or the end
-pub data Given : Type 0 where
-  Line : (line : List ℕ) → Given
-  Long : Given
-  End : Given
-
+-- an input as it is given
 abbrev pub given : Input → Given
 given (Text line) = Line line.now
 given TooLong = Long
@@ -66,25 +45,6 @@ IsCommanded old new Drain after reply = IsDrained old new reply × (after ≡ No
 IsCommanded old new Checkpoint after reply = Answers old new None after (checkpoint_text (length old.live.items)) reply
 IsCommanded old new (Ask query) after reply = (new ≡ old) × (after ≡ None) × IsAnswer old query reply
 IsCommanded old new command after reply = IsObeyed old new command reply × (after ≡ None)
-
--- the line says this command, and no other
-abbrev pub Says : List ℕ → Command → Type 0
-Says line command = SaysCommand line (Some command) × IsOnlyCommand line (Some command)
-
--- the line says no command, and this is the place: of its first wrong byte, or of the first token that can't stand there
-pub record IsWrongAt (line : List ℕ) (place : ℕ) : Type 0 where
-  pub refused : IsRefusal line (Word place)
-  pub none : IsOnlyCommand line None
-  pub first : RefusesFirst SomeCommand line (Word place)
-
-abbrev pub long_text : List ℕ
-long_text = codes "no LINE\n"
-
-abbrev pub unended_text : List ℕ
-unended_text = codes "no UNENDED\n"
-
-abbrev pub word_text : ℕ → List ℕ
-word_text place = codes "no WORD " ++ decimal place ++ 10 ∷ []
 
 -- a line outside an IMPORT: it is too long, or it isn't and is blank, or says a command, or can't be read
 pub data ServesLine (line : List ℕ) (old new : Core) (after : Option Unended) (reply : List ℕ) : Type 0 where
@@ -134,6 +94,6 @@ SaysCheckpoint (Line line) = (length line ≤ 65536) × Says line Checkpoint
 SaysCheckpoint Long = ⊥
 SaysCheckpoint End = ⊥
 
--- so it is, and no IMPORT is open, of whose text it would be a line
+-- an input that asks for a CHECKPOINT: no IMPORT is open, of whose text the line would be a part
 abbrev pub AsksCheckpoint : Session → Given → Type 0
 AsksCheckpoint session input = (unended session ≡ None) × SaysCheckpoint input

@@ -1,4 +1,4 @@
--- What a journal on a disk is while it is open, and how its records come to a summary.
+-- What a journal on a disk is while it is open, and which summary its records give.
 use Rattle.std.specs.Prelude.{◌≡◌, ℕ, ◌≤◌, false, List}
 use Rattle.std.proofs.Common.{subst, sym}
 use Rattle.std.specs.List.{All}
@@ -26,7 +26,7 @@ pub rests : {D : Type 0} (seen : D → Image) (images : D → Image → Type 0) 
     (c : Image) → IsOpen seen images log disk s → images disk c → StandsFor s c
 rests seen images log disk s c is now = subst (StandsFor s) (sym (is.only c now)) is.holds
 
--- records with these payloads, taken up under a header, come to a summary
+-- taken up under a header, records with these payloads give a summary
 pub record Brings (h : Header) (bytes : List (List ℕ)) (s : Summary) : Type 0 where
   pub records : List Numbered
   pub spelled : payloads records ≡ bytes
@@ -34,6 +34,6 @@ pub record Brings (h : Header) (bytes : List (List ℕ)) (s : Summary) : Type 0 
   pub later : h.transactions ≤ s.transactions
   pub live : All (IsLive s) s.live
 
--- the records of an opened store come to this summary
+-- the records of an opened store give this summary
 abbrev pub ComesTo : Opened → Summary → Type 0
 ComesTo opened s = Brings opened.header (payloads_of opened.records) s

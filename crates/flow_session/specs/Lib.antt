@@ -10,4 +10,5 @@ pub mod Replaying
 pub mod Replying
 pub mod Draining
 pub mod Inputs
+pub mod Asking
 pub mod Scripts

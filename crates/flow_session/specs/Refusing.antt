@@ -66,7 +66,7 @@ pub record BreaksAt (h : Header) (payloads : List (List ℕ)) (place : ℕ) : Ty
   pub leads : LeadsTo h front state
   pub unfit : IsUnfit state payload
 
--- the slot that counts has such a record
+-- the slot that counts has a record that breaks it at this place
 pub record IsBroken (slot : Slot) (place : ℕ) (image : Image) : Type 0 where
   pub header : Header
   pub payloads : List (List ℕ)

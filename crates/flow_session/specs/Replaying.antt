@@ -5,7 +5,7 @@ use Rattle.flow_disk.specs.Images.{Image}
 use Rattle.flow_disk.specs.declared.disk.Slot.{Slot}
 use Rattle.flow_model.specs.declared.transactions.Numbered.{Numbered}
 use Rattle.machine.specs.States.{State, blank}
-use Rattle.machine_laws.specs.Script.{StateOf}
+use Rattle.machine.specs.Scripts.{StateOf}
 use Rattle.machine_laws.specs.Viewed.{view}
 use Rattle.machine_verdicts.specs.Keyed.{AreKeyed}
 use Rattle.txn_log.specs.Stores.{Counts, store_of}

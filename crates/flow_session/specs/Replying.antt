@@ -1,6 +1,5 @@
 -- What is replied to a command, and what becomes of the state.
-use Rattle.std.specs.Prelude.{◌≡◌, ◌⊎◌, ℕ, ◌+◌, List, [], ◌∷◌, ◌++◌, codes}
-use Rattle.std.specs.Fmt.{decimal}
+use Rattle.std.specs.Prelude.{◌≡◌, ◌⊎◌, ℕ, ◌+◌, List}
 use Rattle.flow_model.specs.declared.commands.Command.{Command}
 use Rattle.flow_model.specs.declared.transactions.Transaction.{Transaction}
 use Rattle.flow_core.specs.declared.applying.Note.{Note}
@@ -10,6 +9,7 @@ use Rattle.flow_core.specs.declared.state.Core.{Core}
 use Rattle.flow_core.specs.Judgements.{IsVerdict}
 use Rattle.flow_core.specs.Replies.{applied_text, refusal_text}
 use Rattle.flow_core.specs.Verdicts.{IsNoteOf}
+pub use Rattle.machine.specs.Scripts.{same_text, checkpoint_text}
 use Rattle.machine_laws.specs.Applied.{Applied}
 
 -- a command makes the transaction to which it is judged: it is applied to the state, and the reply has its number and
@@ -22,10 +22,6 @@ pub record IsMade (old new : Core) (command : Command) (reply : List ℕ) : Type
   pub noted : IsNoteOf old transaction new note
   pub told : reply ≡ applied_text (record { number = old.number + 1; note = note })
 
--- the reply of a START with the key of a live root
-abbrev pub same_text : ℕ → List ℕ
-same_text root = codes "ok SAME " ++ decimal root ++ 10 ∷ []
-
 -- it is judged to be refused, or to be the START of a live root, and the reply says so
 abbrev pub IsUnmade : Core → Command → List ℕ → Type 0
 IsUnmade c command reply =
@@ -35,7 +31,3 @@ IsUnmade c command reply =
 -- a command makes its transaction, or nothing changes
 abbrev pub IsObeyed : Core → Core → Command → List ℕ → Type 0
 IsObeyed old new command reply = IsMade old new command reply ⊎ ((new ≡ old) × IsUnmade old command reply)
-
--- the reply of a CHECKPOINT that keeps so many transactions
-abbrev pub checkpoint_text : ℕ → List ℕ
-checkpoint_text count = codes "ok CHECKPOINT " ++ decimal count ++ 10 ∷ []

@@ -11,7 +11,7 @@ abbrev pub KeepsStore : {D : Type 0} → (D → ℕ) → (D → ℕ → Image �
 KeepsStore moment left_since seen old new = LeavesOnly moment left_since old new (λ image. image ≡ seen old)
 
 -- The store stood for a summary, and the run makes transactions: a crash at any moment leaves a store that stands for
--- the summary after some of them, from the first on; where the run is done, every image stands for the one after all.
+-- the summary after a front part of them; where the run is done, every image stands for the summary after all of them.
 pub record ServesStore {D : Type 0} (tells : Type 0) (moment : D → ℕ) (left_since : D → ℕ → Image → Type 0)
     (seen : D → Image) (images : D → Image → Type 0) (old new : D) (IsDone : Type 0) : Type 0 where
   pub before : Summary

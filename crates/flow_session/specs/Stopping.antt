@@ -15,7 +15,7 @@ IsStopCause before now NoMemory = now ≡ before
 
 -- ---- opening a store
 
--- so it is where a store isn't opened: for any other cause the count stayed
+-- the same where a store isn't opened: for any other cause the count stayed
 abbrev pub IsOpenCause : ℕ → ℕ → LogStop → Type 0
 IsOpenCause before now log.StoreFault = Rose before now
 IsOpenCause before now stop = now ≡ before

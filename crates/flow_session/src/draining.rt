@@ -3,9 +3,11 @@ ghost use Rattle.std.specs.Prelude.{◌≡◌, ℕ, ◌<◌, ◌≤◌, true, fa
 ghost use Rattle.worklist_laws.specs.Shelved.{IsRightAndListed};
 ghost use Rattle.recover_queue.specs.Queues.{is_quiet};
 ghost use Rattle.flow_core.specs.Answers.{has_message};
+ghost use Rattle.flow_model.specs.declared.commands.Command.TheVariants.{Drain as DrainOf, Turn as TurnOf};
 ghost use Rattle.flow_core.specs.Summaries.{summary};
-ghost use Rattle.flow_session.specs.Draining.{IsNextQueue, TakesFront, IsDrained, queue_behind, turns_text, full_text};
-ghost use Rattle.flow_session.specs.Leading.{MakesSteps};
+ghost use Rattle.flow_session.specs.Asking.{Asks, IsTurnOf};
+ghost use Rattle.flow_session.specs.Draining.{IsNextQueue, IsDrained, queue_behind, turns_text, full_text};
+ghost use Rattle.flow_session.specs.Leading.{MakesAsked};
 ghost use Rattle.flow_session.specs.Stopping.{IsStopCause};
 ghost use Rattle.flow_session.specs.declared.serving.Stop.TheVariants.{NoMemory};
 
@@ -73,11 +75,11 @@ impl Session {
         ensures cause { MatchResult result (λ _. J.faults journal.new ≡ J.faults journal.old)
             (IsStopCause (J.faults journal.old) (J.faults journal.new)) }
         ensures place { J.place journal.new ≡ J.place journal.old }
-        ensures makes { MakesSteps J.tells J.moment J.left_since journal.old journal.new
-            self.old.core self.new.core result }
+        ensures makes { MakesAsked J.tells J.holds J.moment J.left_since journal.old journal.new
+            self.old.core self.new.core (λ ts. Asks self.old.core (TurnOf queue) ts
+            × OnOk result (IsTurnOf self.old.core self.new.core queue ts)) result }
         ensures right { IsRightAndListed self.old.core → OnOk result (IsRightAndListed self.new.core) }
         ensures gathers { OnOk result (self.new.gathered ≡ self.old.gathered) }
-        ensures turned { OnOk result (TakesFront self.old.core self.new.core queue) }
     {
         match self.core.judge(&Command::Turn(queue)) {
             Ok(Verdict::Do(t)) => {
@@ -90,7 +92,7 @@ impl Session {
         }
     }
 
-    /// The reply of a DRAIN that made so many turns.
+    /// The reply of a DRAIN that made this number of turns.
     fn drained(&self, turns: u64) -> Result<Vec<u8>, Stop>
         ensures said { IfOk result (λ reply. reply.items ≡ (if is_quiet self.now.core.queues
             then turns_text turns else full_text self.now.core.limit turns)) }
@@ -114,8 +116,8 @@ impl Session {
         ensures cause { MatchResult result (λ _. J.faults journal.new ≡ J.faults journal.old)
             (IsStopCause (J.faults journal.old) (J.faults journal.new)) }
         ensures place { J.place journal.new ≡ J.place journal.old }
-        ensures makes { MakesSteps J.tells J.moment J.left_since journal.old journal.new
-            self.old.core self.new.core result }
+        ensures makes { MakesAsked J.tells J.holds J.moment J.left_since journal.old journal.new
+            self.old.core self.new.core (Asks self.old.core DrainOf) result }
         ensures right { IsRightAndListed self.old.core → OnOk result (IsRightAndListed self.new.core) }
         ensures gathers { OnOk result (self.new.gathered ≡ self.old.gathered) }
         ensures replied { IfOk result (λ reply. IsDrained self.old.core self.new.core reply.items) }

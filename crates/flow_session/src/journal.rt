@@ -1,5 +1,5 @@
 //! Where transactions are kept.
-ghost use Rattle.std.specs.Prelude.{◌≡◌, ℕ, ◌+◌, IfOk, IfErr, OnOk, MatchResult};
+ghost use Rattle.std.specs.Prelude.{◌≡◌, ℕ, ◌+◌, ◌≤◌, IfOk, IfErr, OnOk, MatchResult};
 ghost use Rattle.flow_disk.specs.Images.{Image};
 ghost use Rattle.flow_disk.specs.declared.disk.Slot.{Slot};
 ghost use Rattle.flow_disk.specs.declared.disk.Slot.TheVariants.{A};
@@ -59,6 +59,7 @@ pub trait Journal {
             → payload.now ≡ record_bytes (s.transactions + 1) t
             → LeavesOnly moment left_since self.old self.new (WithOrWithout t s) }
         ensures place { place self.new ≡ place self.old }
+        ensures undone { IfErr result (λ stop. stop ≡ NoMemory → self.new ≡ self.old) }
         ensures cause { MatchResult result (λ _. faults self.new ≡ faults self.old)
             (IsStopCause (faults self.old) (faults self.new)) };
 
@@ -70,11 +71,15 @@ pub trait Journal {
         ensures kept { tells → OnOk result (holds self.new (summary core.now)) }
         ensures moved { OnOk result (moved self.old self.new (summary core.now)) }
         ensures any_moment { tells → LeavesOnly moment left_since self.old self.new (StandsFor (summary core.now)) }
+        ensures undone { IfErr result (λ stop. stop ≡ NoMemory → self.new ≡ self.old) }
         ensures cause { MatchResult result (λ _. faults self.new ≡ faults self.old)
             (IsStopCause (faults self.old) (faults self.new)) };
 
     /// At one moment a crash leaves what it may leave then.
     ghost at_rest: { (journal : Self) (s : Summary) (c : Image) → tells → holds journal s → left_since journal (moment journal) c → StandsFor s c };
+
+    /// This moment is one of those since an earlier one.
+    ghost counts_now: { (journal : Self) (t : ℕ) (c : Image) → t ≤ moment journal → left_since journal (moment journal) c → left_since journal t c };
 }
 
 /// Keeps nothing: a history in memory.
@@ -106,6 +111,8 @@ impl Journal for NoJournal {
     ghost moved = { λ _ _ _. Unit {0} };
 
     ghost at_rest = { λ _ _ _ none. absurd none };
+
+    ghost counts_now = { λ _ _ _ _ none. none };
 
     fn payload(&self, _number: u64, _t: &Transaction) -> Result<Vec<u8>, Stop> {
         Ok(Vec::new(self.alloc))

@@ -1,13 +1,14 @@
-//! Laws of a script: what is answered is kept, the state stays right, and what is made is a run of the machine.
+//! Laws of a script: what is answered is kept, the state stays right, and what is made is a run of the machine and was
+//! asked for.
 //!
 //! Each function here takes nothing and does nothing; its `ensures` is a statement about the definitions,
 //! which is proved.
-ghost use Rattle.flow_session.specs.Scripts.{AnsweredIsKept, ScriptsAreRuns, ScriptsKeepRight};
+ghost use Rattle.flow_session.specs.Scripts.{AnsweredIsKept, ScriptsAreRuns, ScriptsKeepRight, ScriptsMakeAsked};
 
 use crate::journal::Journal;
 
-/// After any number of replies of a script, whatever a crash leaves stands for the state after their inputs,
-/// with some of the transactions that come later, from the first on.
+/// After any number of replies of a script, whatever a crash leaves stands for the state after their inputs and a
+/// front part of the transactions that are made later.
 pub fn answered_is_kept<J: Journal>()
     ensures { AnsweredIsKept J.tells J.holds J.moment J.left_since J.place J.moved }
 {}
@@ -18,7 +19,12 @@ pub fn scripts_keep_right<J: Journal>()
 {}
 
 /// A script makes one list of transactions: from a right state they are a run of the machine from its first state to
-/// its last one, and a crash at any moment leaves the history with some of them, from the first on.
+/// its last one, and a crash at any moment leaves the history with a front part of them.
 pub fn scripts_are_runs<J: Journal>()
     ensures { ScriptsAreRuns J.tells J.holds J.moment J.left_since J.place J.moved }
+{}
+
+/// A script makes only the transactions for which its inputs ask, one input after the other.
+pub fn scripts_make_what_is_asked<J: Journal>()
+    ensures { ScriptsMakeAsked J.tells J.holds J.moment J.left_since J.place J.moved }
 {}

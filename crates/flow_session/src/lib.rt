@@ -12,7 +12,9 @@ mod serving;
 mod store;
 
 pub use journal::{Journal, NoJournal};
-pub use laws::{answered_is_kept, scripts_are_runs, scripts_keep_right};
+pub use laws::{
+    answered_is_kept, scripts_are_runs, scripts_keep_right, scripts_make_what_is_asked,
+};
 pub use opening::{open, reopen};
 pub use serving::{Input, Session, Stop};
 pub use store::Stored;

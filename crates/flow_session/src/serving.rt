@@ -17,7 +17,8 @@ ghost use Rattle.machine_laws.specs.Applied.{Applied};
 ghost use Rattle.machine_laws.specs.Viewed.{view};
 ghost use Rattle.flow_session.specs.Inputs.{given, Line, SaysCheckpoint, AsksCheckpoint, unended_in, no_lines, is_end, with_line, unended, long_text, Answers, IsCommanded, ServesLine, ServesText, ServesInside, IsServed};
 ghost use Rattle.flow_session.specs.Replying.{IsObeyed, checkpoint_text};
-ghost use Rattle.flow_session.specs.Leading.{MakesSteps};
+ghost use Rattle.flow_session.specs.Asking.{Asks, AsksSaid, AsksOutside, AsksText, AsksInside, AsksOf};
+ghost use Rattle.flow_session.specs.Leading.{MakesAsked};
 ghost use Rattle.flow_session.specs.Serving.{WithOrWithout};
 ghost use Rattle.flow_session.specs.Stopping.{IsStopCause};
 ghost use Rattle.flow_session.specs.declared.serving.Stop.TheVariants.{NoMemory};
@@ -30,10 +31,10 @@ use flow_text::decimal;
 use std::alloc::{AllocError, AllocFailed, Global};
 use thiserror::Error;
 
-/// A text is judged up to so many bytes; a longer one breaks the same rule, however it goes on.
+/// The greatest number of bytes of a text that is judged; a longer one breaks the same rule, however it goes on.
 const MOST_TEXT: usize = 1_048_576;
 
-/// A line has at most so many bytes.
+/// The greatest number of bytes in a line.
 const MOST_LINE: usize = 65_536;
 
 /// One input of a session.
@@ -196,6 +197,7 @@ impl Session {
         ensures cause { MatchResult result (λ _. J.faults journal.new ≡ J.faults journal.old)
             (IsStopCause (J.faults journal.old) (J.faults journal.new)) }
         ensures place { J.place journal.new ≡ J.place journal.old }
+        ensures undone { IfErr result (λ stop. stop ≡ NoMemory → journal.new ≡ journal.old) }
         ensures any_moment { J.tells → LeavesOnly J.moment J.left_since journal.old journal.new
             (WithOrWithout t (summary self.old.core)) }
     {
@@ -212,8 +214,8 @@ impl Session {
         ensures cause { MatchResult result (λ _. J.faults journal.new ≡ J.faults journal.old)
             (IsStopCause (J.faults journal.old) (J.faults journal.new)) }
         ensures place { J.place journal.new ≡ J.place journal.old }
-        ensures makes { MakesSteps J.tells J.moment J.left_since journal.old journal.new
-            self.old.core self.new.core result }
+        ensures makes { MakesAsked J.tells J.holds J.moment J.left_since journal.old journal.new
+            self.old.core self.new.core (Asks self.old.core command.now) result }
         ensures right { IsRightAndListed self.old.core → OnOk result (IsRightAndListed self.new.core) }
         ensures gathers { OnOk result (self.new.gathered ≡ self.old.gathered) }
         ensures replied { IfOk result (λ reply.
@@ -237,8 +239,8 @@ impl Session {
         ensures kept { J.tells → OnOk result (J.holds journal.new (summary self.new.core)) }
         ensures cause { MatchResult result (λ _. J.faults journal.new ≡ J.faults journal.old)
             (IsStopCause (J.faults journal.old) (J.faults journal.new)) }
-        ensures makes { MakesSteps J.tells J.moment J.left_since journal.old journal.new
-            self.old.core self.new.core result }
+        ensures makes { MakesAsked J.tells J.holds J.moment J.left_since journal.old journal.new
+            self.old.core self.new.core (λ ts. ts ≡ []) result }
         ensures right { IsRightAndListed self.old.core → OnOk result (IsRightAndListed self.new.core) }
         ensures gathers { OnOk result (self.new.gathered ≡ self.old.gathered) }
         ensures same { self.new.core ≡ self.old.core }
@@ -265,8 +267,8 @@ impl Session {
         ensures cause { MatchResult result (λ _. J.faults journal.new ≡ J.faults journal.old)
             (IsStopCause (J.faults journal.old) (J.faults journal.new)) }
         ensures place { (command.now ≡ Checkpoint → ⊥) → J.place journal.new ≡ J.place journal.old }
-        ensures makes { MakesSteps J.tells J.moment J.left_since journal.old journal.new
-            self.old.core self.new.core result }
+        ensures makes { MakesAsked J.tells J.holds J.moment J.left_since journal.old journal.new
+            self.old.core self.new.core (AsksSaid self.old.core command.now) result }
         ensures right { IsRightAndListed self.old.core → OnOk result (IsRightAndListed self.new.core) }
         ensures moved { command.now ≡ Checkpoint
             → OnOk result (J.moved journal.old journal.new (summary self.old.core)) }
@@ -296,8 +298,8 @@ impl Session {
         ensures cause { MatchResult result (λ _. J.faults journal.new ≡ J.faults journal.old)
             (IsStopCause (J.faults journal.old) (J.faults journal.new)) }
         ensures place { (SaysCheckpoint (Line line.now) → ⊥) → J.place journal.new ≡ J.place journal.old }
-        ensures makes { MakesSteps J.tells J.moment J.left_since journal.old journal.new
-            self.old.core self.new.core result }
+        ensures makes { MakesAsked J.tells J.holds J.moment J.left_since journal.old journal.new
+            self.old.core self.new.core (AsksOutside self.old.core (Line line.now)) result }
         ensures right { IsRightAndListed self.old.core → OnOk result (IsRightAndListed self.new.core) }
         ensures moved { SaysCheckpoint (Line line.now)
             → OnOk result (J.moved journal.old journal.new (summary self.old.core)) }
@@ -325,8 +327,8 @@ impl Session {
         ensures cause { MatchResult result (λ _. J.faults journal.new ≡ J.faults journal.old)
             (IsStopCause (J.faults journal.old) (J.faults journal.new)) }
         ensures place { J.place journal.new ≡ J.place journal.old }
-        ensures makes { MakesSteps J.tells J.moment J.left_since journal.old journal.new
-            self.old.core self.new.core result }
+        ensures makes { MakesAsked J.tells J.holds J.moment J.left_since journal.old journal.new
+            self.old.core self.new.core (AsksText self.old.core (unended_in gathered)) result }
         ensures right { IsRightAndListed self.old.core → OnOk result (IsRightAndListed self.new.core) }
         ensures served { IfOk result (λ reply. ServesText gathered.has_long gathered.text.items
             self.old.core self.new.core (unended self.new) reply.items) }
@@ -352,8 +354,8 @@ impl Session {
         ensures cause { MatchResult result (λ _. J.faults journal.new ≡ J.faults journal.old)
             (IsStopCause (J.faults journal.old) (J.faults journal.new)) }
         ensures place { J.place journal.new ≡ J.place journal.old }
-        ensures makes { MakesSteps J.tells J.moment J.left_since journal.old journal.new
-            self.old.core self.new.core result }
+        ensures makes { MakesAsked J.tells J.holds J.moment J.left_since journal.old journal.new
+            self.old.core self.new.core (AsksInside self.old.core (unended_in gathered) (given input.entry)) result }
         ensures right { IsRightAndListed self.old.core → OnOk result (IsRightAndListed self.new.core) }
         ensures served { IfOk result (λ reply. ServesInside (unended_in gathered) (given input.entry)
             self.old.core self.new.core (unended self.new) reply.items) }
@@ -379,15 +381,16 @@ impl Session {
     ///
     /// A line that can't be read and a command that isn't allowed have their refusal as the reply. `NoMemory` comes
     /// where there is no memory or the journal can't take a transaction or a checkpoint, `StoreFault` where it may not
-    /// have kept one; then nothing is replied.
+    /// have kept one; then nothing is replied. Also then the call made only transactions for which the input asks: under
+    /// `NoMemory` the journal holds exactly those, under `StoreFault` a crash leaves all of them or all but the last.
     pub fn serve<J: Journal>(&mut self, journal: &mut J, input: Input<'_>) -> Result<Vec<u8>, Stop>
         requires { J.tells → J.holds journal.old (summary self.old.core) }
         ensures kept { J.tells → OnOk result (J.holds journal.new (summary self.new.core)) }
         ensures cause { MatchResult result (λ _. J.faults journal.new ≡ J.faults journal.old)
             (IsStopCause (J.faults journal.old) (J.faults journal.new)) }
         ensures place { (AsksCheckpoint self.old (given input.entry) → ⊥) → J.place journal.new ≡ J.place journal.old }
-        ensures makes { MakesSteps J.tells J.moment J.left_since journal.old journal.new
-            self.old.core self.new.core result }
+        ensures makes { MakesAsked J.tells J.holds J.moment J.left_since journal.old journal.new
+            self.old.core self.new.core (AsksOf self.old (given input.entry)) result }
         ensures right { IsRightAndListed self.old.core → OnOk result (IsRightAndListed self.new.core) }
         ensures moved { AsksCheckpoint self.old (given input.entry)
             → OnOk result (J.moved journal.old journal.new (summary self.old.core)) }

@@ -1,5 +1,5 @@
 //! The journal of a store: its log and its disk.
-ghost use Rattle.std.specs.Prelude.{◌≡◌, ◌+◌, ◌<◌, List, false, length, IfOk, IfSome, MatchResult, OnOk, IsTrue, ◌↔◌};
+ghost use Rattle.std.specs.Prelude.{◌≡◌, ◌+◌, ◌<◌, List, false, length, IfErr, IfOk, IfSome, MatchResult, OnOk, IsTrue, ◌↔◌};
 ghost use Rattle.std.specs.List.{All};
 ghost use Rattle.flow_disk.specs.Images.{opposite};
 ghost use Rattle.flow_disk.specs.Moments.{LeavesOnly, Only};
@@ -15,6 +15,7 @@ ghost use Rattle.flow_session.specs.Histories.{payloads as payloads_of, payloads
 ghost use Rattle.flow_session.specs.Keeping.{IsOpen, rests};
 ghost use Rattle.flow_session.specs.Serving.{AllOrNone};
 ghost use Rattle.flow_session.specs.Stopping.{IsStopCause};
+ghost use Rattle.flow_session.specs.declared.serving.Stop.TheVariants.{NoMemory};
 
 use crate::journal::Journal;
 use crate::serving::Stop;
@@ -125,6 +126,7 @@ impl<D: Disk + Drop> Stored<D> {
             → LeavesOnly D.moment D.left_since self.old.disk self.new.disk (AllOrNone ts s) }
         ensures place { (self.new.log.slot ≡ self.old.log.slot)
             × (self.new.log.generation ≡ self.old.log.generation) }
+        ensures undone { IfErr result (λ stop. stop ≡ NoMemory → self.new ≡ self.old) }
         ensures cause { MatchResult result (λ _. D.faults self.new.disk ≡ D.faults self.old.disk)
             (IsStopCause (D.faults self.old.disk) (D.faults self.new.disk)) }
     {
@@ -149,6 +151,7 @@ fn append<D: Disk>(log: &mut Log, disk: &mut D, payload: &[u8]) -> Result<(), St
     ensures same { (log.new.slot ≡ log.old.slot) × (log.new.generation ≡ log.old.generation) }
     ensures cause { MatchResult result (λ _. D.faults disk.new ≡ D.faults disk.old)
         (IsStopCause (D.faults disk.old) (D.faults disk.new)) }
+    ensures undone { IfErr result (λ stop. stop ≡ NoMemory → (log.new ≡ log.old) × (disk.new ≡ disk.old)) }
     ensures any_moment { D.tells → Only (D.seen disk.old) (D.images disk.old)
         → LeavesOnly D.moment D.left_since disk.old disk.new (MayHaveRecord payload.now (D.seen disk.old)) }
 {
@@ -175,6 +178,7 @@ fn append_all<D: Disk>(log: &mut Log, disk: &mut D, batch: &Batch) -> Result<(),
     ensures same { (log.new.slot ≡ log.old.slot) × (log.new.generation ≡ log.old.generation) }
     ensures cause { MatchResult result (λ _. D.faults disk.new ≡ D.faults disk.old)
         (IsStopCause (D.faults disk.old) (D.faults disk.new)) }
+    ensures undone { IfErr result (λ stop. stop ≡ NoMemory → (log.new ≡ log.old) × (disk.new ≡ disk.old)) }
     ensures any_moment { D.tells → Only (D.seen disk.old) (D.images disk.old)
         → LeavesOnly D.moment D.left_since disk.old disk.new (MayHaveRecords batch.now (D.seen disk.old)) }
 {
@@ -209,6 +213,7 @@ fn move_log<D: Disk>(
         (length kept.now) (reach 42 kept.now) log.new) }
     ensures cause { MatchResult result (λ _. D.faults disk.new ≡ D.faults disk.old)
         (IsStopCause (D.faults disk.old) (D.faults disk.new)) }
+    ensures undone { IfErr result (λ stop. stop ≡ NoMemory → (log.new ≡ log.old) × (disk.new ≡ disk.old)) }
     ensures any_moment { D.tells → Only (D.seen disk.old) (D.images disk.old)
         → LeavesOnly D.moment D.left_since disk.old disk.new
         (MayBeCompacted (opposite log.old.slot) header.now kept.now (D.seen disk.old)) }
@@ -238,6 +243,8 @@ impl<D: Disk + Drop> Journal for Stored<D> {
     ghost moved = { λ old new s. IsCheckpointed D.tells D.seen D.images old.log new.log new.disk s };
 
     ghost at_rest = { λ journal s c told is left. rests D.seen D.images journal.log journal.disk s c is (D.only_now journal.disk c left) };
+
+    ghost counts_now = { λ journal t c earlier left. D.counts_now journal.disk t c earlier (D.only_now journal.disk c left) };
 
     fn payload(&self, number: u64, t: &Transaction) -> Result<Vec<u8>, Stop> {
         Ok(encode(self.alloc, number, t)?)

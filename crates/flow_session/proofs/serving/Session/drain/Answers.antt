@@ -1,7 +1,9 @@
 use Rattle.std.proofs.Common.{◌∙◌, refl, arith, rules, length}
 use Rattle.flow_core.specs.Summaries.{summary}
-use Rattle.flow_session.proofs.Calls.{makes_nothing, makes_more}
-use Rattle.flow_session.proofs.Leading.{leads_none, leads_on, leads_so}
+use Rattle.flow_session.specs.Asking.{NoneTaken, TurnsSoFar}
+use Rattle.flow_session.proofs.Asked.{asked_so_far, asked_stopped, turns_on, turns_stopped}
+use Rattle.flow_session.proofs.Calls.{makes_nothing}
+use Rattle.flow_session.proofs.Leading.{leads_none}
 use Rattle.flow_session.proofs.Rights.{whatever}
 use Rattle.flow_session.proofs.Turns.{taken_none, taken_more, behind_some}
 use Rattle.flow_session.proofs.Stopping.{silent_after, cause_after}
@@ -13,7 +15,7 @@ loop-self-init g c = record {
   open' = c.requires;
   makes =
       makes_nothing g.J.Journal.tells g.J.Journal.moment g.J.Journal.left_since g.J.Journal.holds g.met.J.Journal.at_rest
-      c.args.journal.now (summary c.args.self.now.core) _ c.requires (leads_none c.args.self.now.core);
+      c.args.journal.now (summary c.args.self.now.core) _ c.requires (NoneTaken, leads_none c.args.self.now.core);
   taken = taken_none c.args.self.now.core;
   some = omega arith;
   right = λ right. right;
@@ -25,11 +27,11 @@ loop-self-init g c = record {
 pub loop-self-preserved : goal.loop-self-preserved
 loop-self-preserved g c = record {
   open' = c.in_ok-turn.ensures.kept;
-  makes =
-      leads_on g.J.Journal.tells g.J.Journal.moment g.J.Journal.left_since c.args.journal.now c.loop-self.journal
-      c.turn.new.journal c.args.self.now.core c.loop-self.self.core c.turn.new.self.core c.loop-self.invariant.makes
-      c.in_ok-turn.ensures.makes;
-  taken = rw c.behind-queue.ensures (taken_more c.args.self.now.core c.loop-self.self.core c.turn.new.self.core c.loop-self.turns c.saturating_add-turns.result c.loop-self.queue c.in-Some.next c.loop-self.invariant.taken c.in-Some.ensures.some c.in_ok-turn.ensures.turned (search rules));
+  makes = rw c.behind-queue.ensures (turns_on g.J.Journal.tells g.J.Journal.holds g.J.Journal.moment g.J.Journal.left_since
+      _ c.args.journal.now c.loop-self.journal c.turn.new.journal c.args.self.now.core c.loop-self.self.core
+      c.turn.new.self.core c.loop-self.queue c.in-Some.next _ c.loop-self.invariant.makes c.in_ok-turn.ensures.makes
+      c.in-Some.ensures.some);
+  taken = rw c.behind-queue.ensures (taken_more c.args.self.now.core c.loop-self.self.core c.turn.new.self.core c.loop-self.turns c.saturating_add-turns.result c.loop-self.queue c.in-Some.next c.loop-self.invariant.taken c.in-Some.ensures.some c.in_ok-turn.ensures.makes.ended.asked.1.0 (search rules));
   some = rw c.behind-queue.ensures (behind_some (length c.loop-self.self.core.queues) c.in-Some.next);
   right = λ right. c.in_ok-turn.ensures.right (c.loop-self.invariant.right right);
   text = c.in_ok-turn.ensures.gathers ∙ c.loop-self.invariant.text;
@@ -39,19 +41,24 @@ loop-self-preserved g c = record {
 
 pub returns-in_err-turn-clause-makes : goal.returns-in_err-turn-clause-makes
 returns-in_err-turn-clause-makes g c =
-    makes_more g.J.Journal.tells g.J.Journal.moment g.J.Journal.left_since c.args.journal.now c.loop-self.journal
-    c.turn.new.journal (summary c.args.self.now.core) (summary c.loop-self.self.core) _ _ _ c.loop-self.invariant.makes
-    (λ ts leads. leads.came) c.turn.ensures.makes (λ ts us a b. search rules)
+    let p = err_from_is_err_and c.from_residual.result c.from_residual.ensures.1 in
+    rw (p.1, p.2) (asked_stopped g.J.Journal.tells g.J.Journal.holds g.J.Journal.moment g.J.Journal.left_since
+    _ _ c.in_err-turn.field-0.0 c.args.journal.now c.loop-self.journal c.turn.new.journal c.args.self.now.core
+    c.loop-self.self.core c.turn.new.self.core _ _ _ c.loop-self.invariant.makes c.in_err-turn.ensures.makes
+    (λ ts us taken asked. turns_stopped c.args.self.now.core c.loop-self.self.core ts us c.loop-self.queue c.in-Some.next
+    taken c.in-Some.ensures.some asked.0))
 
 pub returns-in_default-clause-makes : goal.returns-in_default-clause-makes
 returns-in_default-clause-makes g c =
-    leads_so g.J.Journal.tells g.J.Journal.moment g.J.Journal.left_since c.drained.result c.args.journal.now
-    c.loop-self.journal c.args.self.now.core c.loop-self.self.core c.loop-self.invariant.makes
+    asked_so_far g.J.Journal.tells g.J.Journal.holds g.J.Journal.moment g.J.Journal.left_since
+    c.drained.result c.args.journal.now c.loop-self.journal c.args.self.now.core c.loop-self.self.core _ _
+    c.drained.ensures.silent c.loop-self.invariant.makes c.loop-self.invariant.open' (λ ts taken. TurnsSoFar taken)
 
 pub returns-clause-makes : goal.returns-clause-makes
 returns-clause-makes g c =
-    leads_so g.J.Journal.tells g.J.Journal.moment g.J.Journal.left_since c.drained-2.result c.args.journal.now
-    c.loop-self.journal c.args.self.now.core c.loop-self.self.core c.loop-self.invariant.makes
+    asked_so_far g.J.Journal.tells g.J.Journal.holds g.J.Journal.moment g.J.Journal.left_since
+    c.drained-2.result c.args.journal.now c.loop-self.journal c.args.self.now.core c.loop-self.self.core _ _
+    c.drained-2.ensures.silent c.loop-self.invariant.makes c.loop-self.invariant.open' (λ ts taken. TurnsSoFar taken)
 
 pub returns-clause-gathers : goal.returns-clause-gathers
 returns-clause-gathers g c = whatever c.drained-2.result c.loop-self.invariant.text

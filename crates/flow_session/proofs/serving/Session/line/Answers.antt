@@ -1,33 +1,30 @@
-use Rattle.std.proofs.Common.{rules, subst, sym}
+use Rattle.std.proofs.Common.{inl, inr, refl, rules, subst, sym}
 use Rattle.flow_model.specs.declared.commands.Command.TheVariants.{Checkpoint}
-use Rattle.flow_core.specs.Summaries.{summary}
-use Rattle.flow_session.proofs.Calls.{makes_nothing}
+use Rattle.flow_session.proofs.Asked.{asked_nothing, asked_so}
 use Rattle.flow_session.proofs.Inputs.{says_blank, says_command, says_none}
 use Rattle.flow_session.specs.Inputs.{Says, unended}
 use Rattle.flow_session.proofs.Stopping.{silent}
-use Rattle.flow_session.proofs.Leading.{leads_none}
-use Rattle.flow_session.proofs.Rights.{whatever}
 use Rattle.flow_session.proofs.serving.Session.line.Goals as goal
 
 pub returns-then-line-gt-MOST_LINE-clause-makes : goal.returns-then-line-gt-MOST_LINE-clause-makes
 returns-then-line-gt-MOST_LINE-clause-makes g c =
-    makes_nothing g.J.Journal.tells g.J.Journal.moment g.J.Journal.left_since g.J.Journal.holds g.met.J.Journal.at_rest
-    c.args.journal.now (summary c.args.self.now.core) _ c.requires.open (whatever c.words.result (leads_none c.args.self.now.core))
+    asked_nothing g.J.Journal.tells g.J.Journal.holds g.J.Journal.moment g.J.Journal.left_since
+    g.met.J.Journal.at_rest c.words.result c.args.journal.now c.args.self.now.core _ c.requires.open (c.words.ensures.silent) (inl refl)
 
 pub returns-in-Ok-None-clause-makes : goal.returns-in-Ok-None-clause-makes
 returns-in-Ok-None-clause-makes g c =
-    makes_nothing g.J.Journal.tells g.J.Journal.moment g.J.Journal.left_since g.J.Journal.holds g.met.J.Journal.at_rest
-    c.args.journal.now (summary c.args.self.now.core) _ c.requires.open (leads_none c.args.self.now.core)
+    asked_nothing g.J.Journal.tells g.J.Journal.holds g.J.Journal.moment g.J.Journal.left_since
+    g.met.J.Journal.at_rest _ c.args.journal.now c.args.self.now.core _ c.requires.open (search rules) (inl refl)
 
 pub returns-in-Err-Word-clause-makes : goal.returns-in-Err-Word-clause-makes
 returns-in-Err-Word-clause-makes g c =
-    makes_nothing g.J.Journal.tells g.J.Journal.moment g.J.Journal.left_since g.J.Journal.holds g.met.J.Journal.at_rest
-    c.args.journal.now (summary c.args.self.now.core) _ c.requires.open (whatever c.numbered.result (leads_none c.args.self.now.core))
+    asked_nothing g.J.Journal.tells g.J.Journal.holds g.J.Journal.moment g.J.Journal.left_since
+    g.met.J.Journal.at_rest c.numbered.result c.args.journal.now c.args.self.now.core _ c.requires.open (c.numbered.ensures.silent) (inl refl)
 
 pub returns-in-Err-NoMemory-clause-makes : goal.returns-in-Err-NoMemory-clause-makes
 returns-in-Err-NoMemory-clause-makes g c =
-    makes_nothing g.J.Journal.tells g.J.Journal.moment g.J.Journal.left_since g.J.Journal.holds g.met.J.Journal.at_rest
-    c.args.journal.now (summary c.args.self.now.core) _ c.requires.open (search rules)
+    asked_nothing g.J.Journal.tells g.J.Journal.holds g.J.Journal.moment g.J.Journal.left_since
+    g.met.J.Journal.at_rest _ c.args.journal.now c.args.self.now.core _ c.requires.open (search rules) (inl refl)
 
 pub returns-in-Ok-None-clause-served : goal.returns-in-Ok-None-clause-served
 returns-in-Ok-None-clause-served g c =
@@ -73,3 +70,11 @@ returns-in-Ok-Some-clause-place g c no_checkpoint =
     let says = rw c.in-Ok-Some.field-0-is at c.in-Ok-Some.ensures.says in
     let one = rw c.in-Ok-Some.field-0-is at c.in-Ok-Some.ensures.one in
     c.command.ensures.place (λ is. no_checkpoint (search rules, subst (λ x. Says c.args.line.now x) is (says, one)))
+
+pub returns-in-Ok-Some-clause-makes : goal.returns-in-Ok-Some-clause-makes
+returns-in-Ok-Some-clause-makes g c =
+    let says = rw c.in-Ok-Some.field-0-is at c.in-Ok-Some.ensures.says in
+    let one = rw c.in-Ok-Some.field-0-is at c.in-Ok-Some.ensures.one in
+    asked_so g.J.Journal.tells g.J.Journal.holds g.J.Journal.moment g.J.Journal.left_since
+    c.command.result c.args.journal.now c.command.new.journal c.args.self.now.core c.command.new.self.core _ _
+    c.command.ensures.makes (λ ts asks. inr (c.in-Ok-Some.command, search rules, (says, one), asks))

@@ -1,37 +1,41 @@
 use Rattle.std.proofs.Common.{rules}
-use Rattle.flow_core.specs.Summaries.{summary}
-use Rattle.flow_session.proofs.Calls.{makes_nothing, makes_one}
-use Rattle.flow_session.proofs.Leading.{leads_none, leads_by}
+use Rattle.std.proofs.lemmas.Result.{err_from_is_err_and}
+use Rattle.flow_session.specs.Asking.{NoneAsked, JudgedSo}
+use Rattle.flow_session.proofs.Asked.{asked_nothing, asked_one, one_stopped}
+use Rattle.flow_session.proofs.Leading.{leads_by}
 use Rattle.flow_session.proofs.Stopping.{silent}
-use Rattle.flow_session.proofs.Rights.{asks_open, whatever}
+use Rattle.flow_session.proofs.Rights.{asks_open}
 use Rattle.flow_session.proofs.serving.Session.obey.Goals as goal
 
 pub returns-in_err-make-in-Ok-Do-clause-makes : goal.returns-in_err-make-in-Ok-Do-clause-makes
 returns-in_err-make-in-Ok-Do-clause-makes g c =
-    makes_one g.J.Journal.tells g.J.Journal.moment g.J.Journal.left_since
-    c.args.journal.now c.make.new.journal (summary c.args.self.now.core) c.in-Ok-Do.t _ c.make.ensures.any_moment (search rules)
+    let p = err_from_is_err_and c.from_residual.result c.from_residual.ensures.1 in
+    rw (p.1, p.2) (one_stopped g.J.Journal.tells g.J.Journal.holds g.J.Journal.moment g.J.Journal.left_since
+    g.met.J.Journal.at_rest g.met.J.Journal.counts_now _ c.in_err-make-in-Ok-Do.field-0.0 c.args.journal.now
+    c.make.new.journal c.args.self.now.core c.make.new.self.core c.in-Ok-Do.t _ c.requires
+    c.in_err-make-in-Ok-Do.ensures.undone c.make.ensures.any_moment NoneAsked (JudgedSo (search rules)))
 
 pub returns-in_ok-make-in-Ok-Do-clause-makes : goal.returns-in_ok-make-in-Ok-Do-clause-makes
 returns-in_ok-make-in-Ok-Do-clause-makes g c =
-    makes_one g.J.Journal.tells g.J.Journal.moment g.J.Journal.left_since
-    c.args.journal.now c.make.new.journal (summary c.args.self.now.core) c.in-Ok-Do.t _ c.make.ensures.any_moment
-    (leads_by c.args.self.now.core c.make.new.self.core c.args.command.now _ c.in-Ok-Do.t c.in-Ok-Do.ensures
-    c.in-Ok-Do.field-0-is c.in_ok-make-in-Ok-Do.ensures.applied c.in_ok-make-in-Ok-Do.ensures.counts)
+    asked_one g.J.Journal.tells g.J.Journal.holds g.J.Journal.moment g.J.Journal.left_since
+    g.met.J.Journal.at_rest g.met.J.Journal.counts_now _ c.args.journal.now c.make.new.journal c.args.self.now.core c.make.new.self.core
+    c.in-Ok-Do.t _ c.requires (search rules) c.make.ensures.any_moment (search rules) (leads_by c.args.self.now.core c.make.new.self.core c.args.command.now _ c.in-Ok-Do.t c.in-Ok-Do.ensures
+    c.in-Ok-Do.field-0-is c.in_ok-make-in-Ok-Do.ensures.applied c.in_ok-make-in-Ok-Do.ensures.counts) (search rules) (JudgedSo (search rules))
 
 pub returns-in-Ok-Same-clause-makes : goal.returns-in-Ok-Same-clause-makes
 returns-in-Ok-Same-clause-makes g c =
-    makes_nothing g.J.Journal.tells g.J.Journal.moment g.J.Journal.left_since g.J.Journal.holds g.met.J.Journal.at_rest
-    c.args.journal.now (summary c.args.self.now.core) _ c.requires (whatever c.numbered.result (leads_none c.args.self.now.core))
+    asked_nothing g.J.Journal.tells g.J.Journal.holds g.J.Journal.moment g.J.Journal.left_since
+    g.met.J.Journal.at_rest c.numbered.result c.args.journal.now c.args.self.now.core _ c.requires (c.numbered.ensures.silent) (NoneAsked)
 
 pub returns-in-Ok-Refused-clause-makes : goal.returns-in-Ok-Refused-clause-makes
 returns-in-Ok-Refused-clause-makes g c =
-    makes_nothing g.J.Journal.tells g.J.Journal.moment g.J.Journal.left_since g.J.Journal.holds g.met.J.Journal.at_rest
-    c.args.journal.now (summary c.args.self.now.core) _ c.requires (whatever c.refused.result (leads_none c.args.self.now.core))
+    asked_nothing g.J.Journal.tells g.J.Journal.holds g.J.Journal.moment g.J.Journal.left_since
+    g.met.J.Journal.at_rest c.refused.result c.args.journal.now c.args.self.now.core _ c.requires (c.refused.ensures.silent) (NoneAsked)
 
 pub returns-in-Err-clause-makes : goal.returns-in-Err-clause-makes
 returns-in-Err-clause-makes g c =
-    makes_nothing g.J.Journal.tells g.J.Journal.moment g.J.Journal.left_since g.J.Journal.holds g.met.J.Journal.at_rest
-    c.args.journal.now (summary c.args.self.now.core) _ c.requires (search rules)
+    asked_nothing g.J.Journal.tells g.J.Journal.holds g.J.Journal.moment g.J.Journal.left_since
+    g.met.J.Journal.at_rest _ c.args.journal.now c.args.self.now.core _ c.requires (search rules) (NoneAsked)
 
 pub returns-in-Ok-Same-clause-cause : goal.returns-in-Ok-Same-clause-cause
 returns-in-Ok-Same-clause-cause g c = silent (g.J.Journal.faults c.args.journal.now) c.numbered.result c.numbered.ensures.silent

@@ -1,21 +1,18 @@
 use Rattle.std.proofs.Common.{rules}
-use Rattle.flow_core.specs.Summaries.{summary}
-use Rattle.flow_session.proofs.Calls.{makes_nothing}
+use Rattle.flow_session.proofs.Asked.{asked_nothing}
 use Rattle.flow_session.proofs.Inputs.{none_gathered}
 use Rattle.flow_session.proofs.Stopping.{silent}
-use Rattle.flow_session.proofs.Leading.{leads_none}
-use Rattle.flow_session.proofs.Rights.{whatever}
 use Rattle.flow_session.proofs.serving.Session.serve.Goals as goal
 
 pub returns-in-TooLong-clause-makes : goal.returns-in-TooLong-clause-makes
 returns-in-TooLong-clause-makes g c =
-    makes_nothing g.J.Journal.tells g.J.Journal.moment g.J.Journal.left_since g.J.Journal.holds g.met.J.Journal.at_rest
-    c.args.journal.now (summary c.args.self.now.core) _ c.requires (whatever c.words.result (leads_none c.args.self.now.core))
+    asked_nothing g.J.Journal.tells g.J.Journal.holds g.J.Journal.moment g.J.Journal.left_since
+    g.met.J.Journal.at_rest c.words.result c.args.journal.now c.args.self.now.core _ c.requires (c.words.ensures.silent) (search rules)
 
 pub returns-in-Ended-clause-makes : goal.returns-in-Ended-clause-makes
 returns-in-Ended-clause-makes g c =
-    makes_nothing g.J.Journal.tells g.J.Journal.moment g.J.Journal.left_since g.J.Journal.holds g.met.J.Journal.at_rest
-    c.args.journal.now (summary c.args.self.now.core) _ c.requires (leads_none c.args.self.now.core)
+    asked_nothing g.J.Journal.tells g.J.Journal.holds g.J.Journal.moment g.J.Journal.left_since
+    g.met.J.Journal.at_rest _ c.args.journal.now c.args.self.now.core _ c.requires (search rules) (search rules)
 
 pub returns-in-TooLong-clause-cause : goal.returns-in-TooLong-clause-cause
 returns-in-TooLong-clause-cause g c = silent (g.J.Journal.faults c.args.journal.now) c.words.result c.words.ensures.silent
