@@ -1,7 +1,6 @@
 -- What an input does to a session, and what is replied, is what the machine does and replies.
-use Rattle.std.proofs.Common.{◌≡◌, ◌⊎◌, inl, inr, ℕ, ◌≤◌, ◌<◌, Bool, true, false, Option, Some, None, option_map, List, [], length, refl, sym, ap, subst, arith}
+use Rattle.std.proofs.Common.{◌≡◌, inl, inr, ℕ, Bool, true, false, Option, Some, None, List, [], length, sym, ap, subst}
 use Rattle.std.specs.Prelude.{if◌then◌else◌}
-use Rattle.flow_core.specs.Replies.{applied_text}
 use Rattle.flow_core.specs.declared.state.Core.{Core}
 use Rattle.flow_model.specs.declared.commands.Command.{Command}
 use Rattle.flow_model.specs.declared.commands.Command.TheVariants.{Import, Start, Turn, Drain, Claim, Release, Transfer}
@@ -9,27 +8,23 @@ use Rattle.flow_model.specs.declared.commands.Command.TheVariants.{Take, Done, F
 use Rattle.flow_model.specs.declared.commands.Command.TheVariants.{Terminate, Delete, Clock, Checkpoint, Ask}
 use Rattle.flow_session.specs.Inputs as session
 use Rattle.flow_session.specs.Inputs.{Given, Line, Long, End, Unended, unended, is_end}
-use Rattle.flow_session.specs.Replying.{IsObeyed, IsMade, IsUnmade, checkpoint_text}
+use Rattle.flow_session.specs.Replying.{IsObeyed, IsUnmade, checkpoint_text}
 use Rattle.flow_session.specs.declared.serving.Session.{Session}
-use Rattle.machine_laws.specs.Script as machine
+use Rattle.machine.specs.Scripts as machine
 use Rattle.machine_laws.specs.Viewed.{view}
 use Rattle.machine_verdicts.proofs.EachQuery.{answer_seen}
 use Rattle.machine_verdicts.proofs.Obeyed.{command_obeyed, refusal_obeyed, same_obeyed}
-use Rattle.session_laws.specs.Sittings.{machine_input, machine_text, sitting, IsWhole, IsShallow}
+use Rattle.session_laws.specs.Sittings.{sitting, IsWhole}
 use Rattle.session_laws.proofs.Turning.{drain_seen}
 
 -- ---- what changes nothing
 
--- the text that is gathered, as the machine gathers it
-abbrev machine_gathered : Option Unended → Option machine.Unended
-machine_gathered o = option_map machine_text o
-
 answers_seen : (c c' : Core) (gathered after : Option Unended) (text reply : List ℕ)
     → session.Answers c c' gathered after text reply
-    → machine.Answers (view c) (view c') (machine_gathered gathered) (machine_gathered after) text reply
+    → machine.Answers (view c) (view c') gathered after text reply
 answers_seen c c' gathered after text reply is = record {
   same = ap view is.same;
-  gathers = ap machine_gathered is.gathers;
+  gathers = is.gathers;
   replies = is.replies;
 }
 
@@ -57,19 +52,18 @@ module _ (c : Core) (whole : IsWhole c) where
   -- a command that is obeyed, and no text is gathered afterwards
   ended_seen : (c' : Core) (command : Command) (after : Option Unended) (reply : List ℕ)
       → IsObeyed c c' command reply × (after ≡ None)
-      → machine.IsObeyed (view c) (view c') command reply × (machine_gathered after ≡ None)
-  ended_seen c' command after reply (obeyed, none) = (obeyed_seen c' command reply obeyed, ap machine_gathered none)
+      → machine.IsObeyed (view c) (view c') command reply × (after ≡ None)
+  ended_seen c' command after reply (obeyed, none) = (obeyed_seen c' command reply obeyed, none)
 
-  module _ (c' : Core) (shallow : IsShallow c') (after : Option Unended) (reply : List ℕ) where
+  module _ (c' : Core) (after : Option Unended) (reply : List ℕ) where
     commanded_seen : (command : Command) → session.IsCommanded c c' command after reply
-        → machine.IsCommanded (view c) (view c') command (machine_gathered after) reply
+        → machine.IsCommanded (view c) (view c') command after reply
     commanded_seen (Import text) is = answers_seen c c' (Some session.no_lines) after [] reply is
-    commanded_seen Drain is = (drain_seen c c' reply is.0 whole.right.0, ap machine_gathered is.1)
+    commanded_seen Drain is = (drain_seen c c' reply is.0 whole.right.0, is.1)
     commanded_seen Checkpoint is =
         answers_seen c c' None after (checkpoint_text (length c.live.items)) reply is
     commanded_seen (Ask query) is =
-        let there = subst IsShallow is.0 shallow in
-        (ap view is.0, ap machine_gathered is.1, answer_seen c query reply whole.right there is.2)
+        (ap view is.0, is.1, answer_seen c query reply whole.right is.2)
     commanded_seen (Start process starter key settings) is = ended_seen c' (Start process starter key settings) after reply is
     commanded_seen (Turn queue) is = ended_seen c' (Turn queue) after reply is
     commanded_seen (Claim token who) is = ended_seen c' (Claim token who) after reply is
@@ -88,7 +82,7 @@ module _ (c : Core) (whole : IsWhole c) where
     -- ---- lines and inputs outside an IMPORT
 
     line_seen : (line : List ℕ) → session.ServesLine line c c' after reply
-        → machine.ServesLine line (view c) (view c') (machine_gathered after) reply
+        → machine.ServesLine line (view c) (view c') after reply
     line_seen line (session.LongLine long is) =
         (machine.AsLong, long, answers_seen c c' None after session.long_text reply is)
     line_seen line (session.BlankLine short blank is) =
@@ -97,12 +91,12 @@ module _ (c : Core) (whole : IsWhole c) where
         (machine.AsCommand command, (short, says), commanded_seen command is)
     line_seen line (session.WrongLine {place} short wrong is) = (
       machine.AsWrong place,
-      (short, record { refused = wrong.refused; none = wrong.none; first = wrong.first }),
+      (short, wrong),
       answers_seen c c' None after (session.word_text place) reply is,
     )
 
     outside_seen : (input : Given) → session.ServesOutside input c c' after reply
-        → machine.ServesOutside (machine_input input) (view c) (view c') (machine_gathered after) reply
+        → machine.ServesOutside input (view c) (view c') after reply
     outside_seen (Line line) is = line_seen line is
     outside_seen Long is = answers_seen c c' None after session.long_text reply is
     outside_seen End is = answers_seen c c' None after [] reply is
@@ -110,31 +104,31 @@ module _ (c : Core) (whole : IsWhole c) where
     -- ---- inputs inside an IMPORT
 
     text_seen : (has_long : Bool) (text : List ℕ) → session.ServesText has_long text c c' after reply
-        → machine.ServesText has_long text (view c) (view c') (machine_gathered after) reply
+        → machine.ServesText has_long text (view c) (view c') after reply
     text_seen true text is = answers_seen c c' None after session.long_text reply is
     text_seen false text is = ended_seen c' (Import text) after reply is
 
     text_line_seen : (ends : Bool) (u : Unended) (line : List ℕ) → session.ServesTextLine ends u line c c' after reply
-        → machine.ServesTextLine ends (machine_text u) line (view c) (view c') (machine_gathered after) reply
+        → machine.ServesTextLine ends u line (view c) (view c') after reply
     text_line_seen true u line is = text_seen u.has_long u.text is
     text_line_seen false u line is =
         answers_seen c c' (Some (record u { text = session.with_line u.text line })) after [] reply is
 
     inside_seen : (u : Unended) (input : Given) → session.ServesInside u input c c' after reply
-        → machine.ServesInside (machine_text u) (machine_input input) (view c) (view c') (machine_gathered after) reply
+        → machine.ServesInside u input (view c) (view c') after reply
     inside_seen u (Line line) is = text_line_seen (is_end line) u line is
     inside_seen u Long is = answers_seen c c' (Some (record u { has_long = true })) after [] reply is
     inside_seen u End is =
         answers_seen c c' None after (if u.has_long then session.long_text else session.unended_text) reply is
 
     input_seen : (o : Option Unended) (input : Given) → session.ServesInput o input c c' after reply
-        → machine.ServesInput (machine_gathered o) (machine_input input) (view c) (view c') (machine_gathered after) reply
+        → machine.ServesInput o input (view c) (view c') after reply
     input_seen None input is = outside_seen input is
     input_seen (Some u) input is = inside_seen u input is
 
 -- an input of a session is an input of the machine
 pub input_served : (s s' : Session) (input : Given) (reply : List ℕ) → session.IsServed s s' input reply
-    → IsWhole s.core → IsShallow s'.core
-    → machine.ServesInput (sitting s).unended (machine_input input) (view s.core) (view s'.core) (sitting s').unended reply
-input_served s s' input reply is whole shallow =
-    input_seen s.core whole s'.core shallow (unended s') reply (unended s) input is
+    → IsWhole s.core
+    → machine.ServesInput (sitting s).unended input (view s.core) (view s'.core) (sitting s').unended reply
+input_served s s' input reply is whole =
+    input_seen s.core whole s'.core (unended s') reply (unended s) input is

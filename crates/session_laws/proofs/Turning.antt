@@ -5,7 +5,7 @@ use Rattle.flow_core.specs.declared.state.Core.{Core}
 use Rattle.flow_model.specs.declared.transactions.Transaction.TheVariants.{Turn}
 use Rattle.flow_session.proofs.Leading.{one_step}
 use Rattle.flow_session.specs.Draining.{TakesInTurn, NoTurn, OneTurn, IsNextQueue, IsDrained}
-use Rattle.machine_laws.specs.Script as machine
+use Rattle.machine.specs.Scripts as machine
 use Rattle.machine_laws.specs.Viewed.{view}
 
 -- the queue that is next is next for the machine
