@@ -134,7 +134,7 @@ new_stops place number payload c taken c' taken' stop takes fresh stops =
 
 -- ---- a batch that is kept
 
--- what is kept is so of the state that comes of it, where the call succeeds
+-- what is kept holds of the state after the call, where it succeeds
 pub kept_on : {T E : Type 0} (r : Result T E) (c e : Core) (ts : List Transaction) (IsHeld : Summary → Type 0) → IsHeld (after (summary c) ts) → OnOk r (LeadsBy c ts e) → OnOk r (IsHeld (summary e))
 kept_on (Ok x) c e ts IsHeld held leads = subst IsHeld (sym leads.came) held
 kept_on (Err x) c e ts IsHeld held leads = tt

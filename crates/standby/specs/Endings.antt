@@ -15,6 +15,15 @@ ShipEnd from before now (ship.Ahead number) = (number < from) × (now ≡ before
 ShipEnd from before now ship.WriteFault = Rose before now
 ShipEnd from before now ship.NoMemory = now ≡ before
 
+-- How shipping stops, by the count of the faults of its disk: it rose only where the store isn't opened because its disk
+-- failed.
+abbrev pub ShipDiskEnd : ℕ → ℕ → ShipStop → Type 0
+ShipDiskEnd before now (ship.Store stop) = IsOpenCause before now stop
+ShipDiskEnd before now (ship.Gone kept) = now ≡ before
+ShipDiskEnd before now (ship.Ahead number) = now ≡ before
+ShipDiskEnd before now ship.WriteFault = now ≡ before
+ShipDiskEnd before now ship.NoMemory = now ≡ before
+
 -- how putting a text stops: only by a sink that failed, or for want of memory
 abbrev pub PutEnd : ℕ → ℕ → ShipStop → Type 0
 PutEnd before now (ship.Store stop) = ⊥

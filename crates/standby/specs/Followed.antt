@@ -1,4 +1,4 @@
--- What following a stream into a store comes to.
+-- How a stream is followed into a store.
 use Rattle.std.specs.Prelude.{◌≡◌, ℕ, ◌≤◌, List, Option, Result}
 use Rattle.flow_disk.specs.Images.{Image}
 use Rattle.flow_core.specs.Summaries.{summary}
@@ -24,7 +24,7 @@ IsEndBy stop NoMemory = Unit {0}
 IsEndBy stop ended = ⊥
 
 -- A store is opened, and a stream is followed from its state on. Where the disk tells its bytes, that is what they stand
--- for, and what its records come to by the steps of the machine; and where the stream ends, whatever the disk may leave
+-- for, and what its records give by the steps of the machine; and where the stream ends, whatever the disk may leave
 -- then stands for the state at the last stage.
 pub record FollowsOpened (tells : Type 0) (seen : Image) (images : Image → Type 0) (left left' : Option (List ℕ))
     (result : Result Followed FollowStop) : Type 0 where

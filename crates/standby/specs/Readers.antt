@@ -16,12 +16,12 @@ abbrev pub GoesOn : Option (List ℕ) → Type 0
 GoesOn None = Unit {0}
 GoesOn (Some bytes) = 0 < length bytes
 
--- these bytes are read behind a place: they are the next ones, and a stream may have so many
+-- these bytes are read behind a place: they are the next ones, and lie within the greatest length of a stream
 pub record Gives (place : ℕ) (before after : Option (List ℕ)) (bytes : List ℕ) : Type 0 where
   pub taken : Consumes before after bytes
   pub within : length bytes ≤ 268435456 - place
 
--- the places in a block of so many bytes, and how many bytes were handed out, which a stream may have
+-- the places in a block of this size, and the number of bytes handed out, within the greatest length of a stream
 pub record IsLaidOut (block from to place : ℕ) : Type 0 where
   pub from_in : from ≤ to
   pub to_in : to ≤ block

@@ -19,7 +19,7 @@ pub record Grows (place : ℕ) (before after : Option (List ℕ)) (old new : Lis
   pub count_is : length bytes ≡ count
   pub put : new ≡ old ++ bytes
 
--- at most so many bytes more are read, none only at the end; where all that a stream may have was read, one more is too long
+-- at most `most` bytes more are read, none only at the end; a byte behind the greatest length of a stream is too long
 abbrev pub ReadsSome : ℕ → ℕ → Option (List ℕ) → Option (List ℕ) → List ℕ → List ℕ → Result ℕ FollowStop → Type 0
 ReadsSome most place before after old new (Ok count) =
     Grows place before after old new count × (count ≤ most) × (count ≡ 0 → IsAtEnd after)

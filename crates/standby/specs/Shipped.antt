@@ -12,21 +12,23 @@ use Rattle.standby.specs.declared.stops.ShipStop.{ShipStop}
 use Rattle.standby.specs.declared.stops.ShipStop.TheVariants.{Store, Gone, Ahead, WriteFault, NoMemory}
 use Rattle.standby.specs.Streams.{stream_bytes, PutsPart}
 
--- the last ones, so many of them; all where there are fewer
+-- the last `count` of a list; all of it where there are fewer
 abbrev pub last : {T : Type 0} → ℕ → List T → List T
 last count xs = drop (length xs - count) xs
 
--- the stream of an opened store with so many transactions from a number: its queues and limit, the number, and the last records
+-- the stream that ships an opened store with this number of transactions above a number: the queues and the limit of the
+-- store, the number, and the last records
 abbrev pub shipped : Opened → ℕ → ℕ → List ℕ
 shipped opened number from =
     stream_bytes (record { queues = opened.header.queues; limit = opened.header.limit; from = from })
     (payloads_of (last (number - from) opened.records))
 
--- the transactions above a number are records of the opened store, which has so many transactions
+-- all transactions above a number are records of the opened store, which has this number of transactions
 abbrev pub HasFrom : Opened → ℕ → ℕ → Type 0
 HasFrom opened number from = (opened.header.transactions ≤ from) × (from ≤ number)
 
--- an opened store with so many transactions is shipped from a number: its stream is put, or a front part of it; nothing where the number is refused
+-- an opened store with this number of transactions is shipped above a number: its stream is put, or where that stops, a
+-- front part of it; nothing where the number is refused
 abbrev pub Ships : Opened → ℕ → ℕ → Option (List ℕ) → Option (List ℕ) → Result ℕ ShipStop → Type 0
 Ships opened number from old new (Ok count) =
     HasFrom opened number from × (count ≡ number - from) × Appends old new (shipped opened number from)
@@ -55,7 +57,7 @@ IsEndBy stop (Ahead number) = ⊥
 IsEndBy stop WriteFault = ⊥
 IsEndBy stop NoMemory = Unit {0}
 
--- an opened store is what an image holds, and its records come to a history of so many transactions
+-- an image holds an opened store, and its records give a history with this number of transactions
 pub record IsStoreOf (image : Image) (opened : Opened) (number : ℕ) : Type 0 where
   pub held : IsOpened image opened
   pub state : Summary

@@ -147,7 +147,7 @@ FollowsFrames IsKept s after c taken (Ok x) =
     Goes s (λ last. IsEnded last after × (last.core ≡ c) × (last.taken ≡ taken))
 FollowsFrames IsKept s after c taken (Err stop) = Goes s (λ last. StopsKept IsKept last after stop)
 
--- so it is for what a source has left: of the bytes that were taken from it some may not be read, but none where it failed
+-- the same for what a source has left: of the bytes taken from it some may not be read yet, but none where it failed
 pub record FollowsHeld {T : Type 0} (IsKept : Core → Type 0) (s : Stage) (left : Option (List ℕ)) (c : Core)
     (taken : ℕ) (result : Result T FollowStop) : Type 0 where
   pub held : List ℕ
@@ -202,7 +202,8 @@ Follows IsKept c left after (Err stop) =
     ((StopsBefore left after stop ⊎ RefusesFront c left stop) × UnlessFailed stop (IsKept c))
     ⊎ PassesFront c left (λ last. StopsKept IsKept last after stop)
 
--- so it is for the bytes that a source had left and those that it has left: of what was taken from it some may not be read, but none where it failed
+-- the same by what a source had left and has left: of the bytes taken from it some may not be read yet, but none where it
+-- failed
 pub record FollowsSource (IsKept : Core → Type 0) (c : Core) (left left' : Option (List ℕ))
     (result : Result Followed FollowStop) : Type 0 where
   pub held : List ℕ

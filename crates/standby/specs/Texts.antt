@@ -1,4 +1,4 @@
--- The lines of what following came to, and of refusals.
+-- The lines of the result of following, and of refusals.
 use Rattle.std.specs.Prelude.{ℕ, List, [], ◌++◌, codes}
 use Rattle.std.specs.Fmt.{decimal}
 use Rattle.standby.specs.declared.following.Followed.{Followed}
@@ -31,7 +31,7 @@ follow_refusal_line follow.ReadFault = []
 follow_refusal_line follow.TooLong = []
 follow_refusal_line follow.NoMemory = []
 
--- the line of what following came to: the number of the transactions, and how many were taken
+-- the line of the result of following: the number of the transactions, and how many were taken
 abbrev pub followed_line : Followed → List ℕ
 followed_line followed =
     codes "ok FOLLOW " ++ decimal followed.number ++ codes " " ++ decimal followed.taken ++ codes "\n"

@@ -15,7 +15,7 @@ pub record Waits (c : Core) (old : List (List ℕ)) (c' : Core) (new : List (Lis
   pub leads : LeadsBy c transactions c'
   pub put : new ≡ old ++ payloads_behind c.number transactions
 
--- so it is for the state after a call that succeeds, and else for some state
+-- a call leaves transactions waiting for the state after it, where it succeeds; else for some state
 abbrev pub WaitsBehind : {T E : Type 0} → Core → List (List ℕ) → Core → List (List ℕ) → Result T E → Type 0
 WaitsBehind c old c' new result = MatchResult result (λ _. Waits c old c' new) (λ _. (d : Core) × Waits c old d new)
 

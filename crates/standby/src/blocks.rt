@@ -15,7 +15,7 @@ use std::marker::Model;
 /// How many bytes are asked for at once.
 const BLOCK: usize = 65536;
 
-/// A stream has at most so many bytes.
+/// The greatest number of bytes in a stream.
 const MOST_BYTES: u64 = 268_435_456;
 
 /// A reader that holds at most one block.
@@ -77,7 +77,7 @@ impl Blocks {
         framed(&self.block[self.from..self.from + count])
     }
 
-    /// Hands out so many held bytes.
+    /// Hands out the first `count` held bytes.
     pub fn skip(&mut self, count: usize)
         requires held { count ≤ length self.old.held }
         requires within { count ≤ 268435456 - self.old.place }
@@ -123,7 +123,7 @@ impl Blocks {
         self.take_block(src)
     }
 
-    /// Appends held bytes, at most so many and within the limit; answers how many.
+    /// Appends at most `most` held bytes, within the limit; answers how many.
     fn hand_out(&mut self, most: usize, out: &mut Vec<u8>) -> Result<usize, AllocError>
         ensures count { IfOk result (λ n. n ≡ min most (min (length self.old.held) (268435456 - self.old.place))) }
         ensures given { IfOk result (λ n. out.new.items ≡ out.old.items ++ take n self.old.held) }
@@ -138,7 +138,7 @@ impl Blocks {
         Ok(count)
     }
 
-    /// Appends the next bytes, at most so many; answers how many, which is 0 only at the end of the source.
+    /// Appends at most `most` of the next bytes; answers how many, which is 0 only at the end of the source.
     /// `TooLong` comes where a byte behind the limit is asked for and is there.
     fn read_some<S: Source>(
         &mut self,
@@ -163,7 +163,7 @@ impl Blocks {
         Ok(self.hand_out(most, out)?)
     }
 
-    /// Puts the next bytes in the place of what the vector holds; answers whether the source has so many.
+    /// Replaces what the vector holds by the next `count` bytes; answers whether the source has that many.
     pub fn read<S: Source>(
         &mut self,
         src: &mut S,

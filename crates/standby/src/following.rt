@@ -38,13 +38,13 @@ use flow_txn::{RecordFault, decode};
 use std::alloc::Global;
 use txn_log::{Batch, Log, LogStop};
 
-/// So many records at most are kept behind one gate.
+/// The greatest number of records that are kept behind one gate.
 const BATCH: usize = 1000;
 
-/// A batch that takes so many bytes gets no more records.
+/// A batch with this number of bytes gets no more records.
 const BATCH_BYTES: usize = 1_048_576;
 
-/// What following came to: the number of the store's transactions, and how many of them were taken.
+/// The result of following: the number of the store's transactions, and how many of them were taken.
 #[derive(Clone, Copy, Debug, PartialEq, Eq)]
 pub struct Followed {
     pub number: u64,

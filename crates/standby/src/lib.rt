@@ -1,4 +1,4 @@
-//! How does one store come to hold the transactions of another: which bytes are shipped, and which are followed?
+//! How does one store take over the transactions of another: which bytes are shipped, and which are followed?
 //!
 //! Knows streams of frames, a frame being one record; never what a transaction does. A stream is the magic, the
 //! queues and the limit of its store and the number from which it was shipped, then a frame for each

@@ -4,7 +4,7 @@ ghost use Rattle.std.specs.Io.KnownBytes.{Appends, Keeps};
 ghost use Rattle.flow_disk.specs.Moments.{Only};
 ghost use Rattle.txn_log.specs.Records.{payloads_of};
 ghost use Rattle.flow_session.specs.Runs.{KeepsStore};
-ghost use Rattle.standby.specs.Endings.{PutEnd, ShipEnd};
+ghost use Rattle.standby.specs.Endings.{PutEnd, ShipEnd, ShipDiskEnd};
 ghost use Rattle.standby.specs.Streams.{frame_bytes, end_bytes, stream_bytes, PutsPart, IsUnderWay};
 ghost use Rattle.flow_session.specs.Refusing.{IsUnopened as IsRefusedStore};
 ghost use Rattle.standby.specs.Shipped.{last, Ships, ShipsOpened, IsUnopened};
@@ -17,7 +17,7 @@ use flow_session::open;
 use std::alloc::Global;
 use txn_log::{Opened, Record};
 
-/// So many bytes are put at once, and at most one frame more.
+/// The number of bytes that are put at once, and at most one frame more.
 const BLOCK: usize = 65536;
 
 /// Puts a piece.
@@ -88,7 +88,7 @@ fn put_stream<K: Sink>(
     put_end(out, &mut piece)
 }
 
-/// The last records, so many of them; all where there are fewer.
+/// The last `count` records; all where there are fewer.
 fn last_of(records: &[Record], count: u64) -> &[Record]
     ensures { result.now ≡ last count records.now }
 {
@@ -96,7 +96,8 @@ fn last_of(records: &[Record], count: u64) -> &[Record]
     &records[records.len().saturating_sub(count)..]
 }
 
-/// Puts the transactions of an opened store, which has so many, above a number, and answers how many they are.
+/// Puts the transactions of an opened store above a number, and answers how many they are; `number` is that of the
+/// store's last transaction.
 fn ship_opened<K: Sink>(
     alloc: Global,
     opened: &Opened,
@@ -141,6 +142,8 @@ pub fn ship<K: Sink, D: Disk>(
         → KeepsStore D.moment D.left_since D.seen disk.old disk.new }
     ensures cause { MatchResult result (λ _. K.faults out.new ≡ K.faults out.old)
         (ShipEnd from (K.faults out.old) (K.faults out.new)) }
+    ensures disk { MatchResult result (λ _. D.faults disk.new ≡ D.faults disk.old)
+        (ShipDiskEnd (D.faults disk.old) (D.faults disk.new)) }
     ensures ships { MatchResult result (λ _. ⊥) (IsUnopened (λ stop. D.tells → IsRefusedStore (D.seen disk.old) stop))
         × Keeps (K.held out.old) (K.held out.new)
         ⊎ ShipsOpened D.tells (D.seen disk.old) from (K.held out.old) (K.held out.new) result }

@@ -1,7 +1,7 @@
 //! Why nothing, or no more, is shipped or followed.
 ghost use Rattle.std.specs.Prelude.{◌≡◌, ℕ};
 ghost use Rattle.flow_session.specs.Stopping.{IsOpenCause};
-ghost use Rattle.standby.specs.Endings.{ShipEnd, FollowEnd};
+ghost use Rattle.standby.specs.Endings.{ShipEnd, ShipDiskEnd, FollowEnd};
 ghost use Rattle.standby.specs.Followed.{IsEndBy};
 ghost use Rattle.standby.specs.Shipped.{IsEndBy as IsShipEndBy};
 
@@ -82,7 +82,7 @@ impl From<AllocError> for FollowStop {
 }
 
 impl From<LogStop> for ShipStop {
-    ghost from_gives = { λ stop e. IsShipEndBy stop e × ((from count : ℕ) → ShipEnd from count count e) };
+    ghost from_gives = { λ stop e. IsShipEndBy stop e × ((from count : ℕ) → ShipEnd from count count e) × ((disk disk' : ℕ) → IsOpenCause disk disk' stop → ShipDiskEnd disk disk' e) };
 
     fn from(stop: LogStop) -> ShipStop {
         match stop {

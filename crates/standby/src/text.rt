@@ -1,4 +1,4 @@
-//! The text of what following came to, and of refusals.
+//! The text of the result of following, and of refusals.
 ghost use Rattle.std.specs.Prelude.{◌≡◌, IfOk};
 ghost use Rattle.standby.specs.Texts.{numbered_line, ship_refusal_line, follow_refusal_line, followed_line};
 
@@ -48,7 +48,7 @@ pub fn follow_refusal(alloc: Global, stop: FollowStop) -> Result<Vec<u8>, AllocE
     }
 }
 
-/// The line of what following came to: the number of the transactions, and how many were taken.
+/// The line of the result of following: the number of the transactions, and how many were taken.
 pub fn followed_text(alloc: Global, followed: Followed) -> Result<Vec<u8>, AllocError>
     ensures { IfOk result (λ text. text.items ≡ followed_line followed) }
 {

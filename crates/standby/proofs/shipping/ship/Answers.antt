@@ -4,7 +4,7 @@ use Rattle.flow_core.specs.Summaries.{summary}
 use Rattle.flow_disk.specs.Images.{Image}
 use Rattle.txn_log.specs.Opening.{IsOpened}
 use Rattle.flow_session.specs.Refusing.{IsUnopened}
-use Rattle.standby.proofs.Unopened.{not_shipped}
+use Rattle.standby.proofs.Unopened.{not_shipped, shipped_disk}
 use Rattle.standby.proofs.shipping.ship.Goals as goal
 
 pub returns-in-Err-clause-ships : goal.returns-in-Err-clause-ships
@@ -22,3 +22,12 @@ returns-in-Ok-clause-ships g c = inr (record {
   };
   ships = c.ship_opened.ensures.ships;
 })
+
+pub returns-in-Err-clause-disk : goal.returns-in-Err-clause-disk
+returns-in-Err-clause-disk g c =
+    c.from.ensures.2 (g.D.Disk.faults c.args.disk.now) (g.D.Disk.faults c.open.new.disk) c.in-Err.ensures.cause
+
+pub returns-in-Ok-clause-disk : goal.returns-in-Ok-clause-disk
+returns-in-Ok-clause-disk g c =
+    shipped_disk c.ship_opened.result c.in-Ok.opened c.number.result c.args.from (g.D.Disk.faults c.args.disk.now)
+    (g.D.Disk.faults c.open.new.disk) _ _ c.in-Ok.ensures.cause c.ship_opened.ensures.ships
