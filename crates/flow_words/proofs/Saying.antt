@@ -102,6 +102,10 @@ no_new rest none word (same, behind) =
 -- ---- what a word that is said has
 
 -- the settings of `new` are those of a store
+pub try_settings : (words : List (List ℕ)) (own : Settings) → Say words (Try own) → AreQueues own.queues
+try_settings [] own says = absurd says
+try_settings (name ∷ rest) own says = says.1.queues_in
+
 pub new_settings : (words : List (List ℕ)) (own : Settings) → Say words (New own) → AreQueues own.queues × IsLimit own.limit
 new_settings [] own says = absurd says
 new_settings (name ∷ []) own says = absurd says.1

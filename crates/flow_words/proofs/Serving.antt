@@ -24,8 +24,13 @@ use Rattle.flow_session.specs.Scripts.{ServesOne, ServesAll, NoInput, OneMore}
 use Rattle.flow_session.specs.Inputs.{Given}
 use Rattle.flow_session.specs.Inputs as session
 use Rattle.flow_session.specs.declared.serving.Session.{Session}
-use Rattle.flow_session.proofs.Calls.{makes_nothing}
-use Rattle.flow_session.proofs.Scripts.{are_runs}
+use Rattle.flow_session.proofs.Calls.{makes_nothing, makes_so}
+use Rattle.flow_session.proofs.Queued.{stands_queue}
+use Rattle.flow_session.proofs.Scripts.{make_asked}
+use Rattle.machine_verdicts.specs.Keyed.{AreKeyed}
+use Rattle.session_laws.proofs.Scripts.{script_replied}
+use Rattle.session_laws.specs.Sittings.{IsWhole}
+use Rattle.worklist_laws.specs.Shelved.{IsRightAndListed}
 use Rattle.text_words.specs.Gathered.{found_input}
 use Rattle.text_words.specs.Limits.{IsWithinLimit, IsBeyondLimit}
 use Rattle.flow_words.specs.Endings.{status_of, ServeCause}
@@ -259,6 +264,12 @@ module _ {J : Type 0} (tells : Type 0) (holds : J → Summary → Type 0) (momen
   printed_one held held' input reply s s' j j' (Ok done) one whole part = (reply, one, whole)
   printed_one held held' input reply s s' j j' (Err status) one whole part = inr (reply, one, part.1)
 
+-- the first inputs, where the next one isn't counted among them
+first_left : (bytes : Option (List ℕ)) (first : List Given) (input : Given) (rest : List Given)
+    → AreFirst bytes (first ++ input ∷ []) rest → AreFirst bytes first (input ∷ rest)
+first_left None first input rest h = tt
+first_left (Some bytes) first input rest h = h ∙ sym (regrouped first input rest)
+
 -- ---- the run
 
 module _ {J : Type 0} (tells : Type 0) (holds : J → Summary → Type 0) (moment : J → ℕ) (left_since : J → ℕ → Image → Type 0) (place : J → Slot × ℕ) (moved : J → J → Summary → Type 0) where
@@ -309,8 +320,9 @@ module _ {J : Type 0} (tells : Type 0) (holds : J → Summary → Type 0) (momen
       journal = j';
       inputs = are_first bytes left lines h.first h.inputs;
       served = h.served;
-      leads = are_runs tells holds moment left_since place moved at_rest s j h.first h.replies s' j' began h.served;
-      under_way = makes_nothing tells moment left_since holds at_rest j' (summary s'.core) (λ _. Unit {0}) held_now tt;
+      answered = λ whole. script_replied tells holds moment left_since place moved s j h.first h.replies s' j' h.served whole;
+      leads = make_asked tells holds moment left_since place moved at_rest s j h.first h.replies s' j' began h.served;
+      under_way = makes_nothing tells moment left_since holds at_rest j' (summary s'.core) _ held_now (inl refl);
       printed = all_printed held held' (all_replies h.replies) h.printed;
       whole = λ e. absurd (let f : Err status ≡ Ok tt = e in cc);
       too_long = λ e. long (let f : Err status ≡ Err ScriptTooLong = e in cc);
@@ -318,24 +330,36 @@ module _ {J : Type 0} (tells : Type 0) (holds : J → Summary → Type 0) (momen
 
     -- a run whose last call fails, or whose last reply isn't printed whole
     pub failed : (bytes left left' : Option (List ℕ)) (lines lines' : Reading) (held mid held' : Option (List ℕ)) (s s' s'' : Session) (j j' j'' : J) (found : Line) (input : Given) (status : Status) (result : Result (Unit {0}) Status) → SoFar bytes left lines held mid s s' j j'
-        → ServesInputs lines left lines' left' (Ok found) → input ≡ input_of (found_input found lines'.text) → ServesAndPrints tells holds moment left_since place moved mid held' input s' s'' j' j'' (Err status) → (result ≡ Ok tt → ⊥) → (result ≡ Err ScriptTooLong → ⊥)
+        → ServesInputs lines left lines' left' (Ok found) → input ≡ input_of (found_input found lines'.text) → result ≡ Err status
+        → ServesAndPrints tells holds moment left_since place moved mid held' input s' s'' j' j'' (Err status) → (result ≡ Ok tt → ⊥) → (result ≡ Err ScriptTooLong → ⊥)
         → (tells → holds j (summary s.core))
         → ServesScript tells holds moment left_since place moved bytes held held' s s'' j j'' result
-    failed bytes left left' lines lines' held mid held' s s' s'' j j' j'' found input status result h serves is (inl (keeps, makes)) fails short began = record {
+    failed bytes left left' lines lines' held mid held' s s' s'' j j' j'' found input status result h serves is same (inl (stop, stops, keeps, makes)) fails short began = record {
       first = h.first;
-      others = others left lines;
+      others = input ∷ others_behind left left' lines' found;
       replies = h.replies;
       last = s';
       journal = j';
-      inputs = are_first bytes left lines h.first h.inputs;
+      inputs = first_left bytes h.first input (others_behind left left' lines' found)
+          (subst (λ (i : Given). AreFirst bytes (h.first ++ i ∷ []) (others_behind left left' lines' found)) (sym is)
+          (first_behind bytes left left' lines lines' h.first found h.inputs serves));
       served = h.served;
-      leads = are_runs tells holds moment left_since place moved at_rest s j h.first h.replies s' j' began h.served;
-      under_way = makes;
+      answered = λ whole. script_replied tells holds moment left_since place moved s j h.first h.replies s' j' h.served whole;
+      leads = make_asked tells holds moment left_since place moved at_rest s j h.first h.replies s' j' began h.served;
+      under_way = makes_so tells moment left_since j' j'' (summary s'.core) _ _ makes (λ ts e. inr (record {
+        input = input;
+        rest = others_behind left left' lines' found;
+        next = refl;
+        asked = e.asked;
+        stop = stop;
+        status = same ∙ ap Err stops;
+        kept = e.kept;
+      }));
       printed = all_printed held held' (all_replies h.replies) (kept_behind held mid held' (all_replies h.replies) h.printed keeps);
       whole = λ e. absurd (fails e);
       too_long = λ e. absurd (short e);
     }
-    failed bytes left left' lines lines' held mid held' s s' s'' j j' j'' found input status result h serves is (inr (reply, served, part)) fails short began = record {
+    failed bytes left left' lines lines' held mid held' s s' s'' j j' j'' found input status result h serves is same (inr (reply, served, part)) fails short began = record {
       first = h.first ++ input ∷ [];
       others = others_behind left left' lines' found;
       replies = h.replies ++ reply ∷ [];
@@ -343,10 +367,12 @@ module _ {J : Type 0} (tells : Type 0) (holds : J → Summary → Type 0) (momen
       journal = j'';
       inputs = subst (λ (i : Given). AreFirst bytes (h.first ++ i ∷ []) (others_behind left left' lines' found)) (sym is) (first_behind bytes left left' lines lines' h.first found h.inputs serves);
       served = OneMore h.served served;
+      answered = λ whole. script_replied tells holds moment left_since place moved s j
+          (h.first ++ input ∷ []) (h.replies ++ reply ∷ []) s'' j'' (OneMore h.served served) whole;
       leads =
-          are_runs tells holds moment left_since place moved at_rest s j (h.first ++ input ∷ []) (h.replies ++ reply ∷ [])
+          make_asked tells holds moment left_since place moved at_rest s j (h.first ++ input ∷ []) (h.replies ++ reply ∷ [])
           s'' j'' began (OneMore h.served served);
-      under_way = makes_nothing tells moment left_since holds at_rest j'' (summary s''.core) (λ _. Unit {0}) served.kept tt;
+      under_way = makes_nothing tells moment left_since holds at_rest j'' (summary s''.core) _ served.kept (inl refl);
       printed = part_printed held mid held' h.replies reply h.printed part;
       whole = λ e. absurd (fails e);
       too_long = λ e. absurd (short e);
@@ -370,10 +396,12 @@ module _ {J : Type 0} (tells : Type 0) (holds : J → Summary → Type 0) (momen
           inputs = subst (λ (i : Given). AreFirst bytes (h.first ++ i ∷ []) []) (sym is)
               (subst (λ (f : Line). AreFirst bytes (h.first ++ input_of (found_input f lines'.text) ∷ []) []) (sym at_end) served_end);
           served = OneMore h.served served;
+          answered = λ whole. script_replied tells holds moment left_since place moved s j
+              (h.first ++ input ∷ []) (h.replies ++ reply ∷ []) s'' j'' (OneMore h.served served) whole;
           leads =
-              are_runs tells holds moment left_since place moved at_rest s j (h.first ++ input ∷ []) (h.replies ++ reply ∷ [])
+              make_asked tells holds moment left_since place moved at_rest s j (h.first ++ input ∷ []) (h.replies ++ reply ∷ [])
               s'' j'' began (OneMore h.served served);
-          under_way = makes_nothing tells moment left_since holds at_rest j'' (summary s''.core) (λ _. Unit {0}) served.kept tt;
+          under_way = makes_nothing tells moment left_since holds at_rest j'' (summary s''.core) _ served.kept (inl refl);
           printed = all_printed held held' (all_replies (h.replies ++ reply ∷ [])) whole_text;
           whole = λ _. (refl, refl, refl, whole_text, within bytes h.first lines'.text served_end);
           too_long = λ e. absurd (let f : Ok tt ≡ Err ScriptTooLong = e in cc);
@@ -382,3 +410,11 @@ module _ {J : Type 0} (tells : Type 0) (holds : J → Summary → Type 0) (momen
 -- what an opened store stands for, the disk stood for before
 pub stood_there : {D : Type 0} (seen : D → Image) (old new : D) (s : Summary) → seen new ≡ seen old → StandsFor s (seen new) → StandsFor s (seen old)
 stood_there seen old new s same stands = subst (StandsFor s) same stands
+
+-- the session over an opened store is whole
+pub opened_whole : (s : Session) (image : Image) → (1 ≤ (summary s.core).queues → IsRightAndListed s.core)
+    → StandsFor (summary s.core) image → AreKeyed s.core → IsWhole s.core
+opened_whole s image right stands keyed = record {
+  right = right (stands_queue image (summary s.core) stands);
+  keyed = keyed;
+}

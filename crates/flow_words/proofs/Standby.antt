@@ -35,29 +35,6 @@ module _ (held held' : Option (List ℕ)) (ended : Status) where
 
 -- ---- why shipping ends
 
--- where no fault of the store is answered, its counts are of no account
-other_counts : (read read' put put' before now store store' : ℕ) (s : Status) → (s ≡ StoreFault → ⊥) → WordCause read read' put put' before now s → WordCause read read' put put' store store' s
-other_counts read read' put put' before now store store' Done other h = tt
-other_counts read read' put put' before now store store' Usage other h = tt
-other_counts read read' put put' before now store store' Store other h = tt
-other_counts read read' put put' before now store store' StoreFault other h = absurd (other refl)
-other_counts read read' put put' before now store store' ReadFault other h = h
-other_counts read read' put put' before now store store' WriteFault other h = h
-other_counts read read' put put' before now store store' NoMemory other h = tt
-other_counts read read' put put' before now store store' ScriptTooLong other h = tt
-other_counts read read' put put' before now store store' Refused other h = tt
-
--- a store that isn't opened for some cause, of which the counts aren't known
-pub refused_cause : (stop : LogStop) (read read' put put' store store' : ℕ) (s : Status)
-    → ((before now : ℕ) → IsOpenCause before now stop → WordCause read read' put put' before now s)
-    → (s ≡ StoreFault → ⊥) → WordCause read read' put put' store store' s
-refused_cause log.StoreFault read read' put put' store store' s cause other = other_counts read read' put put' 0 1 store store' s other (cause 0 1 (omega arith))
-refused_cause log.Unmade read read' put put' store store' s cause other = other_counts read read' put put' 0 0 store store' s other (cause 0 0 refl)
-refused_cause log.Made read read' put put' store store' s cause other = other_counts read read' put put' 0 0 store store' s other (cause 0 0 refl)
-refused_cause (log.Foreign slot) read read' put put' store store' s cause other = other_counts read read' put put' 0 0 store store' s other (cause 0 0 refl)
-refused_cause (log.Damaged slot place) read read' put put' store store' s cause other = other_counts read read' put put' 0 0 store store' s other (cause 0 0 refl)
-refused_cause log.NoMemory read read' put put' store store' s cause other = other_counts read read' put put' 0 0 store store' s other (cause 0 0 refl)
-
 -- what rose, and rose again
 later_rose : (before mid now : ℕ) → Rose before mid → Rose mid now → Rose before now
 later_rose before mid now first again = omega (arith, first, again)

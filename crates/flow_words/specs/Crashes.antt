@@ -26,7 +26,7 @@ EndsDone (Err status) = status ≡ Done
 abbrev pub empty_history : ℕ → ℕ → Summary
 empty_history queues limit = record { queues = queues; limit = limit; transactions = 0; roots = 0; live = [] }
 
--- A store with so many queues and this limit is made: a crash at any moment leaves what was there, or where no store was
+-- A store with this number of queues and this limit is made: a crash at any moment leaves what was there, or where no store was
 -- there none or exactly the new one; where the run is done, every image stands for its empty history.
 pub record MakesStore {D : Type 0} (queues limit : ℕ) (f : Files D) (IsDone : Type 0) : Type 0 where
   pub any_moment : LeavesOnly f.disk.moment f.disk.left_since f.old f.new (MayBeMade queues limit (f.disk.seen f.old))

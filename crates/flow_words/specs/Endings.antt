@@ -1,5 +1,5 @@
 -- How a run may end: a fault is answered only where the outside counted one.
-use Rattle.std.specs.Prelude.{ℕ, ◌≢◌, Option, None, Some}
+use Rattle.std.specs.Prelude.{ℕ, Option, None, Some}
 use Rattle.flow_io.specs.Causes.{Rose}
 use Rattle.flow_io.specs.declared.lines.IoStop.{IoStop}
 use Rattle.flow_io.specs.declared.lines.IoStop.TheVariants as stop
@@ -114,8 +114,7 @@ abbrev pub StoreCause : {D : Type 0} → Channels → Files D → Status → Typ
 StoreCause c f ended =
     WordCause c.reads c.reads' c.puts c.puts' (f.disk.faults f.old) (f.disk.faults f.new) ended
 
--- Why a run ends so, by the word that is said. Words that need no store never end by one. Of `ship` it isn't known that
--- the disk counted a fault of the store.
+-- Why a run ends so, by the word that is said. Words that need no store never end by one.
 abbrev pub IsCaused : {D : Type 0} → Option Word → Channels → Files D → Status → Type 0
 IsCaused None c f ended = EndCause c.reads c.reads' c.puts c.puts' ended
 IsCaused (Some Check) c f ended = EndCause c.reads c.reads' c.puts c.puts' ended
@@ -128,4 +127,4 @@ IsCaused (Some Follow) c f ended = StoreCause c f ended
 IsCaused (Some Explain) c f ended = StoreCause c f ended
 IsCaused (Some Verify) c f ended = StoreCause c f ended
 IsCaused (Some Overdue) c f ended = StoreCause c f ended
-IsCaused (Some (Ship number)) c f ended = ended ≢ StoreFault → StoreCause c f ended
+IsCaused (Some (Ship number)) c f ended = StoreCause c f ended

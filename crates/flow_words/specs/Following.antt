@@ -32,14 +32,14 @@ PrintsResult (Err follow.TooLong) held held' ended = EndsSilent ScriptTooLong he
 PrintsResult (Err follow.NoMemory) held held' ended = EndsSilent NoMemory held held' ended
 PrintsResult (Err stop) held held' ended = PrintsLine (follow_refusal_line stop) Refused held held' ended
 
--- following comes to this: the store isn't opened and nothing is read, or it is and the source is followed
+-- the result of following: the store isn't opened and nothing is read, or it is and the source is followed
 abbrev pub ComesToResult : Type 0 → Image → (Image → Type 0) → Option (List ℕ) → Option (List ℕ)
     → Result Followed FollowStop → Type 0
 ComesToResult tells seen images left left' result =
     (MatchResult result (λ _. ⊥) (IsNotOpened (λ stop. tells → IsUnopened seen stop)) × Keeps left left')
     ⊎ FollowsOpened tells seen images left left' result
 
--- `follow`: following comes to a result, and that is printed
+-- `follow`: the result of following is printed
 pub record PrintsFollowed {D : Type 0} (c : Channels) (f : Files D) (ended : Status) : Type 0 where
   pub result : Result Followed FollowStop
   pub comes_to : ComesToResult f.disk.tells (f.disk.seen f.old) (f.disk.images f.new) c.left c.left' result

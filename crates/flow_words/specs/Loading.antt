@@ -39,7 +39,7 @@ amount_by x = x / 65536 % 201
 abbrev pub is_above : ℕ → Bool
 is_above amount = nat_lt 100 amount
 
--- how many of the first so many roots have an amount above 100
+-- how many of this number of first roots have an amount above 100
 abbrev pub above : ℕ → ℕ → ℕ
 above seed zero = 0
 above seed (suc root) = above seed root + (if is_above (amount_by (number_of seed (suc root))) then 1 else 0)
@@ -92,7 +92,7 @@ unfoldable pub root_script : ℕ → ℕ → List Given
 root_script root amount = drained (start_line amount) ++ drained (force_with root 65 amount)
     ++ drained (force_line root (way amount)) ++ drained (force_line root 68)
 
--- the lines for the first so many roots
+-- the lines for this number of first roots
 abbrev pub roots_script : ℕ → ℕ → List Given
 roots_script seed zero = []
 roots_script seed (suc root) = roots_script seed root ++ root_script (suc root) (amount_by (number_of seed (suc root)))
@@ -149,7 +149,7 @@ pub record Serves (inputs : List Given) (old new : Loading) : Type 0 where
   pub served : ServesInMemory old.session old.journal inputs replies new.session new.journal
   pub counted : new.bytes ≡ old.bytes + length (all_replies replies)
 
--- the line of a load that has come so far, where so many amounts are above 100
+-- the line of a load that has come so far, where this number of amounts is above 100
 abbrev pub IsSummary : ℕ → ℕ → ℕ → Loading → List ℕ → Type 0
 IsSummary seed roots over load text = text ≡ load_line
     (seed ∷ roots ∷ load.session.core.number ∷ turns_of load.session.core.live.items ∷ done_in load.session.core ∷ over

@@ -12,7 +12,7 @@ use Rattle.flow_words.specs.Printed.{Prints}
 use Rattle.flow_words.specs.declared.status.Status.{Status}
 use Rattle.flow_words.specs.declared.status.Status.TheVariants.{Done}
 
--- a store is made: every image stands for the empty history with so many queues and this limit, and that it is made is
+-- a store is made: every image stands for the empty history with these queues and this limit, and that it is made is
 -- printed
 pub record IsMade {D : Type 0} (queues limit : ℕ) (f : Files D) (held held' : Option (List ℕ)) (ended : Status)
     : Type 0 where
@@ -26,6 +26,6 @@ pub record IsNotMade {D : Type 0} (f : Files D) (held held' : Option (List ℕ))
   pub told : f.disk.tells → IsMakeRefusal stop (store_of (f.disk.seen f.old))
   pub refused : RefusesStore stop held held' ended
 
--- `new`: a store with so many queues and this limit is made, or none is
+-- `new`: a store with these queues and this limit is made, or none is
 abbrev pub PrintsMade : {D : Type 0} → ℕ → ℕ → Files D → Option (List ℕ) → Option (List ℕ) → Status → Type 0
 PrintsMade queues limit f held held' ended = IsMade queues limit f held held' ended ⊎ IsNotMade f held held' ended

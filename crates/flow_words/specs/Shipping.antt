@@ -24,14 +24,14 @@ EndsShipping (Err (ship.Ahead number)) held held' ended = PrintsLine
 EndsShipping (Err ship.WriteFault) held held' ended = EndsSilent WriteFault held held' ended
 EndsShipping (Err ship.NoMemory) held held' ended = EndsSilent NoMemory held held' ended
 
--- shipping from a number comes to this: the store isn't opened and nothing is put, or it is and its stream is put, as
+-- the result of shipping from a number: the store isn't opened and nothing is put, or it is and its stream is put, as
 -- far as shipping comes
 abbrev pub ShipsTo : Type 0 → Image → ℕ → Option (List ℕ) → Option (List ℕ) → Result ℕ ShipStop → Type 0
 ShipsTo tells seen from held held' result =
     (MatchResult result (λ _. ⊥) (IsUnopened (λ stop. tells → IsRefusedStore seen stop)) × Keeps held held')
     ⊎ ShipsOpened tells seen from held held' result
 
--- `ship`: a store is shipped from a number, which comes to a result, and what that asks for is printed behind it
+-- `ship`: a store is shipped from a number, and what its result asks for is printed behind it
 pub record PrintsShipped {D : Type 0} (from : ℕ) (f : Files D) (held held' : Option (List ℕ)) (ended : Status)
     : Type 0 where
   pub shipped : Option (List ℕ)

@@ -1,5 +1,5 @@
 //! The words of a standby store: `ship` and `follow`.
-ghost use Rattle.std.specs.Prelude.{◌≢◌, ℕ, Err, IfErr, IsOk, MatchResult};
+ghost use Rattle.std.specs.Prelude.{ℕ, Err, IfErr, IsOk, MatchResult};
 ghost use Rattle.standby.specs.Endings.{FollowEnd};
 ghost use Rattle.flow_words.specs.Crashes.{EndsDone, IsFailing, ServesFiles};
 ghost use Rattle.flow_words.specs.Endings.{WordCause};
@@ -7,7 +7,6 @@ ghost use Rattle.flow_words.specs.Following.{PrintsFollowed, PrintsResult};
 ghost use Rattle.flow_words.specs.Outside.{channels, files, IfSettled, KeepsFiles};
 ghost use Rattle.flow_words.specs.Scripts.{status_of_word};
 ghost use Rattle.flow_words.specs.Shipping.{PrintsShipped};
-ghost use Rattle.flow_words.specs.declared.status.Status.TheVariants.{StoreFault as StoreFaultStatus};
 
 use crate::looking::print_answer;
 use crate::refusing::refuse;
@@ -27,8 +26,8 @@ pub fn ship_from<K: Sink, D: Disk>(
     disk: &mut D,
 ) -> Result<Status, Status>
     ensures keeps { IfSettled (files D.Disk disk.old disk.new) (KeepsFiles (files D.Disk disk.old disk.new)) }
-    ensures cause { (read read' store store' : ℕ) → status_of_word result ≢ StoreFaultStatus
-        → WordCause read read' (K.faults out.old) (K.faults out.new) store store' (status_of_word result) }
+    ensures cause { (read read' : ℕ) → WordCause read read' (K.faults out.old) (K.faults out.new)
+        (D.faults disk.old) (D.faults disk.new) (status_of_word result) }
     ensures ships { PrintsShipped from (files D.Disk disk.old disk.new) (K.held out.old) (K.held out.new)
         (status_of_word result) }
 {

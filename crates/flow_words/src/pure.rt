@@ -3,6 +3,7 @@ ghost use Rattle.std.specs.Prelude.{◌≡◌, ℕ, MatchResult};
 ghost use Rattle.std.specs.Io.KnownBytes.{Keeps};
 ghost use Rattle.flow_words.specs.Endings.{PrintCause, EndCause};
 ghost use Rattle.flow_words.specs.Loading.{PrintsLoaded};
+ghost use Rattle.flow_words.specs.Numbers.{AreQueues};
 ghost use Rattle.flow_words.specs.Printed.{Prints, PrintsAnswer, IsCheckOf, IsFateOf, answer_status};
 ghost use Rattle.flow_words.specs.Scripts.{TriesScript};
 ghost use Rattle.flow_words.specs.declared.status.Status.TheVariants.{NoMemory as NoMemoryStatus};
@@ -79,6 +80,7 @@ pub fn serve_script<S: Source, K: Sink>(
     src: &mut S,
     out: &mut K,
 ) -> Status
+    requires { AreQueues settings.queues }
     ensures cause { EndCause (S.faults src.old) (S.faults src.new) (K.faults out.old) (K.faults out.new) result }
     ensures tries { TriesScript settings.queues settings.limit (S.left src.old) (K.held out.old)
         (K.held out.new) result }

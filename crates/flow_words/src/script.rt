@@ -6,6 +6,7 @@ ghost use Rattle.flow_session.specs.Inputs.{given};
 ghost use Rattle.flow_session.specs.Leading.{MakesSteps};
 ghost use Rattle.flow_words.specs.Crashes.{IsFailing};
 ghost use Rattle.flow_words.specs.Endings.{PrintCause, ServeCause, RunCause, StopsScript, status_of, status_of_stop};
+ghost use Rattle.flow_words.specs.Numbers.{AreQueues};
 ghost use Rattle.flow_words.specs.Printed.{PrintsPart};
 ghost use Rattle.flow_words.specs.Scripts.{input_of as given_of, ServesAndPrints, ServesScript, IsTried};
 ghost use Rattle.text_words.specs.Gathered.{found_input};
@@ -146,6 +147,7 @@ pub fn try_script<S: Source, K: Sink>(
     src: &mut S,
     out: &mut K,
 ) -> Result<(), Status>
+    requires { AreQueues settings.queues }
     ensures cause { IfErr result (RunCause (S.faults src.old) (S.faults src.new)
         (K.faults out.old) (K.faults out.new) 0 0) }
     ensures stops { IfErr result StopsScript }

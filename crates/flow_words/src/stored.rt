@@ -170,8 +170,7 @@ fn ended(end: Result<Status, Status>) -> Status
 /// first on. Where the status is `Done`, it leaves the new store, or the history with all of them.
 ///
 /// `ReadFault`, `WriteFault` and `StoreFault` come only where the count of faults of the source, the sink and the disk
-/// rose; that of the disk isn't known of `ship`. Words that need no store leave the disk as it was, and those that read
-/// nothing the source.
+/// rose. Words that need no store leave the disk as it was, and those that read nothing the source.
 pub fn run<S: Source, K: Sink, D: Disk + Drop>(
     alloc: Global,
     words: &[String],

@@ -7,7 +7,7 @@ ghost use Rattle.flow_words.specs.declared.word.Word.TheVariants.{Explain as Exp
 
 use crate::numbers::{Settings, number_in, settings_of};
 
-/// A load begins with a number below 2^31 and makes at most so many roots.
+/// A load begins with a number below this, 2^31, and makes at most as many roots.
 const MOST_SEED: u64 = 2_147_483_647;
 
 const MOST_ROOTS: u64 = 20_000;

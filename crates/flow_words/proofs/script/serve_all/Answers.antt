@@ -1,11 +1,11 @@
-use Rattle.std.proofs.Common.{◌≡◌, [], refl, rules}
+use Rattle.std.proofs.Common.{◌≡◌, ◌∙◌, Err, [], ap, refl, rules}
 use Rattle.std.proofs.lemmas.Result.{err_from_is_err_and}
 use Rattle.flow_core.specs.Summaries.{summary}
 use Rattle.flow_session.specs.Inputs.{given}
 use Rattle.flow_session.proofs.Calls.{makes_nothing, makes_more, makes_so}
 use Rattle.flow_session.proofs.Leading.{leads_none, leads_on}
 use Rattle.flow_words.proofs.Serving.{nothing_so_far, one_so_far, stopped, failed, ended, too_long, never_long}
-use Rattle.flow_words.specs.declared.status.Status.TheVariants.{WriteFault, NoMemory, ScriptTooLong}
+use Rattle.flow_words.specs.declared.status.Status.TheVariants.{NoMemory, ScriptTooLong}
 use Rattle.flow_words.proofs.script.serve_all.Goals as goal
 
 pub returns-in-Err-clause-makes : goal.returns-in-Err-clause-makes
@@ -57,7 +57,7 @@ returns-in_err-serve_one-clause-makes g c =
 pub returns-in_err-serve_one-clause-serves : goal.returns-in_err-serve_one-clause-serves
 returns-in_err-serve_one-clause-serves g c =
     let p = err_from_is_err_and c.from_residual.result c.from_residual.ensures.1 in
-    failed g.J.Journal.tells g.J.Journal.holds g.J.Journal.moment g.J.Journal.left_since g.J.Journal.place g.J.Journal.moved g.met.J.Journal.at_rest (g.S.Source.left c.args.src.now) (g.S.Source.left c.inputs.src) (g.S.Source.left c.next.new.src) c.inputs.lines c.next.new.self (g.K.Sink.held c.args.out.now) (g.K.Sink.held c.inputs.out) (g.K.Sink.held c.serve_one.new.out) c.args.session.now c.inputs.session c.serve_one.new.session c.args.journal.now c.inputs.journal c.serve_one.new.journal c.in-Ok-next.found (given c.input_of-input.result) WriteFault _ c.inputs.invariant.so_far c.in-Ok-next.ensures.serves (search rules) c.in_err-serve_one.ensures.served (λ e. search rules)
+    failed g.J.Journal.tells g.J.Journal.holds g.J.Journal.moment g.J.Journal.left_since g.J.Journal.place g.J.Journal.moved g.met.J.Journal.at_rest (g.S.Source.left c.args.src.now) (g.S.Source.left c.inputs.src) (g.S.Source.left c.next.new.src) c.inputs.lines c.next.new.self (g.K.Sink.held c.args.out.now) (g.K.Sink.held c.inputs.out) (g.K.Sink.held c.serve_one.new.out) c.args.session.now c.inputs.session c.serve_one.new.session c.args.journal.now c.inputs.journal c.serve_one.new.journal c.in-Ok-next.found (given c.input_of-input.result) c.in_err-serve_one.field-0.0 _ c.inputs.invariant.so_far c.in-Ok-next.ensures.serves (search rules) (p.1 ∙ ap Err p.2) c.in_err-serve_one.ensures.served (λ e. search rules)
     (never_long (g.K.Sink.faults c.inputs.out) (g.K.Sink.faults c.serve_one.new.out) (g.J.Journal.faults c.inputs.journal)
     (g.J.Journal.faults c.serve_one.new.journal) c.from_residual.result c.in_err-serve_one.field-0.0 p.0 p.1 p.2
     c.in_err-serve_one.ensures.cause) c.requires.open

@@ -5,7 +5,7 @@ use Rattle.flow_words.specs.Outside.{files}
 use Rattle.flow_words.specs.Said.{Say}
 use Rattle.flow_words.specs.Scripts.{status_of_word}
 use Rattle.flow_words.specs.declared.word.Word.{Word}
-use Rattle.flow_words.proofs.Saying.{new_settings}
+use Rattle.flow_words.proofs.Saying.{new_settings, try_settings}
 use Rattle.flow_words.proofs.stored.obey.Goals as goal
 
 pub returns-in-Check-clause-prints : goal.returns-in-Check-clause-prints
@@ -37,6 +37,11 @@ returns-in-Fate-clause-source g c = rw c.in-Fate.is tt
 
 pub returns-in-Fate-clause-untouched : goal.returns-in-Fate-clause-untouched
 returns-in-Fate-clause-untouched g c = rw c.in-Fate.is refl
+
+pub serve_script-requires : goal.serve_script-requires
+serve_script-requires g c =
+    try_settings (map string_bytes c.args.words.now) c.in-Try.settings
+    (subst (λ (w : Word). Say (map string_bytes c.args.words.now) w) c.in-Try.is c.requires)
 
 pub returns-in-Try-clause-prints : goal.returns-in-Try-clause-prints
 returns-in-Try-clause-prints g c = rw c.in-Try.is c.serve_script.ensures.tries
@@ -162,7 +167,7 @@ pub returns-in-Ship-clause-prints : goal.returns-in-Ship-clause-prints
 returns-in-Ship-clause-prints g c = rw c.in-Ship.is c.ship_from.ensures.ships
 
 pub returns-in-Ship-clause-causes : goal.returns-in-Ship-clause-causes
-returns-in-Ship-clause-causes g c = rw c.in-Ship.is (c.ship_from.ensures.cause (g.S.Source.faults c.args.src.now) (g.S.Source.faults c.args.src.now) (g.D.Disk.faults c.args.disk) (g.D.Disk.faults c.ship_from.new.disk))
+returns-in-Ship-clause-causes g c = rw c.in-Ship.is (c.ship_from.ensures.cause (g.S.Source.faults c.args.src.now) (g.S.Source.faults c.args.src.now))
 
 pub returns-in-Ship-clause-crash : goal.returns-in-Ship-clause-crash
 returns-in-Ship-clause-crash g c told only = rw c.in-Ship.is (c.ship_from.ensures.keeps told only)

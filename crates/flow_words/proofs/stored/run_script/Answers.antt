@@ -1,7 +1,7 @@
 use Rattle.std.proofs.Common.{inr, rules}
 use Rattle.flow_core.specs.Summaries.{summary}
 use Rattle.flow_session.proofs.Runs.{opened, served}
-use Rattle.flow_words.proofs.Serving.{stood_there}
+use Rattle.flow_words.proofs.Serving.{opened_whole, stood_there}
 use Rattle.flow_words.proofs.stored.run_script.Goals as goal
 
 pub returns-in-Ok-default-clause-store : goal.returns-in-Ok-default-clause-store
@@ -32,8 +32,13 @@ returns-in-Ok-default-clause-runs g c = inr (
     stood = λ told. stood_there g.D.Disk.seen c.args.disk c.reopen.new.disk (summary c.in-Ok.session.core) c.in-Ok.ensures.seen (c.in-Ok.ensures.open told).holds;
     state = c.in-Ok.ensures.state;
     outside = c.in-Ok.ensures.outside;
-    right = c.in-Ok.ensures.right;
+    whole = λ told. opened_whole c.in-Ok.session (g.D.Disk.seen c.args.disk) c.in-Ok.ensures.right
+        (stood_there g.D.Disk.seen c.args.disk c.reopen.new.disk (summary c.in-Ok.session.core) c.in-Ok.ensures.seen
+        (c.in-Ok.ensures.open told).holds) (c.in-Ok.ensures.state told).keyed;
     serves = c.serve_store.ensures.serves;
+    answered = λ told. c.serve_store.ensures.serves.script.answered (opened_whole c.in-Ok.session (g.D.Disk.seen c.args.disk) c.in-Ok.ensures.right
+        (stood_there g.D.Disk.seen c.args.disk c.reopen.new.disk (summary c.in-Ok.session.core) c.in-Ok.ensures.seen
+        (c.in-Ok.ensures.open told).holds) (c.in-Ok.ensures.state told).keyed);
   },
   search rules,
 )
@@ -49,8 +54,13 @@ returns-in-Err-default-clause-runs g c = inr (
     stood = λ told. stood_there g.D.Disk.seen c.args.disk c.reopen.new.disk (summary c.in-Ok.session.core) c.in-Ok.ensures.seen (c.in-Ok.ensures.open told).holds;
     state = c.in-Ok.ensures.state;
     outside = c.in-Ok.ensures.outside;
-    right = c.in-Ok.ensures.right;
+    whole = λ told. opened_whole c.in-Ok.session (g.D.Disk.seen c.args.disk) c.in-Ok.ensures.right
+        (stood_there g.D.Disk.seen c.args.disk c.reopen.new.disk (summary c.in-Ok.session.core) c.in-Ok.ensures.seen
+        (c.in-Ok.ensures.open told).holds) (c.in-Ok.ensures.state told).keyed;
     serves = c.serve_store.ensures.serves;
+    answered = λ told. c.serve_store.ensures.serves.script.answered (opened_whole c.in-Ok.session (g.D.Disk.seen c.args.disk) c.in-Ok.ensures.right
+        (stood_there g.D.Disk.seen c.args.disk c.reopen.new.disk (summary c.in-Ok.session.core) c.in-Ok.ensures.seen
+        (c.in-Ok.ensures.open told).holds) (c.in-Ok.ensures.state told).keyed);
   },
   search rules,
 )
