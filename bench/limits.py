@@ -328,6 +328,21 @@ def calls_of_alike():
     return filled(head, unit, "END 'P'\n")
 
 
+def calls_of_deep():
+    """Calls whose containers are another structure than those of the process, with the same 512 leaves, each 1,000
+    members deep."""
+    count = scaled(1000)
+    head = []
+    for title in "VW":
+        head += [f"STRUCTURE '{title}0' 'n' : LONG (512) ; END '{title}0'\n"]
+        head += [f"STRUCTURE '{title}{i}' 'm' : '{title}{i - 1}' ; END '{title}{i}'\n" for i in range(1, count)]
+    ours, theirs = f"V{count - 1}", f"W{count - 1}"
+    head += [f"PROCESS 'Q' ('{theirs}','{theirs}')\n{activity('A', container=theirs)}END 'Q'\n"]
+    head += [f"PROCESS 'P' ('{ours}','{ours}')\n"]
+    unit = lambda i: f"PROCESS_ACTIVITY 'C{i}' ('{ours}','{ours}') PROCESS 'Q' END 'C{i}'\n"
+    return filled("".join(head), unit, "END 'P'\n")
+
+
 def attributes():
     rest = "WHEN ALL CONNECTORS TRUE START MANUAL EXPIRES 1 DONE_BY ROLE 'clerk' "
     return in_process(lambda i: activity(f"A{i}", rest))
@@ -458,7 +473,7 @@ class Row:
 TEXTS = [structures, members, structure_chain, structure_chain_used, structure_fan, structure_wide, persons, roles,
          comments, comment, blanks, activities, processes, connector_chain, connectors, cycles, otherwises, performers,
          first_performers, data_chain, data_far, walks, data_maps, data_map, conditions, long_conditions, nested_conditions,
-         blocks, flat_blocks, calls, calls_of_wide, calls_of_alike, attributes, texts]
+         blocks, flat_blocks, calls, calls_of_wide, calls_of_alike, calls_of_deep, attributes, texts]
 FATES = [fate_attempts, fate_items, fate_blocks, fate_inner, fate_wide, fate_refused]
 SERVED = ["try", "LIMIT", "10000000"]
 
