@@ -1,9 +1,8 @@
 -- Where nothing stands against a condition, nothing stands against its parts.
 use Rattle.std.proofs.Common.{◌≡◌, ℕ, ◌<◌, ◌+◌, Option, Some, None, List, [], ◌∷◌, ◌++◌, length, map, get_or, drop, refl, sym, ap, ◌∙◌, subst, append_assoc, append-nil, ◌≤◌}
-use Rattle.std.specs.Prelude.{◌⊎◌, Box}
+use Rattle.std.specs.Prelude.{◌⊎◌}
 use Rattle.std.proofs.Common.{inl, inr}
 use Rattle.std.specs.Option.{option_or}
-use Rattle.std.specs.declared.alloc.Global.{Global}
 use Rattle.std.proofs.lemmas.List.{drop_more, drop_all}
 use Rattle.flow_model.specs.declared.graphs.Expr.{Expr}
 use Rattle.flow_model.specs.declared.graphs.Expr.TheVariants as expr
@@ -34,7 +33,7 @@ clear_and leaves members h = record {
   sized = sym (fold_and unsized_by members) ∙ h.sized;
 }
 
-pub clear_not : (leaves : List Leaf) (member : Box Cond Global) → IsClear leaves (Not member) → IsClear leaves member.value
+pub clear_not : (leaves : List Leaf) (member : Cond) → IsClear leaves (Not member) → IsClear leaves member
 clear_not leaves member h = record {
   known = sym (ap (λ (c : Cond). unknown_leaf leaves c) (sym (rolls-Not member)) ∙ fold-roll-Cond (Option ℕ) (unknown_by leaves) (Cond-F.Not member)) ∙ h.known;
   alike = sym (ap (λ (c : Cond). mismatch leaves c) (sym (rolls-Not member)) ∙ fold-roll-Cond (Option ℕ) (mismatch_by leaves) (Cond-F.Not member)) ∙ h.alike;
@@ -92,11 +91,10 @@ both_resolved leaves written members given made is same h clear =
     subst (λ (c : Cond). IsResolved leaves c (expr.And made)) (sym is) (BothOf (subst (λ (ms : List Cond). AreResolved leaves ms made) same
     (h (subst (λ (ms : List Cond). AreClear leaves ms) (sym same) (clear_and leaves members (subst (λ (c : Cond). IsClear leaves c) is clear))))))
 
-pub not_resolved : (leaves : List Leaf) (written : Cond) (member : Box Cond Global) (given : Cond) (one : Expr) (made : Box Expr Global)
-    → written ≡ Not member → given ≡ member.value → made.value ≡ one
+pub not_resolved : (leaves : List Leaf) (written member given : Cond) (one made : Expr) → written ≡ Not member → given ≡ member → made ≡ one
     → (IsClear leaves given → IsResolved leaves given one) → IsClear leaves written → IsResolved leaves written (expr.Not made)
 not_resolved leaves written member given one made is same boxed h clear =
-    subst (λ (c : Cond). IsResolved leaves c (expr.Not made)) (sym is) (NotOf (subst (λ (e : Expr). IsResolved leaves member.value e) (sym boxed)
+    subst (λ (c : Cond). IsResolved leaves c (expr.Not made)) (sym is) (NotOf (subst (λ (e : Expr). IsResolved leaves member e) (sym boxed)
     (subst (λ (c : Cond). IsResolved leaves c one) same (h (subst (λ (c : Cond). IsClear leaves c) (sym same) (clear_not leaves member (subst (λ (c : Cond). IsClear leaves c) is clear)))))))
 
 -- sides of one kind of which one is no text are sums of numbers

@@ -47,7 +47,7 @@ unknown_side leaves (side.Sum terms) = first_found (map (unknown_term leaves) te
 abbrev pub unknown_by : List Leaf → Cond-F (Option ℕ) → Option ℕ
 unknown_by leaves (Cond-F.Or members) = first_found members
 unknown_by leaves (Cond-F.And members) = first_found members
-unknown_by leaves (Cond-F.Not member) = member.value
+unknown_by leaves (Cond-F.Not member) = member
 unknown_by leaves (Cond-F.Compare left operator right) = option_or (unknown_side leaves left)
     (unknown_side leaves right)
 
@@ -108,7 +108,7 @@ side_place (side.Sum (term ∷ terms)) = operand_place term.operand
 abbrev pub mismatch_by : List Leaf → Cond-F (Option ℕ) → Option ℕ
 mismatch_by leaves (Cond-F.Or members) = first_found members
 mismatch_by leaves (Cond-F.And members) = first_found members
-mismatch_by leaves (Cond-F.Not member) = member.value
+mismatch_by leaves (Cond-F.Not member) = member
 mismatch_by leaves (Cond-F.Compare left operator right) = if same_kind (side_kind leaves left)
     (side_kind leaves right) then None else Some (side_place left)
 
@@ -133,7 +133,7 @@ unsized_side (side.Sum terms) = first_found (map unsized_term terms)
 abbrev pub unsized_by : Cond-F (Option ℕ) → Option ℕ
 unsized_by (Cond-F.Or members) = first_found members
 unsized_by (Cond-F.And members) = first_found members
-unsized_by (Cond-F.Not member) = member.value
+unsized_by (Cond-F.Not member) = member
 unsized_by (Cond-F.Compare left operator right) = option_or (unsized_side left) (unsized_side right)
 
 -- the place of the first number of a condition that has no 64 bits

@@ -1,7 +1,6 @@
 -- A written condition with places for its leaves.
-use Rattle.std.specs.Prelude.{◌≡◌, if◌then◌else◌, Box, Option, Some, None, Result, Ok, Err, List, [], ◌∷◌, map}
+use Rattle.std.specs.Prelude.{◌≡◌, if◌then◌else◌, Option, Some, None, Result, Ok, Err, List, [], ◌∷◌, map}
 use Rattle.std.specs.Option.{option_map}
-use Rattle.std.specs.declared.alloc.Global.{Global}
 use Rattle.containers.specs.Named.{leaf_place}
 use Rattle.containers.specs.Settings.{written_number}
 use Rattle.flow_model.specs.declared.graphs.Expr.{Expr}
@@ -60,7 +59,7 @@ mutual
         → IsResolved leaves (cond.Or members) (expr.Or made)
     BothOf : {members : List Cond} {made : List Expr} → AreResolved leaves members made
         → IsResolved leaves (cond.And members) (expr.And made)
-    NotOf : {member : Box Cond Global} {made : Box Expr Global} → IsResolved leaves member.value made.value
+    NotOf : {member : Cond} {made : Expr} → IsResolved leaves member made
         → IsResolved leaves (cond.Not member) (expr.Not made)
     TextsOf : {left right : Side} {operator : Operator} {first second : TextSide}
         → resolved_text leaves left ≡ Some first → resolved_text leaves right ≡ Some second

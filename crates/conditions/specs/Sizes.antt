@@ -18,7 +18,7 @@ side_operands (side.Sum terms) = length terms
 abbrev pub operands_by : Cond-F ℕ → ℕ
 operands_by (Cond-F.Or members) = sum members
 operands_by (Cond-F.And members) = sum members
-operands_by (Cond-F.Not member) = member.value
+operands_by (Cond-F.Not member) = member
 operands_by (Cond-F.Compare left operator right) = side_operands left + side_operands right
 
 -- the operands of a condition
@@ -28,7 +28,7 @@ operands_of = fold-Cond ℕ operands_by
 abbrev pub nodes_by : Cond-F ℕ → ℕ
 nodes_by (Cond-F.Or members) = sum members + (length members - 1)
 nodes_by (Cond-F.And members) = sum members + (length members - 1)
-nodes_by (Cond-F.Not member) = member.value + 1
+nodes_by (Cond-F.Not member) = member + 1
 nodes_by (Cond-F.Compare left operator right) = 1
 
 -- the comparisons of a condition, with its words NOT, and the words OR and AND between two members

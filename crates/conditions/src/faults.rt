@@ -86,7 +86,7 @@ pub fn first_unknown(cond: &Cond, leaves: &Leaves) -> Option<u32>
     match cond {
         Cond::Or(members) => first_unknown_among(members.as_slice(), leaves),
         Cond::And(members) => first_unknown_among(members.as_slice(), leaves),
-        Cond::Not(member) => first_unknown(member, leaves),
+        Cond::Not(member) => first_unknown(member.get(), leaves),
         Cond::Compare(left, _, right) => {
             unknown_in_side(left, leaves).or(unknown_in_side(right, leaves))
         }
@@ -210,7 +210,7 @@ pub fn first_mismatch(cond: &Cond, leaves: &Leaves) -> Option<u32>
     match cond {
         Cond::Or(members) => first_mismatch_among(members.as_slice(), leaves),
         Cond::And(members) => first_mismatch_among(members.as_slice(), leaves),
-        Cond::Not(member) => first_mismatch(member, leaves),
+        Cond::Not(member) => first_mismatch(member.get(), leaves),
         Cond::Compare(left, _, right) => mismatch_between(left, right, leaves),
     }
 }
@@ -271,7 +271,7 @@ pub fn first_number_fault(cond: &Cond) -> Option<u32>
     match cond {
         Cond::Or(members) => first_number_fault_among(members.as_slice()),
         Cond::And(members) => first_number_fault_among(members.as_slice()),
-        Cond::Not(member) => first_number_fault(member),
+        Cond::Not(member) => first_number_fault(member.get()),
         Cond::Compare(left, _, right) => {
             number_fault_in_side(left).or(number_fault_in_side(right))
         }
@@ -326,7 +326,7 @@ pub fn size_of(cond: &Cond) -> Size
     match cond {
         Cond::Or(members) => size_among(members.as_slice()),
         Cond::And(members) => size_among(members.as_slice()),
-        Cond::Not(member) => size_of(member).plus(Size {
+        Cond::Not(member) => size_of(member.get()).plus(Size {
             operands: 0,
             nodes: 1,
         }),

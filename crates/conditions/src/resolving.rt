@@ -8,7 +8,7 @@ ghost use Rattle.flow_model.specs.declared.trees.Cond.TheVariants.{Compare};
 use crate::faults::{first_mismatch, first_number_fault, first_unknown, is_text_term};
 use containers::{find_leaf, number_value};
 use flow_model::{
-    Cond, Expr, Leaves, List, Operand, OperandTree, Operator, Side, Term, TermTree, TextSide,
+    Boxed, Cond, Expr, Leaves, List, Operand, OperandTree, Operator, Side, Term, TermTree, TextSide,
 };
 use std::alloc::{AllocError, Global};
 use thiserror::Error;
@@ -150,16 +150,6 @@ fn comparison(
     }
 }
 
-/// A condition on its own in memory.
-fn boxed(alloc: Global, expr: Expr) -> Result<Box<Expr>, TypeFault>
-    ensures { MatchResult result (λ made. made.value ≡ expr) (λ fault. fault ≡ NoMemory) }
-{
-    match Box::new(alloc, expr) {
-        Ok(made) => Ok(made),
-        Err(_) => Err(TypeFault::NoMemory),
-    }
-}
-
 /// The members of a condition with places for leaves, where nothing stands against them.
 #[cycle(expression)]
 fn members_of(alloc: Global, members: &[Cond], leaves: &Leaves) -> Result<List<Expr>, TypeFault>
@@ -183,8 +173,8 @@ fn expr_of(alloc: Global, cond: &Cond, leaves: &Leaves) -> Result<Expr, TypeFaul
         Cond::Or(members) => Ok(Expr::Or(members_of(alloc, members.as_slice(), leaves)?)),
         Cond::And(members) => Ok(Expr::And(members_of(alloc, members.as_slice(), leaves)?)),
         Cond::Not(member) => {
-            let resolved = expr_of(alloc, member, leaves)?;
-            Ok(Expr::Not(boxed(alloc, resolved)?))
+            let resolved = expr_of(alloc, member.get(), leaves)?;
+            Ok(Expr::Not(Boxed::new(alloc, resolved)?))
         }
         Cond::Compare(left, operator, right) => comparison(alloc, left, *operator, right, leaves),
     }

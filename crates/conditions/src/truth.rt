@@ -98,7 +98,7 @@ pub fn value(e: &Expr, container: &Container) -> bool
             }
             true
         }
-        Expr::Not(member) => !value(member, container),
+        Expr::Not(member) => !value(member.get(), container),
         Expr::Whole(operator, left, right) => {
             let left = sum(left.as_slice(), container);
             let right = sum(right.as_slice(), container);

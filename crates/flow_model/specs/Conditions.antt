@@ -59,7 +59,7 @@ abbrev mutual
   pub truth : Expr → Container → Bool
   truth (Or' shape members) c = some_truth members c
   truth (And' shape members) c = each_truth members c
-  truth (Not' box e) c = not (truth e c)
+  truth (Not' shape (more_of-Expr e end_of-Expr)) c = not (truth e c)
   truth (Whole operator left right) c = satisfies operator (int_cmp (sum_of left c) (sum_of right c))
   truth (Texts operator left right) c = satisfies operator (slice_cmp nat_cmp (side_text left c) (side_text right c))
 

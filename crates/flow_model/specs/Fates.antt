@@ -8,7 +8,7 @@ use Rattle.flow_model.specs.declared.graphs.Join.{Join}
 use Rattle.flow_model.specs.declared.graphs.Join.TheVariants.{All, AtLeastOne, AtLeast}
 use Rattle.flow_model.specs.declared.graphs.When.{When}
 use Rattle.flow_model.specs.declared.graphs.When.TheVariants.{Always, Cond, Otherwise}
-use Rattle.flow_model.specs.declared.graphs.Work.{Work, Program, Block', Process}
+use Rattle.flow_model.specs.declared.graphs.Work.{Work, Program, Block, Process}
 use Rattle.flow_model.specs.declared.graphs.Control.{Control}
 use Rattle.flow_model.specs.declared.graphs.Activity.{Activity}
 use Rattle.flow_model.specs.declared.instances.Fate.{Fate}
@@ -61,7 +61,7 @@ joined rule vs = if list_any is_none vs then None else Some (asks rule vs)
 -- an activity whose next attempt is this one
 abbrev pub goes_on : Work → ℕ → Fate
 goes_on (Program p) k = Ready k
-goes_on (Block' p g) k = Running k
+goes_on (Block g) k = Running k
 goes_on (Process t) k = Running k
 
 -- the fate after n attempts with this last output

@@ -11,7 +11,7 @@ use Rattle.flow_model.specs.declared.graphs.LoopLine.{LoopLine}
 use Rattle.flow_model.specs.declared.graphs.MapEnd.{MapEnd}
 use Rattle.flow_model.specs.declared.graphs.MapEnd.TheVariants.{Border, Activity as At}
 use Rattle.flow_model.specs.declared.graphs.Template.{Template}
-use Rattle.flow_model.specs.declared.graphs.Work.{Work, Program, Block', Process}
+use Rattle.flow_model.specs.declared.graphs.Work.{Work, Program, Block, Process}
 use Rattle.flow_model.specs.declared.instances.SourceEnd.{SourceEnd}
 use Rattle.flow_model.specs.declared.instances.SourceEnd.TheVariants as end
 use Rattle.flow_model.specs.Containers.{fresh, mapped}
@@ -78,5 +78,5 @@ graph_of (x ∷ xs) (suc t) = graph_of xs t
 -- the graph that an activity runs, if it is a block or a process activity
 abbrev pub graph_in : List Template → Work → Option Graph
 graph_in templates (Program p) = None
-graph_in templates (Block' p g) = Some g
+graph_in templates (Block g) = Some g
 graph_in templates (Process k) = graph_of templates k

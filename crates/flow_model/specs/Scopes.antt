@@ -13,7 +13,7 @@ use Rattle.flow_model.specs.declared.graphs.Graph.{Graph, out-Graph}
 use Rattle.flow_model.specs.declared.graphs.MapEnd.{MapEnd}
 use Rattle.flow_model.specs.declared.graphs.MapEnd.TheVariants.{Border, Activity as At}
 use Rattle.flow_model.specs.declared.graphs.Template.{Template}
-use Rattle.flow_model.specs.declared.graphs.Work.{Work, Program, Block', Process}
+use Rattle.flow_model.specs.declared.graphs.Work.{Work, Program, Block, Process}
 use Rattle.flow_model.specs.declared.instances.Fate.{Fate}
 use Rattle.flow_model.specs.declared.instances.Fate.TheVariants.{Waiting}
 use Rattle.flow_model.specs.declared.instances.Part.{Part}
@@ -112,7 +112,7 @@ scope_gives k runs (Some g) q input = if k.closed (q ∷ []) then option_map wit
 -- what attempt j of an activity gives: the accepted output of its item, or the output of its scope
 abbrev pub gives : List Template → Known → Runs → Name → Work → Gives
 gives ts k runs name (Program p) j input = k.given (part name j ∷ [])
-gives ts k runs name (Block' b g) j input = scope_gives k runs (Some g) (part name j) input
+gives ts k runs name (Block g) j input = scope_gives k runs (Some g) (part name j) input
 gives ts k runs name (Process t) j input = scope_gives k runs (graph_of ts t) (part name j) input
 
 -- what feeds a line is settled

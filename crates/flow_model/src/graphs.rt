@@ -1,5 +1,6 @@
 //! Compiled processes: leaves and containers, conditions, graphs, templates, the library.
 
+use crate::boxes::Boxed;
 use crate::leaf_rows::LeafRows;
 use crate::lists::List;
 use crate::names::{Name, Txt};
@@ -104,7 +105,7 @@ pub enum TextSide {
 pub enum Expr {
     Or(List<Expr>),
     And(List<Expr>),
-    Not(Box<Expr>),
+    Not(Boxed<Expr>),
     Whole(Operator, List<Term>, List<Term>),
     Texts(Operator, TextSide, TextSide),
 }
@@ -140,7 +141,7 @@ pub struct Program {
 #[derive(Drop)]
 pub enum Work {
     Program(Program),
-    Block(Box<Graph>),
+    Block(Graph),
     /// The template at this place of the library.
     Process(u32),
 }

@@ -5,6 +5,7 @@
 //! and `specs/Fates.antt` (what follows from the accepted completions).
 #![tactic(auto)]
 
+mod boxes;
 mod commands;
 mod copies;
 mod graphs;
@@ -20,6 +21,7 @@ mod tests;
 mod transactions;
 mod trees;
 
+pub use boxes::Boxed;
 pub use commands::{Command, Completion, Outcome, Query, RawSetting, RawValue, Target};
 pub use graphs::{
     Activity, Container, Control, DataLine, DoneBy, Expr, Graph, Join, Kind, Leaf, LeafMap,

@@ -1,5 +1,6 @@
 //! The syntax tree of a text. A place is the number of a byte of the text, counted from 0.
 
+use crate::boxes::Boxed;
 use crate::graphs::Operator;
 use crate::lists::List;
 use crate::names::{Name, Txt};
@@ -92,7 +93,7 @@ pub enum Side {
 pub enum Cond {
     Or(List<Cond>),
     And(List<Cond>),
-    Not(Box<Cond>),
+    Not(Boxed<Cond>),
     Compare(Side, Operator, Side),
 }
 

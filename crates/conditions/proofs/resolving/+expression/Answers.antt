@@ -26,6 +26,6 @@ pub expr_of-returns-in_ok-members_of-in-And : goal.expr_of-returns-in_ok-members
 expr_of-returns-in_ok-members_of-in-And t c = λ few clear.
     both_resolved c.args.leaves.now.leaves c.args.cond.now c.in-And.members c.as_slice-in-And.result.now c.in_ok-members_of-in-And.field-0 c.in-And.is c.as_slice-in-And.ensures (c.in_ok-members_of-in-And.ensures few) clear
 
-pub expr_of-returns-in_ok-boxed-in-Not : goal.expr_of-returns-in_ok-boxed-in-Not
-expr_of-returns-in_ok-boxed-in-Not t c = λ few clear.
-    not_resolved c.args.leaves.now.leaves c.args.cond.now c.in-Not.member c.deref.result.now c.in_ok-resolved-in-Not.resolved c.in_ok-boxed-in-Not.field-0 c.in-Not.is c.deref.ensures c.in_ok-boxed-in-Not.ensures (c.in_ok-resolved-in-Not.ensures few) clear
+pub expr_of-returns-in_ok-new-in-Not : goal.expr_of-returns-in_ok-new-in-Not
+expr_of-returns-in_ok-new-in-Not t c = λ few clear.
+    not_resolved c.args.leaves.now.leaves c.args.cond.now c.in-Not.member c.get.result.now c.in_ok-resolved-in-Not.resolved c.in_ok-new-in-Not.field-0 c.in-Not.is c.get.ensures c.in_ok-new-in-Not.ensures (c.in_ok-resolved-in-Not.ensures few) clear
