@@ -11,7 +11,7 @@ use Rattle.std.proofs.lemmas.Option.{same_Some, none-some, slice_get_within, sli
 use Rattle.flow_model.specs.declared.graphs.Container.{Container}
 use Rattle.flow_model.specs.declared.graphs.Graph.{Graph, out-Graph}
 use Rattle.flow_model.specs.declared.graphs.Template.{Template}
-use Rattle.flow_model.specs.declared.graphs.Work.{Work, Program, Block', Process}
+use Rattle.flow_model.specs.declared.graphs.Work.{Work, Program, Block, Process}
 use Rattle.flow_model.specs.declared.instances.Fate.{Fate}
 use Rattle.flow_model.specs.declared.instances.Fate.TheVariants as fate
 use Rattle.flow_model.specs.declared.instances.Part.{Part}
@@ -217,7 +217,7 @@ module _ (b : Basis) (g : Graph) (total most : ℕ) (bounded : most < 2 ^ 64) (r
           ∙ j.right.right.given (part x.activity.name i ∷ [])
           ∙ sym (accepted_is most bounded b.root (below p (part x.activity.name i)) (below_read most p x.activity.name i bounded read (ap is_name name_same ∙ is_named) pos (omega arith)) own_root b.facts own)
           ∙ given
-      attempt_gave (Block' y h) is i k o pos le input given = scope_given i k o pos le input given
+      attempt_gave (Block h) is i k o pos le input given = scope_given i k o pos le input given
       attempt_gave (Process y) is i k o pos le input given = scope_given i k o pos le input given
 
       parts_of : ((n ≡ 0) → ⊥) × (list_all (λ i. goes_on x.activity.exit (given_at i)) (up_to (n - 1) 1) ≡ true) × (stops x.activity.exit (given_at n) ≡ Some out)

@@ -10,7 +10,7 @@ use Rattle.flow_model.specs.declared.graphs.Activity.{Activity}
 use Rattle.flow_model.specs.declared.graphs.Container.{Container}
 use Rattle.flow_model.specs.declared.graphs.Graph.{Graph, out-Graph}
 use Rattle.flow_model.specs.declared.graphs.Template.{Template}
-use Rattle.flow_model.specs.declared.graphs.Work.{Work, Program, Block', Process}
+use Rattle.flow_model.specs.declared.graphs.Work.{Work, Program, Block, Process}
 use Rattle.flow_model.specs.declared.instances.Fact.{Fact}
 use Rattle.flow_model.specs.declared.instances.Part.{Part}
 use Rattle.flow_model.specs.declared.instances.Path.{Path}
@@ -120,7 +120,7 @@ pub record HasGiven (ts : List Template) (here : Standing) (x : Placed) (j : ℕ
 gives_scope : (ts : List Template) (base : Known) (runs : Runs) (name : Name) (w : Work) (h : Graph) (j : ℕ) (i : Container) → graph_in ts w ≡ Some h
     → gives ts (all_of base) runs name w j i ≡ option_map with_return_code (runs (at (part name j) (all_of base)) h i)
 gives_scope ts base runs name (Program x) h j i is = absurd (none-some h is)
-gives_scope ts base runs name (Block' m g) h j i is = ap (λ k. scope_gives (all_of base) runs k (part name j) i) is
+gives_scope ts base runs name (Block g) h j i is = ap (λ k. scope_gives (all_of base) runs k (part name j) i) is
 gives_scope ts base runs name (Process k) h j i is = ap (λ k. scope_gives (all_of base) runs k (part name j) i) is
 
 module _ (ts : List Template) (root : Standing) (facts : List Fact) (most total : ℕ) (p : Path) (s : Opened) (base : Known) (name : Name) (j : ℕ) (x : Placed) (named : activity_at s.graph name ≡ Some x)

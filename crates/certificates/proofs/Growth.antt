@@ -13,7 +13,7 @@ use Rattle.flow_model.specs.declared.graphs.Expr.{Expr}
 use Rattle.flow_model.specs.declared.graphs.Graph.{Graph, out-Graph}
 use Rattle.flow_model.specs.declared.graphs.MapEnd.TheVariants.{Border}
 use Rattle.flow_model.specs.declared.graphs.Template.{Template}
-use Rattle.flow_model.specs.declared.graphs.Work.{Work, Program, Block', Process}
+use Rattle.flow_model.specs.declared.graphs.Work.{Work, Program, Block, Process}
 use Rattle.flow_model.specs.declared.instances.Fact.{Fact}
 use Rattle.flow_model.specs.declared.instances.Part.{Part}
 use Rattle.flow_model.specs.declared.instances.Path.{Path}
@@ -253,7 +253,7 @@ module _ (b : Basis) (t t' : Told) (grow : AllGrow t t') where
 
   gave_more : (p : Path) (name : Name) (w : Work) (j : ℕ) (out : Container) → gave b t p name w j ≡ Some out → gave b t' p name w j ≡ Some out
   gave_more p name (Program x) j out h = h
-  gave_more p name (Block' m g) j out h = output_more (below p (part name j)) out h
+  gave_more p name (Block g) j out h = output_more (below p (part name j)) out h
   gave_more p name (Process k) j out h = output_more (below p (part name j)) out h
 
   pub final_at_more : (p : Path) (n : ℕ) (x : Placed) (out : Container) → final_at b t p n x ≡ Some out → final_at b t' p n x ≡ Some out
@@ -342,7 +342,7 @@ IsAlike t = (p q : Path) → spelling p ≡ spelling q → t p ≡ t q
 module _ (b : Basis) (t : Told) (alike : IsAlike t) (p p' : Path) (e : spelling p ≡ spelling p') where
   gave_alike : (name : Name) (w : Work) (j : ℕ) → gave b t p name w j ≡ gave b t p' name w j
   gave_alike name (Program x) j = accepted_alike b.facts (below p (part name j)) (below p' (part name j)) (below_alike p p' (part name j) e)
-  gave_alike name (Block' m g) j = ap (option_and_then (λ s. s.output)) (alike (below p (part name j)) (below p' (part name j)) (below_alike p p' (part name j) e))
+  gave_alike name (Block g) j = ap (option_and_then (λ s. s.output)) (alike (below p (part name j)) (below p' (part name j)) (below_alike p p' (part name j) e))
   gave_alike name (Process k) j = ap (option_and_then (λ s. s.output)) (alike (below p (part name j)) (below p' (part name j)) (below_alike p p' (part name j) e))
 
   pub final_alike : (n : ℕ) (x : Placed) → final_at b t p n x ≡ final_at b t p' n x

@@ -10,7 +10,7 @@ use Rattle.flow_model.specs.declared.graphs.Expr.{Expr}
 use Rattle.flow_model.specs.declared.graphs.Graph.{Graph, out-Graph}
 use Rattle.flow_model.specs.declared.graphs.MapEnd.TheVariants.{Border}
 use Rattle.flow_model.specs.declared.graphs.Template.{Template}
-use Rattle.flow_model.specs.declared.graphs.Work.{Work, Program, Block', Process}
+use Rattle.flow_model.specs.declared.graphs.Work.{Work, Program, Block, Process}
 use Rattle.flow_model.specs.declared.instances.Fact.{Fact}
 use Rattle.flow_model.specs.declared.instances.Part.{Part}
 use Rattle.flow_model.specs.declared.instances.Path.{Path}
@@ -156,7 +156,7 @@ start ts t outer q s x = if is_active s x then attempt_start ts t outer q s x el
 -- what an attempt gave: the output that was accepted, or what is told that its scope gave
 abbrev pub gave : Basis → Told → Path → Name → Work → ℕ → Option Container
 gave b t p name (Program x) j = accepted b.facts (below p (part name j))
-gave b t p name (Block' m g) j = option_and_then (λ s. s.output) (t (below p (part name j)))
+gave b t p name (Block g) j = option_and_then (λ s. s.output) (t (below p (part name j)))
 gave b t p name (Process k) j = option_and_then (λ s. s.output) (t (below p (part name j)))
 
 -- whether one more attempt follows

@@ -179,7 +179,7 @@ fn block(alloc: Global) -> Result<Graph, Fail> {
 fn activities(alloc: Global) -> Result<List<Activity>, Fail> {
     let exit = Some(is_number(alloc, 1)?);
     let mut activities = one(alloc, activity(alloc, b"A".as_slice(), program(), exit)?)?;
-    let inside = Work::Block(Box::new(alloc, block(alloc)?)?);
+    let inside = Work::Block(block(alloc)?);
     let exit = Some(is_number(alloc, 1)?);
     activities.push(activity(alloc, b"L".as_slice(), inside, exit)?)?;
     activities.push(activity(alloc, b"D".as_slice(), program(), None)?)?;

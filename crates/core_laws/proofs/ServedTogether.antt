@@ -7,7 +7,7 @@ use Rattle.flow_model.specs.ScopeContainers.{graph_in, graph_of}
 use Rattle.flow_model.specs.declared.graphs.Activity.{Activity}
 use Rattle.flow_model.specs.declared.graphs.Graph.{Graph, out-Graph}
 use Rattle.flow_model.specs.declared.graphs.Template.{Template}
-use Rattle.flow_model.specs.declared.graphs.Work.{Work, Program, Block', Process}
+use Rattle.flow_model.specs.declared.graphs.Work.{Work, Program, Block, Process}
 use Rattle.fate_laws.specs.Layout.{OfInside}
 use Rattle.navigator.specs.Serving.{HasGraph, Served}
 use Rattle.template_check.specs.Built.{IsSoundGraph, SoundTo, IsSoundAlone, AreSound}
@@ -119,7 +119,7 @@ module _ (ts : List Template) where
     where
       has : (work : Work) → CallsBelow limit work → HasGraph ts work
       has (Program p) below = tt
-      has (Block' b h) below = tt
+      has (Block h) below = tt
       has (Process t) below = there_graph ts t (omega arith)
 
   -- a graph is served where those at earlier places are
@@ -129,7 +129,7 @@ module _ (ts : List Template) where
         → ((h : Graph) → graph_in [] work ≡ Some h → IsSoundAlone h) → ((h : Graph) → graph_in [] work ≡ Some h → P h)
         → (h : Graph) → graph_in ts work ≡ Some h → IsServedSome ts h
     run_served P deeper (Program p) below sound inside h of = absurd (none-some h of)
-    run_served P deeper (Block' b g) below sound inside h of = deeper h (sound h of) (inside h of)
+    run_served P deeper (Block g) below sound inside h of = deeper h (sound h of) (inside h of)
     run_served P deeper (Process t) below sound inside h of = earlier t h below of
 
     sound_inside : (g : Graph) → IsSoundAlone g → (a : ℕ) (activity : Activity) → slice_get (out-Graph g).activities a ≡ Some activity

@@ -12,7 +12,7 @@ use Rattle.flow_model.specs.declared.graphs.Container.{Container}
 use Rattle.flow_model.specs.declared.graphs.Graph.{Graph}
 use Rattle.flow_model.specs.declared.graphs.Template.{Template}
 use Rattle.flow_model.specs.declared.graphs.Program.{Program as ProgramOf}
-use Rattle.flow_model.specs.declared.graphs.Work.{Work, Program, Block', Process}
+use Rattle.flow_model.specs.declared.graphs.Work.{Work, Program, Block, Process}
 use Rattle.flow_model.specs.declared.instances.FateRow.{FateRow}
 use Rattle.flow_model.specs.declared.instances.Part.{Part}
 use Rattle.flow_model.specs.declared.instances.Path.{Path}
@@ -61,7 +61,7 @@ scope_timely ts depth most es inner s q g input since out out' after ready same 
 pub gives_scope : (ts : List Template) (most : ℕ) (given : List Part → Option Container) (runs : Runs) (name : Name) (work : Work) (h : Graph) (j : ℕ) (input : Container)
     → graph_in ts work ≡ Some h → gives ts (known_by most given) runs name work j input ≡ option_map with_return_code (runs (at (part name j) (known_by most given)) h input)
 gives_scope ts most given runs name (Program p) h j input is = let n : ⊥ = cc in absurd n
-gives_scope ts most given runs name (Block' b g) h j input is = let same : g ≡ h = cc in ap (λ x. option_map with_return_code (runs (at (part name j) (known_by most given)) x input)) same
+gives_scope ts most given runs name (Block g) h j input is = let same : g ≡ h = cc in ap (λ x. option_map with_return_code (runs (at (part name j) (known_by most given)) x input)) same
 gives_scope ts most given runs name (Process t) h j input is = rw is refl
 
 pub nested_timely : (ts : List Template) (depth d most : ℕ) (es : List Entry) (s : Path) (activity : Activity) (h : Graph) (j : ℕ) (input : Container) (since : ℕ) (out : Option Container) (after : ℕ) (ready : List ℕ)

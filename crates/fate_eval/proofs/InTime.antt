@@ -17,7 +17,7 @@ use Rattle.flow_model.specs.declared.graphs.Join.{Join}
 use Rattle.flow_model.specs.declared.graphs.Graph.{Graph, out-Graph}
 use Rattle.flow_model.specs.declared.graphs.MapEnd.TheVariants.{Activity as At}
 use Rattle.flow_model.specs.declared.graphs.Template.{Template}
-use Rattle.flow_model.specs.declared.graphs.Work.{Work, Program, Block', Process}
+use Rattle.flow_model.specs.declared.graphs.Work.{Work, Program, Block, Process}
 use Rattle.flow_model.specs.declared.instances.Fate.{Fate}
 use Rattle.flow_model.specs.declared.instances.Fate.TheVariants.{Finished}
 use Rattle.flow_model.specs.declared.instances.FateRow.{FateRow}
@@ -115,7 +115,7 @@ module _ (ts : List Template) (depth most : ℕ) (es : List Entry) (g : Graph) (
 
   goes_open : (work : Work) (j : ℕ) → is_open (goes_on work j) ≡ true
   goes_open (Program p) j = refl
-  goes_open (Block' p h) j = refl
+  goes_open (Block h) j = refl
   goes_open (Process t) j = refl
 
   tried_open : (n : ℕ) (o : Option Container) → is_open (tried activity n o) ≡ true

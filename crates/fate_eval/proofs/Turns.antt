@@ -11,7 +11,7 @@ use Rattle.flow_model.specs.declared.graphs.Activity.{Activity}
 use Rattle.flow_model.specs.declared.graphs.Container.{Container}
 use Rattle.flow_model.specs.declared.graphs.Graph.{Graph, out-Graph}
 use Rattle.flow_model.specs.declared.graphs.Template.{Template}
-use Rattle.flow_model.specs.declared.graphs.Work.{Work, Program, Block', Process}
+use Rattle.flow_model.specs.declared.graphs.Work.{Work, Program, Block, Process}
 use Rattle.flow_model.specs.declared.instances.Fate.{Fate}
 use Rattle.flow_model.specs.declared.instances.Fate.TheVariants.{Finished}
 use Rattle.flow_model.specs.declared.instances.FateRow.{FateRow}
@@ -67,7 +67,7 @@ module _ (activity : Activity) (give : Gives) (t : Trial) (same : t.exit ≡ act
 
   ended_goes : (work : Work) (j : ℕ) (outs : List Container) → ended (goes_on work j) outs ≡ end.Unsettled
   ended_goes (Program p) j outs = refl
-  ended_goes (Block' p g) j outs = refl
+  ended_goes (Block g) j outs = refl
   ended_goes (Process k) j outs = refl
 
   ended_stop : (j : ℕ) (outs : List Container) (out : Container) (ts : List Container) (f : Fate) (e : SourceEnd)

@@ -10,7 +10,7 @@ use Rattle.flow_model.specs.declared.graphs.Activity.{Activity}
 use Rattle.flow_model.specs.declared.graphs.Container.{Container}
 use Rattle.flow_model.specs.declared.graphs.Graph.{Graph}
 use Rattle.flow_model.specs.declared.graphs.Template.{Template}
-use Rattle.flow_model.specs.declared.graphs.Work.{Work, Program, Block', Process}
+use Rattle.flow_model.specs.declared.graphs.Work.{Work, Program, Block, Process}
 use Rattle.flow_model.specs.declared.instances.Fate.TheVariants.{Ready}
 use Rattle.flow_model.specs.declared.instances.FateRow.{FateRow}
 use Rattle.flow_model.specs.declared.instances.Part.{Part}
@@ -33,7 +33,7 @@ none_some x h = cc
 -- a block or process activity has no items of its own
 nested_not : (work : Work) (j : ℕ) → IsNested work → goes_on work j ≡ Ready j → ⊥
 nested_not (Program p) j nested is = nested
-nested_not (Block' p h) j nested is = cc
+nested_not (Block h) j nested is = cc
 nested_not (Process t) j nested is = cc
 
 nothing_below : (ts : List Template) (depth : ℕ) (k : Known) (activity : Activity) (j : ℕ) (input : Container) (s : Path) (o : Option Graph) → (o ≡ None) ⊎ (depth ≡ 0)
@@ -45,8 +45,8 @@ nothing_below ts depth k activity j input s (Some h) (inr is) = rw is refl
 gives_nothing : (ts : List Template) (most depth : ℕ) (given : List Part → Option Container) (name : Name) (work : Work) (j : ℕ) (input : Container) → IsNested work → (graph_in ts work ≡ None) ⊎ (depth ≡ 0)
     → gives ts (known_by most given) (output ts depth) name work j input ≡ None
 gives_nothing ts most depth given name (Program p) j input nested none = absurd nested
-gives_nothing ts most depth given name (Block' p h) j input nested (inl no_) = let n : ⊥ = cc in absurd n
-gives_nothing ts most depth given name (Block' p h) j input nested (inr is) = rw is refl
+gives_nothing ts most depth given name (Block h) j input nested (inl no_) = let n : ⊥ = cc in absurd n
+gives_nothing ts most depth given name (Block h) j input nested (inr is) = rw is refl
 gives_nothing ts most depth given name (Process t) j input nested (inl no_) = rw no_ refl
 gives_nothing ts most depth given name (Process t) j input nested (inr is) = go (graph_of ts t)
   where
@@ -103,7 +103,7 @@ scope_whole ts depth most es inner s q g input since out out' after ready same c
 
 nested_of : (ts : List Template) (work : Work) (h : Graph) (j : ℕ) → graph_in ts work ≡ Some h → goes_on work j ≡ Ready j → ⊥
 nested_of ts (Program p) h j of is = none_some h of
-nested_of ts (Block' p g) h j of is = cc
+nested_of ts (Block g) h j of is = cc
 nested_of ts (Process t) h j of is = cc
 
 pub nested_whole : (ts : List Template) (depth d most : ℕ) (es : List Entry) (s : Path) (activity : Activity) (h : Graph) (j : ℕ) (input : Container) (since : ℕ) (out : Option Container) (after : ℕ) (ready : List ℕ)

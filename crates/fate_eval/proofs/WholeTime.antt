@@ -16,7 +16,7 @@ use Rattle.flow_model.specs.declared.graphs.DataLine.{DataLine}
 use Rattle.flow_model.specs.declared.graphs.Graph.{Graph, out-Graph}
 use Rattle.flow_model.specs.declared.graphs.MapEnd.TheVariants.{Activity as At}
 use Rattle.flow_model.specs.declared.graphs.Template.{Template}
-use Rattle.flow_model.specs.declared.graphs.Work.{Work, Program, Block', Process}
+use Rattle.flow_model.specs.declared.graphs.Work.{Work, Program, Block, Process}
 use Rattle.flow_model.specs.declared.instances.Fate.{Fate}
 use Rattle.flow_model.specs.declared.instances.Fate.TheVariants.{Ready, Waiting, Dead}
 use Rattle.flow_model.specs.declared.instances.FateRow.{FateRow}
@@ -42,7 +42,7 @@ no_end h = cc
 
 unsettled_go : (work : Work) (j : ℕ) (os : List Container) → ended (goes_on work j) os ≡ end.Unsettled
 unsettled_go (Program p) j os = refl
-unsettled_go (Block' p h) j os = refl
+unsettled_go (Block h) j os = refl
 unsettled_go (Process x) j os = refl
 
 module _ (ts : List Template) (depth most : ℕ) (es : List Entry) (g : Graph) (input : Container) (s : Path) (ends : List SourceEnd) (afters : List ℕ) (a : ℕ) (activity : Activity) where

@@ -14,7 +14,7 @@ use Rattle.flow_model.specs.declared.graphs.Activity.{Activity}
 use Rattle.flow_model.specs.declared.graphs.Container.{Container}
 use Rattle.flow_model.specs.declared.graphs.Graph.{Graph, out-Graph}
 use Rattle.flow_model.specs.declared.graphs.Template.{Template}
-use Rattle.flow_model.specs.declared.graphs.Work.{Work, Program, Block', Process}
+use Rattle.flow_model.specs.declared.graphs.Work.{Work, Program, Block, Process}
 use Rattle.flow_model.specs.declared.instances.Fate.{Fate}
 use Rattle.flow_model.specs.declared.instances.Fate.TheVariants.{Finished, Ready}
 use Rattle.flow_model.specs.declared.instances.FateRow.{FateRow}
@@ -53,7 +53,7 @@ one_row x y there = go there.0 there.1 there.2
 
 goes_ready : (work : Work) (j k : ℕ) → goes_on work j ≡ Ready k → j ≡ k
 goes_ready (Program p) j k is = cc
-goes_ready (Block' p g) j k is = let n : ⊥ = cc in absurd n
+goes_ready (Block g) j k is = let n : ⊥ = cc in absurd n
 goes_ready (Process t) j k is = let n : ⊥ = cc in absurd n
 
 -- the row of the activity itself shows the attempt that is next
@@ -111,7 +111,7 @@ module _ (ts : List Template) (depth most : ℕ) (es : List Entry) (g : Graph) (
 
   ended_goes : (work : Work) (j : ℕ) (os : List Container) → ended (goes_on work j) os ≡ end.Unsettled
   ended_goes (Program p) j os = refl
-  ended_goes (Block' p h) j os = refl
+  ended_goes (Block h) j os = refl
   ended_goes (Process x) j os = refl
 
   fate_is : (n j left : ℕ) (input : Container) (f : Fate) → fate_from left (give n) t activity.work j input ≡ fate_from most (give n) t activity.work 1 base

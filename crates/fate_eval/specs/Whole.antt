@@ -17,7 +17,7 @@ use Rattle.flow_model.specs.declared.graphs.DataLine.{DataLine}
 use Rattle.flow_model.specs.declared.graphs.Graph.{Graph, out-Graph}
 use Rattle.flow_model.specs.declared.graphs.MapEnd.TheVariants.{Activity as At}
 use Rattle.flow_model.specs.declared.graphs.Template.{Template}
-use Rattle.flow_model.specs.declared.graphs.Work.{Work, Program, Block', Process}
+use Rattle.flow_model.specs.declared.graphs.Work.{Work, Program, Block, Process}
 use Rattle.flow_model.specs.declared.instances.Fate.TheVariants.{Ready}
 use Rattle.flow_model.specs.declared.instances.Part.{Part}
 use Rattle.flow_model.specs.declared.instances.Path.{Path}
@@ -139,7 +139,7 @@ pub record IsWholeFound (ts : List Template) (depth most : ℕ) (es : List Entry
 -- an activity that runs a graph
 abbrev pub IsNested : Work → Type 0
 IsNested (Program p) = ⊥
-IsNested (Block' p h) = Unit {0}
+IsNested (Block h) = Unit {0}
 IsNested (Process t) = Unit {0}
 
 -- one level further in

@@ -8,7 +8,7 @@ use Rattle.flow_model.specs.declared.graphs.Activity.{Activity}
 use Rattle.flow_model.specs.declared.graphs.Container.{Container}
 use Rattle.flow_model.specs.declared.graphs.Graph.{Graph, out-Graph}
 use Rattle.flow_model.specs.declared.graphs.Template.{Template}
-use Rattle.flow_model.specs.declared.graphs.Work.{Work, Program, Block', Process}
+use Rattle.flow_model.specs.declared.graphs.Work.{Work, Program, Block, Process}
 use Rattle.flow_model.specs.declared.instances.Fact.{Fact}
 use Rattle.flow_model.specs.declared.instances.Fate.TheVariants.{Waiting}
 use Rattle.flow_model.specs.declared.instances.Part.{Part}
@@ -94,14 +94,14 @@ module _ (ts : List Template) (k : Known) (most : ℕ) (runs : Runs) (inner : Gr
   work_same : (name : Name) (w : Work) → ((h : Graph) → graph_in ts w ≡ Some h → inner h) → (j : ℕ) (i : Container)
       → gives ts (resized most k) runs name w j i ≡ gives ts k runs name w j i
   work_same name (Program p) ok j i = refl
-  work_same name (Block' b g) ok j i = scope_same (Some g) ok (part name j) i
+  work_same name (Block g) ok j i = scope_same (Some g) ok (part name j) i
   work_same name (Process t) ok j i = scope_same (graph_of ts t) ok (part name j) i
 
   work_own : (name : Name) (w : Work) → ((h : Graph) → graph_in ts w ≡ Some h → inner h) → (j : ℕ) (i o : Container)
       → gives ts k runs name w j i ≡ Some o → 0 < length (strip (part name j) items)
   work_own name (Program p) ok j i o gave =
       some_item [] (strip (part name j) items) (among_strip (part name j) [] items (covers (part name j ∷ []) o gave))
-  work_own name (Block' b g) ok j i o gave = scope_own (Some g) ok (part name j) i o gave
+  work_own name (Block g) ok j i o gave = scope_own (Some g) ok (part name j) i o gave
   work_own name (Process t) ok j i o gave = scope_own (graph_of ts t) ok (part name j) i o gave
 
   module _ (g : Graph) (well : IsWell ts g inner) (i : Container) where

@@ -16,7 +16,7 @@ use Rattle.flow_model.specs.declared.graphs.Control.{Control}
 use Rattle.flow_model.specs.declared.graphs.Graph.{Graph, out-Graph}
 use Rattle.flow_model.specs.declared.graphs.Join.{Join}
 use Rattle.flow_model.specs.declared.graphs.Template.{Template}
-use Rattle.flow_model.specs.declared.graphs.Work.{Work, Program, Block', Process}
+use Rattle.flow_model.specs.declared.graphs.Work.{Work, Program, Block, Process}
 use Rattle.flow_model.specs.declared.instances.Part.{Part}
 use Rattle.flow_model.specs.declared.names.Name.{Name}
 use Rattle.std.proofs.Common.{◌≡◌, ℕ, zero, suc, ◌<◌, ◌==◌, Bool, true, false, List, [], ◌∷◌, length, refl, sym, ap, ◌∙◌, Option, Some, None, arith, inl, inr}
@@ -65,7 +65,7 @@ given_below : (ts : List Template) (k : Known) (runs : Runs) (name : Name) (w : 
     → ((q : Part) (h : Graph) (i o : Container) → inner h → runs (at q k) h i ≡ Some o → HasGiven (at q k))
     → (j : ℕ) (i o : Container) → gives ts k runs name w j i ≡ Some o → HasGiven k
 given_below ts k runs name (Program p) inner ok below j i o h = (part name j, [], o, h)
-given_below ts k runs name (Block' b g) inner ok below j i o h = of_scope (Some g) ok h
+given_below ts k runs name (Block g) inner ok below j i o h = of_scope (Some g) ok h
   where
     no_some : None ≡ Some o → ⊥
     no_some h = cc

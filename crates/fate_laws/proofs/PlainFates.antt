@@ -3,7 +3,7 @@ use Rattle.std.proofs.Common.{◌≡◌, ℕ, ◌+◌, Bool, true, false, if◌t
 use Rattle.std.specs.List.{last_or}
 use Rattle.flow_model.specs.declared.graphs.Activity.{Activity}
 use Rattle.flow_model.specs.declared.graphs.Container.{Container}
-use Rattle.flow_model.specs.declared.graphs.Work.{Work, Program as RunsProgram, Block', Process}
+use Rattle.flow_model.specs.declared.graphs.Work.{Work, Program as RunsProgram, Block, Process}
 use Rattle.flow_model.specs.declared.instances.Fate.{Fate}
 use Rattle.flow_model.specs.declared.instances.Fate.TheVariants.{Waiting, Ready, Running, Finished, Dead}
 use Rattle.flow_model.specs.declared.instances.SourceEnd.{SourceEnd}
@@ -65,7 +65,7 @@ running_fate activity outs on none = record {
 
 next_fate : (activity : Activity) (outs : List Container) → GoesOn activity.exit outs → (w : Work) → activity.work ≡ w → IsFate activity (Some true) outs (goes_on w (length outs + 1))
 next_fate activity outs on (RunsProgram p) is = ready_fate activity outs on (p, is)
-next_fate activity outs on (Block' b g) is = running_fate activity outs on (λ q. let wrong : Block' b g ≡ RunsProgram q.0 = sym is ∙ q.1 in cc)
+next_fate activity outs on (Block g) is = running_fate activity outs on (λ q. let wrong : Block g ≡ RunsProgram q.0 = sym is ∙ q.1 in cc)
 next_fate activity outs on (Process t) is = running_fate activity outs on (λ q. let wrong : Process t ≡ RunsProgram q.0 = sym is ∙ q.1 in cc)
 
 last_some : (o : Container) (outs : List Container) → last_or (Some o) outs ≡ None → ⊥

@@ -16,7 +16,7 @@ use Rattle.flow_model.specs.declared.graphs.Control.{Control}
 use Rattle.flow_model.specs.declared.graphs.Graph.{Graph, out-Graph}
 use Rattle.flow_model.specs.declared.graphs.MapEnd.TheVariants.{Border}
 use Rattle.flow_model.specs.declared.graphs.Template.{Template}
-use Rattle.flow_model.specs.declared.graphs.Work.{Work, Program, Block', Process}
+use Rattle.flow_model.specs.declared.graphs.Work.{Work, Program, Block, Process}
 use Rattle.flow_model.specs.declared.instances.Fate.TheVariants.{Waiting}
 use Rattle.flow_model.specs.declared.instances.Part.{Part}
 use Rattle.flow_model.specs.declared.names.Name.{Name}
@@ -70,7 +70,7 @@ scope_gives_more k k' runs runs' m r (Some g) q i out h = go (k.closed (q ∷ []
 pub gives_more : (ts : List Template) (k k' : Known) (runs runs' : Runs) → More k k' → RunsMore k k' runs runs' → (name : Name) (w : Work) (j : ℕ) (i : Container)
     → Keeps (gives ts k runs name w) (gives ts k' runs' name w) j i
 gives_more ts k k' runs runs' m r name (Program p) j i = λ out h. m.given (part name j ∷ []) out h
-gives_more ts k k' runs runs' m r name (Block' b g) j i = λ out h. scope_gives_more k k' runs runs' m r (Some g) (part name j) i out h
+gives_more ts k k' runs runs' m r name (Block g) j i = λ out h. scope_gives_more k k' runs runs' m r (Some g) (part name j) i out h
 gives_more ts k k' runs runs' m r name (Process t) j i = λ out h. scope_gives_more k k' runs runs' m r (graph_of ts t) (part name j) i out h
 
 pub step_more : (ts : List Template) (k k' : Known) (runs runs' : Runs) → More k k' → RunsMore k k' runs runs' → (g : Graph) (input : Container) (e e' : Ends)

@@ -13,7 +13,7 @@ use Rattle.flow_model.specs.declared.graphs.Graph.{Graph, out-Graph}
 use Rattle.flow_model.specs.declared.graphs.MapEnd.{MapEnd}
 use Rattle.flow_model.specs.declared.graphs.MapEnd.TheVariants.{Border, Activity as At}
 use Rattle.flow_model.specs.declared.graphs.Template.{Template}
-use Rattle.flow_model.specs.declared.graphs.Work.{Work, Program, Block', Process}
+use Rattle.flow_model.specs.declared.graphs.Work.{Work, Program, Block, Process}
 use Rattle.std.proofs.Common.{◌≡◌, ℕ, suc, ◌+◌, ◌≤◌, Bool, true, false, if◌then◌else◌, List, [], ◌∷◌, length, refl, Option, Some, None, arith, inl, inr}
 use Rattle.std.proofs.lemmas.Bool.Decides.{eqb_tells}
 use Rattle.std.proofs.lemmas.List.Elements.{All-cons}
@@ -22,7 +22,7 @@ use Rattle.std.specs.Prelude.{is_none, slice_get}
 
 goes_on_open : (w : Work) (n : ℕ) (outs : List Container) → is_settled (ended (goes_on w n) outs) ≡ true → ⊥
 goes_on_open (Program p) n outs h = cc
-goes_on_open (Block' p g) n outs h = cc
+goes_on_open (Block g) n outs h = cc
 goes_on_open (Process t) n outs h = cc
 
 pub closed_of : (a : Activity) (n : ℕ) (outs : List Container) (o : Option Container) → is_settled (ended (tried a n o) outs) ≡ true → closed_by a.exit o ≡ true

@@ -12,7 +12,7 @@ use Rattle.flow_model.specs.declared.graphs.Activity.{Activity}
 use Rattle.flow_model.specs.declared.graphs.Container.{Container}
 use Rattle.flow_model.specs.declared.graphs.Graph.{Graph, out-Graph}
 use Rattle.flow_model.specs.declared.graphs.Template.{Template}
-use Rattle.flow_model.specs.declared.graphs.Work.{Work, Program as RunsProgram, Block', Process}
+use Rattle.flow_model.specs.declared.graphs.Work.{Work, Program as RunsProgram, Block, Process}
 use Rattle.flow_model.specs.declared.instances.Fate.{Fate}
 use Rattle.flow_model.specs.declared.instances.Fate.TheVariants as fates
 use Rattle.flow_model.specs.declared.instances.Hold.TheVariants.{Nobody}
@@ -51,8 +51,8 @@ waits_idle (finished cs) is = let n : ⊥ = cc in absurd n
 pub idle_of : (w : Work) (fate : Fate) (outs : List Container) (starts : List Start) (shows : ShowsStart) (x : ActivityState) → fate ≡ fates.Waiting → ShowsWork w fate outs starts shows x → IsIdle x
 idle_of (RunsProgram w) fate outs starts shows (Program p) waits is = waits_idle p (is.stands ∙ waits)
 idle_of (RunsProgram w) fate outs starts shows (Nested n) waits is = tt
-idle_of (Block' b g) fate outs starts shows (Program p) waits is = absurd is
-idle_of (Block' b g) fate outs starts shows (Nested n) waits is = tt
+idle_of (Block g) fate outs starts shows (Program p) waits is = absurd is
+idle_of (Block g) fate outs starts shows (Nested n) waits is = tt
 idle_of (Process t) fate outs starts shows (Program p) waits is = absurd is
 idle_of (Process t) fate outs starts shows (Nested n) waits is = tt
 

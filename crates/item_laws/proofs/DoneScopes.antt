@@ -13,7 +13,7 @@ use Rattle.flow_model.specs.declared.graphs.Activity.{Activity}
 use Rattle.flow_model.specs.declared.graphs.Container.{Container}
 use Rattle.flow_model.specs.declared.graphs.Graph.{Graph, out-Graph}
 use Rattle.flow_model.specs.declared.graphs.Template.{Template}
-use Rattle.flow_model.specs.declared.graphs.Work.{Work, Program as RunsProgram, Block', Process}
+use Rattle.flow_model.specs.declared.graphs.Work.{Work, Program as RunsProgram, Block, Process}
 use Rattle.flow_model.specs.declared.instances.Fate.{Fate}
 use Rattle.flow_model.specs.declared.instances.Hold.TheVariants.{Nobody}
 use Rattle.flow_model.specs.declared.instances.Mode.TheVariants.{Done}
@@ -48,8 +48,8 @@ shut_item : (w : Work) (fate : Fate) (outs : List Container) (starts : List Star
     → ShowsWork w fate outs starts shows x → open_item x j ≡ None
 shut_item (RunsProgram w) fate outs starts shows (Program p) j settled is = shut_attempt p fate outs j is.stands settled
 shut_item (RunsProgram w) fate outs starts shows (Nested n) j settled is = refl
-shut_item (Block' b g) fate outs starts shows (Program p) j settled is = absurd is
-shut_item (Block' b g) fate outs starts shows (Nested n) j settled is = refl
+shut_item (Block g) fate outs starts shows (Program p) j settled is = absurd is
+shut_item (Block g) fate outs starts shows (Nested n) j settled is = refl
 shut_item (Process t) fate outs starts shows (Program p) j settled is = absurd is
 shut_item (Process t) fate outs starts shows (Nested n) j settled is = refl
 

@@ -13,7 +13,7 @@ use Rattle.flow_model.specs.Scopes.{Known, Start, attempts, fate_given, output, 
 use Rattle.flow_model.specs.declared.graphs.Container.{Container}
 use Rattle.flow_model.specs.declared.graphs.Graph.{Graph, out-Graph}
 use Rattle.flow_model.specs.declared.graphs.Template.{Template}
-use Rattle.flow_model.specs.declared.graphs.Work.{Work, Program as RunsProgram, Block', Process}
+use Rattle.flow_model.specs.declared.graphs.Work.{Work, Program as RunsProgram, Block, Process}
 use Rattle.flow_model.specs.declared.instances.Fate.{Fate}
 use Rattle.flow_model.specs.declared.instances.Fate.TheVariants as fates
 use Rattle.flow_model.specs.declared.instances.Message.{Message}
@@ -87,8 +87,8 @@ no_elements (x ∷ xs) none = let n : ⊥ = cc in absurd n
 waiting_scopes : (w : Work) (f : Fate) (os : List Container) (starts : List Start) (shows : ShowsStart) (x : ActivityState) (j : ℕ) → starts ≡ [] → ShowsWork w f os starts shows x → scope_of x j ≡ None
 waiting_scopes (RunsProgram w) f os starts shows (Program p) j none is = refl
 waiting_scopes (RunsProgram w) f os starts shows (Nested n) j none is = absurd is
-waiting_scopes (Block' b g) f os starts shows (Program p) j none is = absurd is
-waiting_scopes (Block' b g) f os starts shows (Nested n) j none is = scopes_none n j (no_elements (out-NestedState n).scopes.items (is.count ∙ ap length none))
+waiting_scopes (Block g) f os starts shows (Program p) j none is = absurd is
+waiting_scopes (Block g) f os starts shows (Nested n) j none is = scopes_none n j (no_elements (out-NestedState n).scopes.items (is.count ∙ ap length none))
 waiting_scopes (Process t) f os starts shows (Program p) j none is = absurd is
 waiting_scopes (Process t) f os starts shows (Nested n) j none is = scopes_none n j (no_elements (out-NestedState n).scopes.items (is.count ∙ ap length none))
 

@@ -6,7 +6,7 @@ use Rattle.flow_model.specs.declared.graphs.Activity.{Activity}
 use Rattle.flow_model.specs.declared.graphs.Container.{Container}
 use Rattle.flow_model.specs.declared.graphs.Graph.{Graph, out-Graph}
 use Rattle.flow_model.specs.declared.graphs.Template.{Template}
-use Rattle.flow_model.specs.declared.graphs.Work.{Work, Program as RunsProgram, Block', Process}
+use Rattle.flow_model.specs.declared.graphs.Work.{Work, Program as RunsProgram, Block, Process}
 use Rattle.flow_model.specs.declared.instances.Part.{Part}
 use Rattle.item_laws.proofs.OpenScopes.{open_inside, open_in, open_is, unbegun_here}
 use Rattle.item_laws.specs.OpenItems.{NoneOpen}
@@ -30,8 +30,8 @@ scopes_none n (suc j) none = ap (λ (ss : List ScopeState). slice_get ss j) none
 fresh_scopes : (w : Work) (state : ActivityState) (j : ℕ) → IsFreshWork w state → scope_of state j ≡ None
 fresh_scopes (RunsProgram w) (Program p) j is = refl
 fresh_scopes (RunsProgram w) (Nested n) j is = absurd is
-fresh_scopes (Block' b g) (Program p) j is = absurd is
-fresh_scopes (Block' b g) (Nested n) j is = scopes_none n j is.scopes
+fresh_scopes (Block g) (Program p) j is = absurd is
+fresh_scopes (Block g) (Nested n) j is = scopes_none n j is.scopes
 fresh_scopes (Process t) (Program p) j is = absurd is
 fresh_scopes (Process t) (Nested n) j is = scopes_none n j is.scopes
 

@@ -17,7 +17,7 @@ use Rattle.flow_model.specs.declared.graphs.Container.{Container}
 use Rattle.flow_model.specs.declared.graphs.Graph.{Graph, out-Graph}
 use Rattle.flow_model.specs.declared.graphs.Program.{Program as ProgramOf}
 use Rattle.flow_model.specs.declared.graphs.Template.{Template}
-use Rattle.flow_model.specs.declared.graphs.Work.{Work, Program as RunsProgram, Block', Process}
+use Rattle.flow_model.specs.declared.graphs.Work.{Work, Program as RunsProgram, Block, Process}
 use Rattle.flow_model.specs.declared.instances.Fate.{Fate}
 use Rattle.flow_model.specs.declared.instances.Fate.TheVariants as fates
 use Rattle.flow_model.specs.declared.instances.Hold.{Hold}
@@ -139,7 +139,7 @@ next_of : (w : Work) (program : ProgramOf) (fate : Fate) (outs : List Container)
     → ShowsWork w fate outs starts shows x → IsNext j x
 next_of (RunsProgram w) program fate outs starts shows (Program p) j runs ready is = next_of_state p j (is.stands ∙ ready)
 next_of (RunsProgram w) program fate outs starts shows (Nested n) j runs ready is = absurd is
-next_of (Block' b g) program fate outs starts shows x j runs ready is = let n : ⊥ = cc in absurd n
+next_of (Block g) program fate outs starts shows x j runs ready is = let n : ⊥ = cc in absurd n
 next_of (Process t) program fate outs starts shows x j runs ready is = let n : ⊥ = cc in absurd n
 
 -- the attempt of its activity is open, and is completed

@@ -8,7 +8,7 @@ use Rattle.flow_model.specs.declared.graphs.Activity.{Activity}
 use Rattle.flow_model.specs.declared.graphs.Container.{Container}
 use Rattle.flow_model.specs.declared.graphs.Graph.{Graph, out-Graph}
 use Rattle.flow_model.specs.declared.graphs.Template.{Template}
-use Rattle.flow_model.specs.declared.graphs.Work.{Work, Program as RunsProgram, Block', Process}
+use Rattle.flow_model.specs.declared.graphs.Work.{Work, Program as RunsProgram, Block, Process}
 use Rattle.flow_model.specs.declared.instances.Fate.{Fate}
 use Rattle.flow_model.specs.declared.instances.Part.{Part}
 use Rattle.navigator.proofs.EndedScopes.{nested_state}
@@ -113,7 +113,7 @@ inside_started ts depth k g s q a activity number start h is of has = record {
 -- a block or process activity has a state with scopes
 pub shown_nested : (w : Work) (fate : Fate) (outs : List Container) (starts : List Start) (shows : ShowsStart) (n : NestedState) → ShowsWork w fate outs starts shows (Nested n) → ShowsNested fate starts shows n
 shown_nested (RunsProgram w) fate outs starts shows n is = absurd is
-shown_nested (Block' b g) fate outs starts shows n is = is
+shown_nested (Block g) fate outs starts shows n is = is
 shown_nested (Process t) fate outs starts shows n is = is
 
 -- a scope at a place is that of an attempt that has started there

@@ -17,7 +17,7 @@ use Rattle.flow_model.specs.declared.graphs.Container.{Container}
 use Rattle.flow_model.specs.declared.graphs.Control.{Control}
 use Rattle.flow_model.specs.declared.graphs.Graph.{Graph, out-Graph}
 use Rattle.flow_model.specs.declared.graphs.Template.{Template}
-use Rattle.flow_model.specs.declared.graphs.Work.{Work, Program as RunsProgram, Block', Process}
+use Rattle.flow_model.specs.declared.graphs.Work.{Work, Program as RunsProgram, Block, Process}
 use Rattle.flow_model.specs.declared.instances.Fate.{Fate}
 use Rattle.flow_model.specs.declared.instances.Fate.TheVariants as fates
 use Rattle.flow_model.specs.declared.instances.Hold.TheVariants.{Nobody}
@@ -110,7 +110,7 @@ open_goes (finished cs) j opens = let n : ⊥ = cc in absurd n
 shown_goes : (w : Work) (fate : Fate) (outs : List Container) (starts : List Start) (shows : ShowsStart) (p : State) (j : ℕ) → is_open_phase (phase_of (fate_of p) j) ≡ true
     → ShowsWork w fate outs starts shows (Program p) → is_waiting fate ≡ false
 shown_goes (RunsProgram w) fate outs starts shows p j opens is = ap is_waiting (sym is.stands) ∙ open_goes p j opens
-shown_goes (Block' b g) fate outs starts shows p j opens is = absurd is
+shown_goes (Block g) fate outs starts shows p j opens is = absurd is
 shown_goes (Process t) fate outs starts shows p j opens is = absurd is
 
 -- ---- one step down

@@ -6,7 +6,7 @@ use Rattle.flow_model.specs.ScopeContainers.{graph_in}
 use Rattle.flow_model.specs.declared.graphs.Activity.{Activity}
 use Rattle.flow_model.specs.declared.graphs.Graph.{Graph, out-Graph}
 use Rattle.flow_model.specs.declared.graphs.Template.{Template}
-use Rattle.flow_model.specs.declared.graphs.Work.{Work, Program, Block', Process}
+use Rattle.flow_model.specs.declared.graphs.Work.{Work, Program, Block, Process}
 use Rattle.navigator.specs.Driven.{IsServedRoot}
 use Rattle.navigator.specs.Serving.{HasGraph, HasGraphs, IsServed, Served}
 use Rattle.view_laws.specs.NextEvents.{IsAimed, Aimed}
@@ -51,7 +51,7 @@ module _ (ts ts' : List Template) (g : Graph) (P inner inner' : Graph → Type 0
 
 work_there : (ts ts' : List Template) (w : Work) → Agrees ts ts' → HasGraph ts w → HasGraph ts' w
 work_there ts ts' (Program p) agrees there = there
-work_there ts ts' (Block' b g) agrees there = there
+work_there ts ts' (Block g) agrees there = there
 work_there ts ts' (Process t) agrees there = (there.0, agrees t there.0 there.1)
 
 graphs_there : (ts ts' : List Template) (g : Graph) → Agrees ts ts' → HasGraphs ts g → HasGraphs ts' g

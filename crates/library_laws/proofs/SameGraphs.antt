@@ -6,7 +6,7 @@ use Rattle.flow_model.specs.ScopeContainers.{graph_in}
 use Rattle.flow_model.specs.declared.graphs.Activity.{Activity}
 use Rattle.flow_model.specs.declared.graphs.Graph.{Graph, out-Graph}
 use Rattle.flow_model.specs.declared.graphs.Template.{Template}
-use Rattle.flow_model.specs.declared.graphs.Work.{Work, Program, Block', Process}
+use Rattle.flow_model.specs.declared.graphs.Work.{Work, Program, Block, Process}
 use Rattle.library_laws.specs.Larger.{Agrees}
 use Rattle.navigator.specs.Serving.{HasGraph, Served}
 
@@ -23,7 +23,7 @@ and_then_same (Some x) f f' same = same x refl
 
 pub same_graph : (ts ts' : List Template) (w : Work) → Agrees ts ts' → HasGraph ts w → graph_in ts' w ≡ graph_in ts w
 same_graph ts ts' (Program p) agrees there = refl
-same_graph ts ts' (Block' b g) agrees there = refl
+same_graph ts ts' (Block g) agrees there = refl
 same_graph ts ts' (Process t) agrees there = agrees t there.0 there.1 ∙ sym there.1
 
 -- a graph whose activities run the same graphs in both libraries, each of which has this property

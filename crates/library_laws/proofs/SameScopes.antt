@@ -11,7 +11,7 @@ use Rattle.flow_model.specs.declared.graphs.Activity.{Activity}
 use Rattle.flow_model.specs.declared.graphs.Container.{Container}
 use Rattle.flow_model.specs.declared.graphs.Graph.{Graph, out-Graph}
 use Rattle.flow_model.specs.declared.graphs.Template.{Template}
-use Rattle.flow_model.specs.declared.graphs.Work.{Work, Program, Block', Process}
+use Rattle.flow_model.specs.declared.graphs.Work.{Work, Program, Block, Process}
 use Rattle.flow_model.specs.declared.instances.Fate.TheVariants.{Waiting}
 use Rattle.flow_model.specs.declared.instances.Part.{Part}
 use Rattle.flow_model.specs.declared.names.Name.{Name}
@@ -31,7 +31,7 @@ module _ (ts ts' : List Template) (k : Known) (runs runs' : Runs) (inner : Graph
   work_same : (name : Name) (w : Work) → graph_in ts' w ≡ graph_in ts w → ((h : Graph) → graph_in ts w ≡ Some h → inner h) → (j : ℕ) (i : Container)
       → gives ts' k runs' name w j i ≡ gives ts k runs name w j i
   work_same name (Program p) graphs ok j i = refl
-  work_same name (Block' b g) graphs ok j i = scope_same (Some g) ok (part name j) i
+  work_same name (Block g) graphs ok j i = scope_same (Some g) ok (part name j) i
   work_same name (Process t) graphs ok j i = ap (λ o. scope_gives k runs' o (part name j) i) graphs ∙ scope_same (graph_of ts t) ok (part name j) i
 
   module _ (g : Graph) (inside : HasSameGraphs ts ts' g inner) (input : Container) where

@@ -8,7 +8,7 @@ use Rattle.flow_model.specs.ScopeContainers.{up_to}
 use Rattle.flow_model.specs.declared.graphs.Activity.{Activity}
 use Rattle.flow_model.specs.declared.graphs.Container.{Container}
 use Rattle.flow_model.specs.declared.graphs.Graph.{Graph, out-Graph}
-use Rattle.flow_model.specs.declared.graphs.Work.{Work, Program as RunsProgram, Block', Process}
+use Rattle.flow_model.specs.declared.graphs.Work.{Work, Program as RunsProgram, Block, Process}
 use Rattle.dead_paths.specs.declared.joins.Tally.{Tally}
 use Rattle.machine.specs.Rows.{Standing, Item, Inner, Waits, Row, Step, only, fresh_row, fresh_standing, fresh_tally}
 use Rattle.machine.specs.Rows.{incoming_count}
@@ -24,16 +24,16 @@ use Rattle.machine_scopes.proofs.Tallied.{tally_fresh}
 standing_fresh : (w : Work) (state : ActivityState) → IsFreshWork w state → standing_of state ≡ fresh_standing w
 standing_fresh (RunsProgram w) (Program p) is = ap Item is
 standing_fresh (RunsProgram w) (Nested n) is = absurd is
-standing_fresh (Block' b g) (Program p) is = absurd is
-standing_fresh (Block' b g) (Nested n) is = ap₂ Inner (ap stage_of is.stage) (ap length is.scopes)
+standing_fresh (Block g) (Program p) is = absurd is
+standing_fresh (Block g) (Nested n) is = ap₂ Inner (ap stage_of is.stage) (ap length is.scopes)
 standing_fresh (Process t) (Program p) is = absurd is
 standing_fresh (Process t) (Nested n) is = ap₂ Inner (ap stage_of is.stage) (ap length is.scopes)
 
 scope_fresh : (w : Work) (state : ActivityState) (i : ℕ) → IsFreshWork w state → scope_in state i ≡ None
 scope_fresh (RunsProgram w) (Program p) i is = refl
 scope_fresh (RunsProgram w) (Nested n) i is = absurd is
-scope_fresh (Block' b g) (Program p) i is = absurd is
-scope_fresh (Block' b g) (Nested n) i is = ap (λ xs. slice_get xs i) is.scopes
+scope_fresh (Block g) (Program p) i is = absurd is
+scope_fresh (Block g) (Nested n) i is = ap (λ xs. slice_get xs i) is.scopes
 scope_fresh (Process t) (Program p) i is = absurd is
 scope_fresh (Process t) (Nested n) i is = ap (λ xs. slice_get xs i) is.scopes
 

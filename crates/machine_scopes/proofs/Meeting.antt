@@ -15,7 +15,7 @@ use Rattle.flow_model.specs.declared.graphs.Container.{Container}
 use Rattle.flow_model.specs.declared.graphs.Graph.{Graph, out-Graph}
 use Rattle.flow_model.specs.declared.graphs.Program.{Program as ProgramOf}
 use Rattle.flow_model.specs.declared.graphs.Template.{Template}
-use Rattle.flow_model.specs.declared.graphs.Work.{Work, Program as RunsProgram, Block', Process}
+use Rattle.flow_model.specs.declared.graphs.Work.{Work, Program as RunsProgram, Block, Process}
 use Rattle.flow_model.specs.declared.instances.Fate.{Fate}
 use Rattle.flow_model.specs.declared.instances.Message.{Message}
 use Rattle.flow_model.specs.declared.instances.Message.TheVariants.{Begin, Signal, End}
@@ -208,7 +208,7 @@ program_there : (w : Work) (program : ProgramOf) (fate : Fate) (outs : List Cont
     → (p : State) × (state ≡ Program p)
 program_there (RunsProgram w) program fate outs starts shows (Program p) runs is = (p, refl)
 program_there (RunsProgram w) program fate outs starts shows (Nested n) runs is = absurd is
-program_there (Block' b g) program fate outs starts shows state runs is = let never : ⊥ = cc in absurd never
+program_there (Block g) program fate outs starts shows state runs is = let never : ⊥ = cc in absurd never
 program_there (Process t) program fate outs starts shows state runs is = let never : ⊥ = cc in absurd never
 
 completion_met : (ts : List Template) (q : Part) (depth : ℕ) (k : Known) (g : Graph) (input : Container)

@@ -12,7 +12,7 @@ use Rattle.flow_model.specs.ScopeContainers.{base_of, looped}
 use Rattle.flow_model.specs.Scopes.{Gives, Trial, Start, tries, then_start, starts, gives, is_fed, trial, fate_given, output, tree_ends}
 use Rattle.flow_model.specs.declared.graphs.Container.{Container}
 use Rattle.flow_model.specs.declared.graphs.Graph.{Graph, out-Graph}
-use Rattle.flow_model.specs.declared.graphs.Work.{Work, Program as RunsProgram, Block', Process}
+use Rattle.flow_model.specs.declared.graphs.Work.{Work, Program as RunsProgram, Block, Process}
 use Rattle.flow_model.specs.declared.instances.Fate.{Fate}
 use Rattle.navigator.specs.ItemInputs.{ReadsAttempt}
 use Rattle.navigator.specs.Items.{base_at, looped_from, item_input}
@@ -65,7 +65,7 @@ start_reads (suc n) give t j x (suc m) start there = go (give j x) refl there (�
 
 shown_program : (w : Work) (fate : Fate) (outs : List Container) (ss : List Start) (shows : ShowsStart) (p : State) → ShowsWork w fate outs ss shows (Program p) → ShowsProgram fate outs p
 shown_program (RunsProgram w) fate outs ss shows p is = is
-shown_program (Block' b g) fate outs ss shows p is = absurd is
+shown_program (Block g) fate outs ss shows p is = absurd is
 shown_program (Process t) fate outs ss shows p is = absurd is
 
 mapped_at : {A B : Type 0} (f : A → B) (xs : List A) (i : ℕ) → option_map f (slice_get xs i) ≡ slice_get (map f xs) i

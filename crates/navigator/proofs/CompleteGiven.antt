@@ -14,7 +14,7 @@ use Rattle.flow_model.specs.declared.graphs.Container.{Container}
 use Rattle.flow_model.specs.declared.graphs.Graph.{Graph, out-Graph}
 use Rattle.flow_model.specs.declared.graphs.Program.{Program as ProgramOf}
 use Rattle.flow_model.specs.declared.graphs.Template.{Template}
-use Rattle.flow_model.specs.declared.graphs.Work.{Work, Program as RunsProgram, Block', Process}
+use Rattle.flow_model.specs.declared.graphs.Work.{Work, Program as RunsProgram, Block, Process}
 use Rattle.flow_model.specs.declared.instances.Fate.{Fate}
 use Rattle.flow_model.specs.declared.instances.Fate.TheVariants.{Ready}
 use Rattle.flow_model.specs.declared.instances.Part.{Part}
@@ -43,7 +43,7 @@ program_in : (w : Work) (program : ProgramOf) (fate : Fate) (outs : List Contain
     → ShowsWork w fate outs starts shows state → (p : State) × (state ≡ Program p)
 program_in (RunsProgram w) program fate outs starts shows (Program p) runs is = (p, refl)
 program_in (RunsProgram w) program fate outs starts shows (Nested n) runs is = absurd is
-program_in (Block' b g) program fate outs starts shows state runs is = let never : ⊥ = cc in absurd never
+program_in (Block g) program fate outs starts shows state runs is = let never : ⊥ = cc in absurd never
 program_in (Process t) program fate outs starts shows state runs is = let never : ⊥ = cc in absurd never
 
 -- the attempt of an item is ready

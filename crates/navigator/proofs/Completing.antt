@@ -20,7 +20,7 @@ use Rattle.flow_model.specs.declared.graphs.Container.{Container}
 use Rattle.flow_model.specs.declared.graphs.Graph.{Graph, out-Graph}
 use Rattle.flow_model.specs.declared.graphs.Program.{Program as ProgramOf}
 use Rattle.flow_model.specs.declared.graphs.Template.{Template}
-use Rattle.flow_model.specs.declared.graphs.Work.{Work, Program as RunsProgram, Block', Process}
+use Rattle.flow_model.specs.declared.graphs.Work.{Work, Program as RunsProgram, Block, Process}
 use Rattle.flow_model.specs.declared.instances.Fate.{Fate}
 use Rattle.flow_model.specs.declared.instances.Fate.TheVariants.{Waiting, Ready, Finished, Dead}
 use Rattle.flow_model.specs.declared.instances.Hold.{Hold}
@@ -109,7 +109,7 @@ program_state : (w : Work) (program : ProgramOf) (fate : Fate) (outs : List Cont
     → ShowsWork w fate outs starts shows state → (p : State) × (state ≡ Program p) × ShowsProgram fate outs p
 program_state (RunsProgram w) program fate outs starts shows (Program p) runs is = (p, refl, is)
 program_state (RunsProgram w) program fate outs starts shows (Nested n) runs is = absurd is
-program_state (Block' b g) program fate outs starts shows state runs is = let never : ⊥ = cc in absurd never
+program_state (Block g) program fate outs starts shows state runs is = let never : ⊥ = cc in absurd never
 program_state (Process t) program fate outs starts shows state runs is = let never : ⊥ = cc in absurd never
 
 program_work : (w : Work) (program : ProgramOf) (fate : Fate) (outs : List Container) (starts : List Start) (shows : ShowsStart) (p : State) → w ≡ RunsProgram program

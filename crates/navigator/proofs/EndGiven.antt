@@ -16,7 +16,7 @@ use Rattle.flow_model.specs.declared.graphs.Container.{Container}
 use Rattle.flow_model.specs.declared.graphs.Expr.{Expr}
 use Rattle.flow_model.specs.declared.graphs.Graph.{Graph, out-Graph}
 use Rattle.flow_model.specs.declared.graphs.Template.{Template}
-use Rattle.flow_model.specs.declared.graphs.Work.{Work, Program as RunsProgram, Block', Process}
+use Rattle.flow_model.specs.declared.graphs.Work.{Work, Program as RunsProgram, Block, Process}
 use Rattle.flow_model.specs.declared.instances.Part.{Part}
 use Rattle.flow_model.specs.declared.instances.Path.{Path}
 use Rattle.flow_model.specs.declared.instances.SourceEnd.TheVariants as end
@@ -63,7 +63,7 @@ some_last x (y ∷ ys) = some_last y ys
 
 open_end : (w : Work) (n : ℕ) (outs : List Container) → ended (goes_on w n) outs ≡ end.Unsettled
 open_end (RunsProgram p) n outs = refl
-open_end (Block' p g) n outs = refl
+open_end (Block g) n outs = refl
 open_end (Process t) n outs = refl
 
 -- so it isn't settled

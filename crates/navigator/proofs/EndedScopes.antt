@@ -13,7 +13,7 @@ use Rattle.flow_model.specs.declared.graphs.Container.{Container}
 use Rattle.flow_model.specs.declared.graphs.Graph.{Graph, out-Graph}
 use Rattle.flow_model.specs.declared.graphs.MapEnd.TheVariants.{Border}
 use Rattle.flow_model.specs.declared.graphs.Template.{Template}
-use Rattle.flow_model.specs.declared.graphs.Work.{Work, Program as RunsProgram, Block', Process}
+use Rattle.flow_model.specs.declared.graphs.Work.{Work, Program as RunsProgram, Block, Process}
 use Rattle.flow_model.specs.declared.instances.Fate.{Fate}
 use Rattle.flow_model.specs.declared.instances.Fate.TheVariants.{Running, Finished}
 use Rattle.flow_model.specs.declared.instances.Path.{Path}
@@ -42,8 +42,8 @@ module _ (ts : List Template) (h : Graph) where
   pub nested_state : (w : Work) (fate : Fate) (outs : List Container) (starts : List Start) (shows : ShowsStart) (state : ActivityState) → graph_in ts w ≡ Some h
       → ShowsWork w fate outs starts shows state → (n : NestedState) × (state ≡ Nested n) × ShowsNested fate starts shows n
   nested_state (RunsProgram w) fate outs starts shows state of is = absurd (no_graph of)
-  nested_state (Block' b g) fate outs starts shows (Program p) of is = absurd is
-  nested_state (Block' b g) fate outs starts shows (Nested n) of is = (n, refl, is)
+  nested_state (Block g) fate outs starts shows (Program p) of is = absurd is
+  nested_state (Block g) fate outs starts shows (Nested n) of is = (n, refl, is)
   nested_state (Process t) fate outs starts shows (Program p) of is = absurd is
   nested_state (Process t) fate outs starts shows (Nested n) of is = (n, refl, is)
 
@@ -51,19 +51,19 @@ module _ (ts : List Template) (h : Graph) where
   pub nested_work : (w : Work) (fate : Fate) (outs : List Container) (starts : List Start) (shows : ShowsStart) (n : NestedState) → graph_in ts w ≡ Some h
       → ShowsNested fate starts shows n → ShowsWork w fate outs starts shows (Nested n)
   nested_work (RunsProgram w) fate outs starts shows n of is = absurd (no_graph of)
-  nested_work (Block' b g) fate outs starts shows n of is = is
+  nested_work (Block g) fate outs starts shows n of is = is
   nested_work (Process t) fate outs starts shows n of is = is
 
   runs_on : (w : Work) (c : ℕ) → graph_in ts w ≡ Some h → goes_on w c ≡ Running c
   runs_on (RunsProgram w) c of = absurd (no_graph of)
-  runs_on (Block' b g) c of = refl
+  runs_on (Block g) c of = refl
   runs_on (Process t) c of = refl
 
   -- its attempts give what their scopes give
   pub gives_scope : (k : Known) (runs : Runs) (name : Name) (w : Work) (j : ℕ) (i : Container) → graph_in ts w ≡ Some h
       → gives ts k runs name w j i ≡ scope_gives k runs (Some h) (part name j) i
   gives_scope k runs name (RunsProgram w) j i of = absurd (no_graph of)
-  gives_scope k runs name (Block' b g) j i of = ap (λ o. scope_gives k runs o (part name j) i) of
+  gives_scope k runs name (Block g) j i of = ap (λ o. scope_gives k runs o (part name j) i) of
   gives_scope k runs name (Process t) j i of = ap (λ o. scope_gives k runs o (part name j) i) of
 
 -- ---- the result of its state

@@ -12,7 +12,7 @@ use Rattle.flow_model.specs.declared.graphs.Activity.{Activity}
 use Rattle.flow_model.specs.declared.graphs.Container.{Container}
 use Rattle.flow_model.specs.declared.graphs.Graph.{Graph, out-Graph}
 use Rattle.flow_model.specs.declared.graphs.Template.{Template}
-use Rattle.flow_model.specs.declared.graphs.Work.{Work, Program as RunsProgram, Block', Process}
+use Rattle.flow_model.specs.declared.graphs.Work.{Work, Program as RunsProgram, Block, Process}
 use Rattle.flow_model.specs.declared.instances.Fate.{Fate}
 use Rattle.flow_model.specs.declared.instances.Hold.{Hold}
 use Rattle.flow_model.specs.declared.names.Name.{Name}
@@ -48,7 +48,7 @@ program_alike fate outs p p' same is = record {
 pub work_alike : (w : Work) (fate : Fate) (outs : List Container) (starts : List Start) (shows : ShowsStart) (p p' : State) → DiffersInHold p p'
     → ShowsWork w fate outs starts shows (Program p) → ShowsWork w fate outs starts shows (Program p')
 work_alike (RunsProgram w) fate outs starts shows p p' same is = program_alike fate outs p p' same is
-work_alike (Block' b g) fate outs starts shows p p' same is = is
+work_alike (Block g) fate outs starts shows p p' same is = is
 work_alike (Process t) fate outs starts shows p p' same is = is
 
 -- ---- a scope
@@ -139,7 +139,7 @@ work_stays ts h n n' stays = λ w depth k name fate outs starts runs is. go w de
         → ShowsWork w fate outs starts (shows_attempt (ShowsWithin ts depth) k name (Some h)) (Nested n)
         → ShowsWork w fate outs starts (shows_attempt (ShowsWithin ts depth) k name (Some h)) (Nested n')
     go (RunsProgram w) depth k name fate outs starts runs is = absurd is
-    go (Block' b g) depth k name fate outs starts runs is = stays depth k name fate starts is
+    go (Block g) depth k name fate outs starts runs is = stays depth k name fate starts is
     go (Process t) depth k name fate outs starts runs is = stays depth k name fate starts is
 
 -- an activity that runs no graph of its own stays, and so does one whose state stays

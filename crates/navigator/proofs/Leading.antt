@@ -15,7 +15,7 @@ use Rattle.flow_model.specs.declared.graphs.Activity.{Activity}
 use Rattle.flow_model.specs.declared.graphs.Container.{Container}
 use Rattle.flow_model.specs.declared.graphs.Graph.{Graph, out-Graph}
 use Rattle.flow_model.specs.declared.graphs.Template.{Template}
-use Rattle.flow_model.specs.declared.graphs.Work.{Work, Program as RunsProgram, Block', Process}
+use Rattle.flow_model.specs.declared.graphs.Work.{Work, Program as RunsProgram, Block, Process}
 use Rattle.flow_model.specs.declared.instances.Fate.{Fate}
 use Rattle.flow_model.specs.declared.instances.Part.{Part}
 use Rattle.flow_model.specs.declared.names.Name.{Name}
@@ -74,7 +74,7 @@ module _ (ts : List Template) (runs : Runs) (k j : Known) (q : Part) (given : j.
 
   gives_as_before : (name : Name) (w : Work) (n : ℕ) (i : Container) → gives ts (with_below q j k) runs name w n i ≡ gives ts k runs name w n i
   gives_as_before name (RunsProgram p) n i = item_as_before (part name n)
-  gives_as_before name (Block' b g) n i = scope_as_before (Some g) (part name n) i
+  gives_as_before name (Block g) n i = scope_as_before (Some g) (part name n) i
   gives_as_before name (Process t) n i = scope_as_before (graph_of ts t) (part name n) i
 
   pub same_on_the_way : IsSameScope ts runs k (with_below q j k)
@@ -124,8 +124,8 @@ module _ (fate fate' : Fate) (outs outs' : List Container) (starts starts' : Lis
   work_way : (w : Work) (n : NestedState) (state : ActivityState) → ShowsWork w fate outs starts shows (Nested n) → slice_get (out-NestedState n).scopes.items i ≡ Some inner
       → ChangesState change i inner n state → ShowsWork w fate' outs' starts' shows' state
   work_way (RunsProgram w) n state is there c = absurd is
-  work_way (Block' b g) n (Program p) is there c = absurd c
-  work_way (Block' b g) n (Nested n') is there c = nested_changed n n' is there c
+  work_way (Block g) n (Program p) is there c = absurd c
+  work_way (Block g) n (Nested n') is there c = nested_changed n n' is there c
   work_way (Process t) n (Program p) is there c = absurd c
   work_way (Process t) n (Nested n') is there c = nested_changed n n' is there c
 
@@ -138,8 +138,8 @@ pub record HasScopes (fate : Fate) (starts : List Start) (shows : ShowsStart) (s
 pub has_scopes : (ts : List Template) (w : Work) (h : Graph) (fate : Fate) (outs : List Container) (starts : List Start) (shows : ShowsStart) (state : ActivityState)
     → graph_in ts w ≡ Some h → ShowsWork w fate outs starts shows state → HasScopes fate starts shows state
 has_scopes ts (RunsProgram w) h fate outs starts shows state none is = let never : None ≡ Some h = none in cc
-has_scopes ts (Block' b g) h fate outs starts shows (Program p) runs is = absurd is
-has_scopes ts (Block' b g) h fate outs starts shows (Nested n) runs is = record { nested = n; is = refl; shown = is }
+has_scopes ts (Block g) h fate outs starts shows (Program p) runs is = absurd is
+has_scopes ts (Block g) h fate outs starts shows (Nested n) runs is = record { nested = n; is = refl; shown = is }
 has_scopes ts (Process t) h fate outs starts shows (Program p) runs is = absurd is
 has_scopes ts (Process t) h fate outs starts shows (Nested n) runs is = record { nested = n; is = refl; shown = is }
 

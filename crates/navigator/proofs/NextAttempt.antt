@@ -14,7 +14,7 @@ use Rattle.flow_model.specs.declared.graphs.Activity.{Activity}
 use Rattle.flow_model.specs.declared.graphs.Container.{Container}
 use Rattle.flow_model.specs.declared.graphs.Graph.{Graph, out-Graph}
 use Rattle.flow_model.specs.declared.graphs.Template.{Template}
-use Rattle.flow_model.specs.declared.graphs.Work.{Work, Program as RunsProgram, Block', Process}
+use Rattle.flow_model.specs.declared.graphs.Work.{Work, Program as RunsProgram, Block, Process}
 use Rattle.flow_model.specs.declared.instances.Fate.{Fate}
 use Rattle.flow_model.specs.declared.instances.Fate.TheVariants.{Ready, Finished}
 use Rattle.flow_model.specs.declared.instances.SourceEnd.{SourceEnd}
@@ -56,12 +56,12 @@ then_fate activity outs out c counted =
 
 open_end : (w : Work) (n : ℕ) (outs : List Container) → ended (goes_on w n) outs ≡ end.Unsettled
 open_end (RunsProgram p) n outs = refl
-open_end (Block' p g) n outs = refl
+open_end (Block g) n outs = refl
 open_end (Process t) n outs = refl
 
 open_fate : (w : Work) (n : ℕ) → is_open (goes_on w n) ≡ true
 open_fate (RunsProgram p) n = refl
-open_fate (Block' p g) n = refl
+open_fate (Block g) n = refl
 open_fate (Process t) n = refl
 
 finished_end : (n : ℕ) (outs : List Container) (out : Container) → last_or None outs ≡ Some out → ended (Finished n) outs ≡ end.Finished out
@@ -89,7 +89,7 @@ open_join activity (Some false) outs is = absurd (no_end is)
 
 ready_number : (w : Work) (n c : ℕ) → goes_on w n ≡ Ready c → n ≡ c
 ready_number (RunsProgram p) n c is = cc
-ready_number (Block' p g) n c is = let never : ⊥ = cc in absurd never
+ready_number (Block g) n c is = let never : ⊥ = cc in absurd never
 ready_number (Process t) n c is = let never : ⊥ = cc in absurd never
 
 -- an activity whose attempt c is ready goes on, and has tried all before it

@@ -20,7 +20,7 @@ use Rattle.flow_model.specs.declared.graphs.Container.{Container}
 use Rattle.flow_model.specs.declared.graphs.Control.{Control}
 use Rattle.flow_model.specs.declared.graphs.Graph.{Graph, out-Graph}
 use Rattle.flow_model.specs.declared.graphs.Template.{Template}
-use Rattle.flow_model.specs.declared.graphs.Work.{Work, Program as RunsProgram, Block', Process}
+use Rattle.flow_model.specs.declared.graphs.Work.{Work, Program as RunsProgram, Block, Process}
 use Rattle.flow_model.specs.declared.instances.Fate.TheVariants.{Waiting}
 use Rattle.flow_model.specs.declared.instances.Part.{Part}
 use Rattle.flow_model.specs.declared.instances.SourceEnd.{SourceEnd}
@@ -92,7 +92,7 @@ scope_apart k k' runs q near (Some h) r i apart =
 pub gives_apart : (ts : List Template) (k k' : Known) (runs : Runs) (q : Part) → IsNear k k' q → (name : Name) (w : Work) (j : ℕ) (i : Container) → part name j ≢ q
     → gives ts k' runs name w j i ≡ gives ts k runs name w j i
 gives_apart ts k k' runs q near name (RunsProgram p) j i apart = ap (λ known. known.given []) (near.others (part name j) apart)
-gives_apart ts k k' runs q near name (Block' b g) j i apart = scope_apart k k' runs q near (Some g) (part name j) i apart
+gives_apart ts k k' runs q near name (Block g) j i apart = scope_apart k k' runs q near (Some g) (part name j) i apart
 gives_apart ts k k' runs q near name (Process t) j i apart = scope_apart k k' runs q near (graph_of ts t) (part name j) i apart
 
 -- the values of connectors are those of the messages, however activities have ended

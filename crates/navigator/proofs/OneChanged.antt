@@ -13,7 +13,7 @@ use Rattle.flow_model.specs.declared.graphs.Activity.{Activity}
 use Rattle.flow_model.specs.declared.graphs.Container.{Container}
 use Rattle.flow_model.specs.declared.graphs.Graph.{Graph, out-Graph}
 use Rattle.flow_model.specs.declared.graphs.Template.{Template}
-use Rattle.flow_model.specs.declared.graphs.Work.{Work, Program as RunsProgram, Block', Process}
+use Rattle.flow_model.specs.declared.graphs.Work.{Work, Program as RunsProgram, Block, Process}
 use Rattle.flow_model.specs.declared.instances.Part.{Part}
 use Rattle.flow_model.specs.declared.names.Name.{Name}
 use Rattle.navigator.proofs.Leading.{set_other}
@@ -42,7 +42,7 @@ same_scope_gives k k' runs same (Some h) q i =
 -- its attempts give the same
 pub same_gives : (ts : List Template) (k k' : Known) (runs : Runs) → ((q : Part) → at q k' ≡ at q k) → (name : Name) (w : Work) → gives ts k' runs name w ≡ gives ts k runs name w
 same_gives ts k k' runs same name (RunsProgram p) = fun_ext (λ j. fun_ext (λ i. ap (λ known. known.given []) (same (part name j))))
-same_gives ts k k' runs same name (Block' b g) = fun_ext (λ j. fun_ext (λ i. same_scope_gives k k' runs same (Some g) (part name j) i))
+same_gives ts k k' runs same name (Block g) = fun_ext (λ j. fun_ext (λ i. same_scope_gives k k' runs same (Some g) (part name j) i))
 same_gives ts k k' runs same name (Process t) = fun_ext (λ j. fun_ext (λ i. same_scope_gives k k' runs same (graph_of ts t) (part name j) i))
 
 -- and their scopes show the same

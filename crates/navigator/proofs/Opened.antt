@@ -12,7 +12,7 @@ use Rattle.flow_model.specs.declared.graphs.Activity.{Activity}
 use Rattle.flow_model.specs.declared.graphs.Container.{Container}
 use Rattle.flow_model.specs.declared.graphs.Graph.{Graph, out-Graph}
 use Rattle.flow_model.specs.declared.graphs.Template.{Template}
-use Rattle.flow_model.specs.declared.graphs.Work.{Work, Program as RunsProgram, Block', Process}
+use Rattle.flow_model.specs.declared.graphs.Work.{Work, Program as RunsProgram, Block, Process}
 use Rattle.flow_model.specs.declared.instances.Fate.{Fate}
 use Rattle.flow_model.specs.declared.instances.Fate.TheVariants as fates
 use Rattle.flow_model.specs.declared.instances.Hold.TheVariants.{Nobody}
@@ -40,7 +40,7 @@ new_scope k runs (Some h) q input new = rw new.unclosed refl
 pub new_gives : (ts : List Template) (k : Known) (runs : Runs) (name : Name) (w : Work) (j : ℕ) (input : Container) → IsNew k (part name j)
     → gives ts k runs name w j input ≡ None
 new_gives ts k runs name (RunsProgram p) j input new = new.ungiven
-new_gives ts k runs name (Block' b g) j input new = new_scope k runs (Some g) (part name j) input new
+new_gives ts k runs name (Block g) j input new = new_scope k runs (Some g) (part name j) input new
 new_gives ts k runs name (Process t) j input new = new_scope k runs (graph_of ts t) (part name j) input new
 
 no_tries : (n : ℕ) (give : Gives) (t : Trial) (j : ℕ) (input : Container) → give j input ≡ None → tries n give t j input ≡ []
@@ -52,12 +52,12 @@ one_start n give t j input none = rw none refl
 
 goes_on_open : (w : Work) (n : ℕ) → is_open (goes_on w n) ≡ true
 goes_on_open (RunsProgram p) n = refl
-goes_on_open (Block' b g) n = refl
+goes_on_open (Block g) n = refl
 goes_on_open (Process t) n = refl
 
 goes_on_unsettled : (w : Work) (n : ℕ) (outs : List Container) → ended (goes_on w n) outs ≡ Unsettled
 goes_on_unsettled (RunsProgram p) n outs = refl
-goes_on_unsettled (Block' b g) n outs = refl
+goes_on_unsettled (Block g) n outs = refl
 goes_on_unsettled (Process t) n outs = refl
 
 -- its first attempt starts, and has given nothing
@@ -203,8 +203,8 @@ module _ (ts : List Template) (base base' : Container) (path : Path) (clock a : 
   opened_work (RunsProgram w) (Program p) has was waits none same opens is no_outs one fresh_shows =
       record { state = Program (made_ready p clock); scope = opens.0; shown = ready_shows p clock fate' outs' (was.stands ∙ waits) is no_outs }
   opened_work (RunsProgram w) (Nested n) has was waits none same opens is no_outs one fresh_shows = absurd was
-  opened_work (Block' b h) (Program p) has was waits none same opens is no_outs one fresh_shows = absurd was
-  opened_work (Block' b h) (Nested n) has was waits none same opens is no_outs one fresh_shows =
+  opened_work (Block h) (Program p) has was waits none same opens is no_outs one fresh_shows = absurd was
+  opened_work (Block h) (Nested n) has was waits none same opens is no_outs one fresh_shows =
       let to = scope_shows h base base' path a activity n old new before after fate fate' starts starts' shows shows' was none same opens is one (λ s. fresh_shows h s refl) in
       record { state = Nested to.nested; scope = to.scope; shown = to.shown }
   opened_work (Process t) (Program p) has was waits none same opens is no_outs one fresh_shows = absurd was
@@ -216,8 +216,8 @@ dead_work : (w : Work) (was : ActivityState) (fate fate' : Fate) (outs outs' : L
     → ShowsWork w fate outs starts shows was → fate ≡ fates.Waiting → starts ≡ [] → fate' ≡ fates.Dead → starts' ≡ [] → ShowsWork w fate' outs' starts' shows' (dead_state was)
 dead_work (RunsProgram w) (Program p) fate fate' outs outs' starts starts' shows shows' was waits none is none' = killed_shows p fate' outs' (was.stands ∙ waits) is
 dead_work (RunsProgram w) (Nested n) fate fate' outs outs' starts starts' shows shows' was waits none is none' = was
-dead_work (Block' b h) (Program p) fate fate' outs outs' starts starts' shows shows' was waits none is none' = was
-dead_work (Block' b h) (Nested n) fate fate' outs outs' starts starts' shows shows' was waits none is none' = dead_nested n fate fate' starts starts' shows shows' was none is none'
+dead_work (Block h) (Program p) fate fate' outs outs' starts starts' shows shows' was waits none is none' = was
+dead_work (Block h) (Nested n) fate fate' outs outs' starts starts' shows shows' was waits none is none' = dead_nested n fate fate' starts starts' shows shows' was none is none'
 dead_work (Process t) (Program p) fate fate' outs outs' starts starts' shows shows' was waits none is none' = was
 dead_work (Process t) (Nested n) fate fate' outs outs' starts starts' shows shows' was waits none is none' = dead_nested n fate fate' starts starts' shows shows' was none is none'
 
@@ -228,8 +228,8 @@ waiting_work (RunsProgram w) (Program p) fate fate' outs outs' starts starts' sh
   outputs = λ opened. let never : false ≡ true = rw is at opened in let n : ⊥ = cc in absurd n;
 }
 waiting_work (RunsProgram w) (Nested n) fate fate' outs outs' starts starts' shows shows' was waits none is none' = was
-waiting_work (Block' b h) (Program p) fate fate' outs outs' starts starts' shows shows' was waits none is none' = was
-waiting_work (Block' b h) (Nested n) fate fate' outs outs' starts starts' shows shows' was waits none is none' = waiting_nested n fate fate' starts starts' shows shows' was waits none is none'
+waiting_work (Block h) (Program p) fate fate' outs outs' starts starts' shows shows' was waits none is none' = was
+waiting_work (Block h) (Nested n) fate fate' outs outs' starts starts' shows shows' was waits none is none' = waiting_nested n fate fate' starts starts' shows shows' was waits none is none'
 waiting_work (Process t) (Program p) fate fate' outs outs' starts starts' shows shows' was waits none is none' = was
 waiting_work (Process t) (Nested n) fate fate' outs outs' starts starts' shows shows' was waits none is none' = waiting_nested n fate fate' starts starts' shows shows' was waits none is none'
 

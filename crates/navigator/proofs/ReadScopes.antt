@@ -17,7 +17,7 @@ use Rattle.flow_model.specs.declared.graphs.Activity.{Activity}
 use Rattle.flow_model.specs.declared.graphs.Container.{Container}
 use Rattle.flow_model.specs.declared.graphs.Graph.{Graph, out-Graph}
 use Rattle.flow_model.specs.declared.graphs.Template.{Template}
-use Rattle.flow_model.specs.declared.graphs.Work.{Work, Program as RunsProgram, Block', Process}
+use Rattle.flow_model.specs.declared.graphs.Work.{Work, Program as RunsProgram, Block, Process}
 use Rattle.flow_model.specs.declared.instances.Fate.{Fate}
 use Rattle.flow_model.specs.declared.instances.Fate.TheVariants.{Waiting}
 use Rattle.flow_model.specs.declared.instances.Hold.TheVariants.{Nobody, Person, Agent}
@@ -75,8 +75,8 @@ work_fate : (w : Work) (fate : Fate) (outs : List Container) (starts : List Star
     → state_fate state ≡ with_hold (state_hold state) fate
 work_fate (RunsProgram w) fate outs starts shows (Program p) is = held_fate p ∙ ap (with_hold (hold_of p)) is.stands
 work_fate (RunsProgram w) fate outs starts shows (Nested n) is = absurd is
-work_fate (Block' b g) fate outs starts shows (Program p) is = absurd is
-work_fate (Block' b g) fate outs starts shows (Nested n) is = is.stands
+work_fate (Block g) fate outs starts shows (Program p) is = absurd is
+work_fate (Block g) fate outs starts shows (Nested n) is = is.stands
 work_fate (Process t) fate outs starts shows (Program p) is = absurd is
 work_fate (Process t) fate outs starts shows (Nested n) is = is.stands
 

@@ -16,7 +16,7 @@ use Rattle.flow_model.specs.declared.graphs.Activity.{Activity}
 use Rattle.flow_model.specs.declared.graphs.Container.{Container}
 use Rattle.flow_model.specs.declared.graphs.Graph.{Graph, out-Graph}
 use Rattle.flow_model.specs.declared.graphs.Template.{Template}
-use Rattle.flow_model.specs.declared.graphs.Work.{Work, Program as RunsProgram, Block', Process}
+use Rattle.flow_model.specs.declared.graphs.Work.{Work, Program as RunsProgram, Block, Process}
 use Rattle.flow_model.specs.declared.instances.Fate.{Fate}
 use Rattle.flow_model.specs.declared.instances.Fate.TheVariants.{Waiting}
 use Rattle.flow_model.specs.declared.instances.FateRow.{FateRow}
@@ -89,7 +89,7 @@ started_numbered ts k runs g input e a activity =
 pub nested_shows : (w : Work) (fate : Fate) (outs : List Container) (starts : List Start) (shows : ShowsStart) (n : NestedState) → ShowsWork w fate outs starts shows (Nested n)
     → ShowsNested fate starts shows n
 nested_shows (RunsProgram w) fate outs starts shows n is = absurd is
-nested_shows (Block' b g) fate outs starts shows n is = is
+nested_shows (Block g) fate outs starts shows n is = is
 nested_shows (Process t) fate outs starts shows n is = is
 
 module _ (ts : List Template) (rows : ScopeRows) (k : Known) (activity : Activity) (path : Path) where

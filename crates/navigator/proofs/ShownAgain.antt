@@ -10,7 +10,7 @@ use Rattle.flow_model.specs.declared.graphs.Activity.{Activity}
 use Rattle.flow_model.specs.declared.graphs.Container.{Container}
 use Rattle.flow_model.specs.declared.graphs.Graph.{Graph, out-Graph}
 use Rattle.flow_model.specs.declared.graphs.Template.{Template}
-use Rattle.flow_model.specs.declared.graphs.Work.{Work, Program as RunsProgram, Block', Process}
+use Rattle.flow_model.specs.declared.graphs.Work.{Work, Program as RunsProgram, Block, Process}
 use Rattle.flow_model.specs.declared.instances.Fate.{Fate}
 use Rattle.flow_model.specs.declared.instances.Fate.TheVariants.{Waiting}
 use Rattle.flow_model.specs.declared.instances.Part.{Part}
@@ -39,8 +39,8 @@ shown_again (RunsProgram w) fate fate' outs outs' starts starts' shows shows' (P
   outputs = λ opened. let before : is_open fate ≡ true = ap is_open (sym same) ∙ opened in is.outputs before ∙ sym (given before);
 }
 shown_again (RunsProgram w) fate fate' outs outs' starts starts' shows shows' (Nested n) same given list more is = is
-shown_again (Block' b g) fate fate' outs outs' starts starts' shows shows' (Program p) same given list more is = is
-shown_again (Block' b g) fate fate' outs outs' starts starts' shows shows' (Nested n) same given list more is = nested_again fate fate' starts starts' shows shows' n same list more is
+shown_again (Block g) fate fate' outs outs' starts starts' shows shows' (Program p) same given list more is = is
+shown_again (Block g) fate fate' outs outs' starts starts' shows shows' (Nested n) same given list more is = nested_again fate fate' starts starts' shows shows' n same list more is
 shown_again (Process t) fate fate' outs outs' starts starts' shows shows' (Program p) same given list more is = is
 shown_again (Process t) fate fate' outs outs' starts starts' shows shows' (Nested n) same given list more is = nested_again fate fate' starts starts' shows shows' n same list more is
 
@@ -133,7 +133,7 @@ scope_gives_same k k' runs same (Some h) q i =
 gives_same : (ts : List Template) (k k' : Known) (runs : Runs) → IsSameInside k k' → (name : Name) (w : Work) (j : ℕ) (i : Container)
     → gives ts k' runs name w j i ≡ gives ts k runs name w j i
 gives_same ts k k' runs same name (RunsProgram p) j i = ap (λ known. known.given []) (same.below (part name j))
-gives_same ts k k' runs same name (Block' b g) j i = scope_gives_same k k' runs same (Some g) (part name j) i
+gives_same ts k k' runs same name (Block g) j i = scope_gives_same k k' runs same (Some g) (part name j) i
 gives_same ts k k' runs same name (Process t) j i = scope_gives_same k k' runs same (graph_of ts t) (part name j) i
 
 pub inside_scope : (ts : List Template) (k k' : Known) (runs : Runs) → IsSameInside k k' → IsSameScope ts runs k k'

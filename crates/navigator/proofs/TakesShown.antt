@@ -13,7 +13,7 @@ use Rattle.flow_model.specs.declared.graphs.Activity.{Activity}
 use Rattle.flow_model.specs.declared.graphs.Container.{Container}
 use Rattle.flow_model.specs.declared.graphs.Graph.{Graph, out-Graph}
 use Rattle.flow_model.specs.declared.graphs.Template.{Template}
-use Rattle.flow_model.specs.declared.graphs.Work.{Work, Program as RunsProgram, Block', Process}
+use Rattle.flow_model.specs.declared.graphs.Work.{Work, Program as RunsProgram, Block, Process}
 use Rattle.flow_model.specs.declared.instances.Fate.TheVariants.{Ready}
 use Rattle.flow_model.specs.declared.instances.Message.{Message}
 use Rattle.flow_model.specs.declared.instances.Message.TheVariants.{Begin, Signal, End}
@@ -114,7 +114,7 @@ tries_short (suc n) give t j i = go (give j i) (λ out. tries_short n give t (j 
 
 next_short : (w : Work) (n m j : ℕ) → goes_on w n ≡ Ready j → n ≤ m → j ≤ m
 next_short (RunsProgram p) n m j is le = let same : n ≡ j = cc in omega arith
-next_short (Block' b g) n m j is le = let n : ⊥ = cc in absurd n
+next_short (Block g) n m j is le = let n : ⊥ = cc in absurd n
 next_short (Process t) n m j is le = let n : ⊥ = cc in absurd n
 
 tried_short : (activity : Activity) (n m j : ℕ) (o : Option Container) → tried activity n o ≡ Ready j → n ≤ m → j ≤ m + 1

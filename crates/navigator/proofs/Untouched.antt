@@ -15,7 +15,7 @@ use Rattle.flow_model.specs.declared.graphs.Container.{Container}
 use Rattle.flow_model.specs.declared.graphs.Control.{Control}
 use Rattle.flow_model.specs.declared.graphs.Graph.{Graph, out-Graph}
 use Rattle.flow_model.specs.declared.graphs.Template.{Template}
-use Rattle.flow_model.specs.declared.graphs.Work.{Work, Program as RunsProgram, Block', Process}
+use Rattle.flow_model.specs.declared.graphs.Work.{Work, Program as RunsProgram, Block, Process}
 use Rattle.flow_model.specs.declared.instances.Fate.{Fate}
 use Rattle.flow_model.specs.declared.instances.Fate.TheVariants.{Waiting}
 use Rattle.flow_model.specs.declared.instances.SourceEnd.TheVariants.{Unsettled}
@@ -67,8 +67,8 @@ fresh_work (RunsProgram w) fate outs starts shows (Program p) waits none is = re
   outputs = λ opened. let never : false ≡ true = rw waits at opened in cc;
 }
 fresh_work (RunsProgram w) fate outs starts shows (Nested n) waits none is = is
-fresh_work (Block' b g) fate outs starts shows (Program p) waits none is = is
-fresh_work (Block' b g) fate outs starts shows (Nested n) waits none is = fresh_nested fate starts shows n waits none is
+fresh_work (Block g) fate outs starts shows (Program p) waits none is = is
+fresh_work (Block g) fate outs starts shows (Nested n) waits none is = fresh_nested fate starts shows n waits none is
 fresh_work (Process t) fate outs starts shows (Program p) waits none is = is
 fresh_work (Process t) fate outs starts shows (Nested n) waits none is = fresh_nested fate starts shows n waits none is
 

@@ -7,7 +7,7 @@ use Rattle.flow_model.specs.Wiring.{row_at}
 use Rattle.flow_model.specs.declared.graphs.Activity.{Activity}
 use Rattle.flow_model.specs.declared.graphs.Container.{Container}
 use Rattle.flow_model.specs.declared.graphs.Graph.{Graph, out-Graph}
-use Rattle.flow_model.specs.declared.graphs.Work.{Work, Program as RunsProgram, Block', Process}
+use Rattle.flow_model.specs.declared.graphs.Work.{Work, Program as RunsProgram, Block, Process}
 use Rattle.flow_model.specs.declared.instances.SourceEnd.TheVariants.{Unsettled}
 use Rattle.navigator.specs.declared.scopes.ActivityState.{ActivityState, Program, Nested}
 use Rattle.navigator.specs.declared.scopes.NestedStage.TheVariants.{Waiting}
@@ -27,8 +27,8 @@ pub record IsFreshNested (n : NestedState) : Type 0 where
 abbrev pub IsFreshWork : Work → ActivityState → Type 0
 IsFreshWork (RunsProgram w) (Program p) = p ≡ waiting
 IsFreshWork (RunsProgram w) (Nested n) = ⊥
-IsFreshWork (Block' b g) (Program p) = ⊥
-IsFreshWork (Block' b g) (Nested n) = IsFreshNested n
+IsFreshWork (Block g) (Program p) = ⊥
+IsFreshWork (Block g) (Nested n) = IsFreshNested n
 IsFreshWork (Process t) (Program p) = ⊥
 IsFreshWork (Process t) (Nested n) = IsFreshNested n
 

@@ -6,13 +6,13 @@ use Rattle.flow_model.specs.Wiring.{IsIncoming, IsSinking}
 use Rattle.flow_model.specs.declared.graphs.Activity.{Activity}
 use Rattle.flow_model.specs.declared.graphs.Graph.{Graph, out-Graph}
 use Rattle.flow_model.specs.declared.graphs.Template.{Template}
-use Rattle.flow_model.specs.declared.graphs.Work.{Work, Program, Block', Process}
+use Rattle.flow_model.specs.declared.graphs.Work.{Work, Program, Block, Process}
 use Rattle.navigator.specs.Events.{IsUsable}
 
 -- a process activity has its process
 abbrev pub HasGraph : List Template → Work → Type 0
 HasGraph ts (Program p) = Unit {0}
-HasGraph ts (Block' b g) = Unit {0}
+HasGraph ts (Block g) = Unit {0}
 HasGraph ts (Process t) = (h : Graph) × (graph_of ts t ≡ Some h)
 
 abbrev pub HasGraphs : List Template → Graph → Type 0

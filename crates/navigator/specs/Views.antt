@@ -15,7 +15,7 @@ use Rattle.flow_model.specs.declared.graphs.Activity.{Activity}
 use Rattle.flow_model.specs.declared.graphs.Container.{Container}
 use Rattle.flow_model.specs.declared.graphs.Graph.{Graph, out-Graph}
 use Rattle.flow_model.specs.declared.graphs.Template.{Template}
-use Rattle.flow_model.specs.declared.graphs.Work.{Work, Program as RunsProgram, Block', Process}
+use Rattle.flow_model.specs.declared.graphs.Work.{Work, Program as RunsProgram, Block, Process}
 use Rattle.flow_model.specs.declared.instances.Fate.{Fate}
 use Rattle.flow_model.specs.declared.instances.Fate.TheVariants as fates
 use Rattle.flow_model.specs.declared.instances.Hold.TheVariants.{Nobody}
@@ -56,8 +56,8 @@ pub record ShowsNested (fate : Fate) (starts : List Start) (shows : ShowsStart) 
 abbrev pub ShowsWork : Work → Fate → List Container → List Start → ShowsStart → ActivityState → Type 0
 ShowsWork (RunsProgram w) fate outs starts shows (Program p) = ShowsProgram fate outs p
 ShowsWork (RunsProgram w) fate outs starts shows (Nested n) = ⊥
-ShowsWork (Block' b g) fate outs starts shows (Program p) = ⊥
-ShowsWork (Block' b g) fate outs starts shows (Nested n) = ShowsNested fate starts shows n
+ShowsWork (Block g) fate outs starts shows (Program p) = ⊥
+ShowsWork (Block g) fate outs starts shows (Nested n) = ShowsNested fate starts shows n
 ShowsWork (Process t) fate outs starts shows (Program p) = ⊥
 ShowsWork (Process t) fate outs starts shows (Nested n) = ShowsNested fate starts shows n
 

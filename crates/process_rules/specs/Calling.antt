@@ -10,7 +10,7 @@ use Rattle.fate_laws.specs.Layout.{OfInside}
 use Rattle.flow_model.specs.ScopeContainers.{graph_in}
 use Rattle.flow_model.specs.declared.graphs.Graph.{Graph, out-Graph}
 use Rattle.flow_model.specs.declared.graphs.Template.{Template}
-use Rattle.flow_model.specs.declared.graphs.Work.{Work, Program, Block', Process}
+use Rattle.flow_model.specs.declared.graphs.Work.{Work, Program, Block, Process}
 use Rattle.process_rules.specs.declared.catalog.Catalog.{Catalog}
 use Rattle.process_rules.specs.declared.people.Callee.{Callee}
 use Rattle.process_rules.specs.declared.people.Callee.TheVariants as callee
@@ -18,7 +18,7 @@ use Rattle.process_rules.specs.declared.people.Callee.TheVariants as callee
 -- an activity that runs a process runs one at a place below this
 abbrev pub CallsBelow : ℕ → Work → Type 0
 CallsBelow limit (Program p) = Unit {0}
-CallsBelow limit (Block' b g) = Unit {0}
+CallsBelow limit (Block g) = Unit {0}
 CallsBelow limit (Process t) = t < limit
 
 -- so do all activities of a graph, whose blocks have this property

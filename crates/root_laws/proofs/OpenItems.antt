@@ -13,7 +13,7 @@ use Rattle.flow_model.specs.declared.graphs.Container.{Container}
 use Rattle.flow_model.specs.declared.graphs.Graph.{Graph, out-Graph}
 use Rattle.flow_model.specs.declared.graphs.Program.{Program as ProgramName}
 use Rattle.flow_model.specs.declared.graphs.Template.{Template}
-use Rattle.flow_model.specs.declared.graphs.Work.{Work, Program as RunsProgram, Block', Process}
+use Rattle.flow_model.specs.declared.graphs.Work.{Work, Program as RunsProgram, Block, Process}
 use Rattle.flow_model.specs.declared.instances.Fate.{Fate}
 use Rattle.flow_model.specs.declared.instances.Fate.TheVariants.{Ready}
 use Rattle.flow_model.specs.declared.instances.Hold.{Hold}
@@ -62,7 +62,7 @@ record ShowsItem (w : Work) (fate : Fate) (p : State) : Type 0 where
 
 shown_item : (w : Work) (fate : Fate) (outs : List Container) (starts : List Start) (shows : ShowsStart) (p : State) → ShowsWork w fate outs starts shows (Program p) → ShowsItem w fate p
 shown_item (RunsProgram program) fate outs starts shows p is = record { program = program; runs = refl; stands = is.stands }
-shown_item (Block' b g) fate outs starts shows p is = absurd is
+shown_item (Block g) fate outs starts shows p is = absurd is
 shown_item (Process t) fate outs starts shows p is = absurd is
 
 module _ (ts : List Template) (depth : ℕ) (k : Known) (input : Container) (here : Stand) (shows : Shows ts depth k here.graph input here.scope) (q : Part) (e : Entry)
@@ -114,7 +114,7 @@ both_parts (Some h) (Some s) x is = (ap (option_and_then (λ (y : Stand). Some y
 shown_nested : (w : Work) (fate : Fate) (outs : List Container) (starts : List Start) (shows : ShowsStart) (n : NestedState) → ShowsWork w fate outs starts shows (Nested n)
     → ShowsNested fate starts shows n
 shown_nested (RunsProgram program) fate outs starts shows n is = absurd is
-shown_nested (Block' b g) fate outs starts shows n is = is
+shown_nested (Block g) fate outs starts shows n is = is
 shown_nested (Process t) fate outs starts shows n is = is
 
 -- an attempt that has started, with the state of its scope

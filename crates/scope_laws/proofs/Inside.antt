@@ -11,7 +11,7 @@ use Rattle.flow_model.specs.declared.graphs.Activity.{Activity}
 use Rattle.flow_model.specs.declared.graphs.Container.{Container}
 use Rattle.flow_model.specs.declared.graphs.Graph.{Graph, out-Graph}
 use Rattle.flow_model.specs.declared.graphs.Template.{Template}
-use Rattle.flow_model.specs.declared.graphs.Work.{Work, Program as RunsProgram, Block', Process}
+use Rattle.flow_model.specs.declared.graphs.Work.{Work, Program as RunsProgram, Block, Process}
 use Rattle.flow_model.specs.declared.instances.Part.{Part}
 use Rattle.navigator.proofs.Places.{present}
 use Rattle.navigator.proofs.ReadScopes.{shown_fate}
@@ -215,9 +215,9 @@ module _ (r : Root) (qf : Note → ℕ) where
 
     of_work : (w : Work) (state : ActivityState) → activity.work ≡ w → slice_get (out-ScopeState here.scope).states.items a ≡ Some state → IsThere ts depth k here q h start.input
     of_work (RunsProgram p) state work stated = absurd (none-some h (rw work at of))
-    of_work (Block' b g) (Nested n) work stated = in_nested n stated (nested_shows activity.work _ _ _ _ n (shows.states a activity (Nested n) is stated))
+    of_work (Block g) (Nested n) work stated = in_nested n stated (nested_shows activity.work _ _ _ _ n (shows.states a activity (Nested n) is stated))
     of_work (Process t) (Nested n) work stated = in_nested n stated (nested_shows activity.work _ _ _ _ n (shows.states a activity (Nested n) is stated))
-    of_work (Block' b g) (Program p) work stated = absurd (rw work at (shows.states a activity (Program p) is stated))
+    of_work (Block g) (Program p) work stated = absurd (rw work at (shows.states a activity (Program p) is stated))
     of_work (Process t) (Program p) work stated = absurd (rw work at (shows.states a activity (Program p) is stated))
 
     there_is : IsThere ts depth k here q h start.input

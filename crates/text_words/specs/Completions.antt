@@ -18,7 +18,7 @@ use Rattle.flow_model.specs.declared.graphs.Container.{Container}
 use Rattle.flow_model.specs.declared.graphs.Graph.{Graph, out-Graph}
 use Rattle.flow_model.specs.declared.graphs.Template.{Template}
 use Rattle.flow_model.specs.declared.graphs.Work.{Work}
-use Rattle.flow_model.specs.declared.graphs.Work.{Program, Block', Process}
+use Rattle.flow_model.specs.declared.graphs.Work.{Program, Block, Process}
 use Rattle.flow_model.specs.declared.instances.Fact.{Fact}
 use Rattle.flow_model.specs.declared.instances.Part.{Part}
 use Rattle.flow_model.specs.declared.instances.Path.{Path}
@@ -79,7 +79,7 @@ activity_at ts (q ∷ r ∷ qs) g = option_and_then (activity_at ts (r ∷ qs)) 
 -- an activity, if it runs a program
 abbrev pub if_program : Activity → Work → Option Activity
 if_program a (Program p) = Some a
-if_program a (Block' p g) = None
+if_program a (Block g) = None
 if_program a (Process k) = None
 
 -- the program activity to which these steps lead down

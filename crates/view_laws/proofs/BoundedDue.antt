@@ -10,7 +10,7 @@ use Rattle.flow_model.specs.declared.graphs.Container.{Container}
 use Rattle.flow_model.specs.declared.graphs.Control.{Control}
 use Rattle.flow_model.specs.declared.graphs.Graph.{Graph, out-Graph}
 use Rattle.flow_model.specs.declared.graphs.Template.{Template}
-use Rattle.flow_model.specs.declared.graphs.Work.{Work, Program, Block', Process}
+use Rattle.flow_model.specs.declared.graphs.Work.{Work, Program, Block, Process}
 use Rattle.flow_model.specs.declared.instances.Part.{Part}
 use Rattle.flow_model.specs.declared.names.Name.{Name}
 use Rattle.flow_model.specs.Conditions.{holds}
@@ -140,7 +140,7 @@ work_gave ts k runs name (Program p) h j i o of gave = absurd (no_some of)
   where
     no_some : None ≡ Some h → ⊥
     no_some h = cc
-work_gave ts k runs name (Block' b g) h j i o of gave = scope_gave k runs (Some g) h (part name j) i o of gave
+work_gave ts k runs name (Block g) h j i o of gave = scope_gave k runs (Some g) h (part name j) i o of gave
 work_gave ts k runs name (Process t) h j i o of gave = scope_gave k runs (graph_of ts t) h (part name j) i o of gave
 
 -- ---- one scope

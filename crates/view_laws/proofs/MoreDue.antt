@@ -15,7 +15,7 @@ use Rattle.flow_model.specs.declared.graphs.Container.{Container}
 use Rattle.flow_model.specs.declared.graphs.Control.{Control}
 use Rattle.flow_model.specs.declared.graphs.Graph.{Graph, out-Graph}
 use Rattle.flow_model.specs.declared.graphs.Template.{Template}
-use Rattle.flow_model.specs.declared.graphs.Work.{Work, Program, Block', Process}
+use Rattle.flow_model.specs.declared.graphs.Work.{Work, Program, Block, Process}
 use Rattle.flow_model.specs.declared.instances.Fact.{Fact}
 use Rattle.flow_model.specs.declared.instances.Part.{Part}
 use Rattle.flow_model.specs.declared.instances.SourceEnd.{SourceEnd}
@@ -276,7 +276,7 @@ module _ (r : Root) (qf : Note → ℕ) where
 
   goes_open : (w : Work) (n : ℕ) → is_open (goes_on w n) ≡ true
   goes_open (Program p) n = refl
-  goes_open (Block' b g) n = refl
+  goes_open (Block g) n = refl
   goes_open (Process t) n = refl
 
   tried_open : (a : Activity) (n : ℕ) (o : Option Container) → is_open (tried a n o) ≡ true

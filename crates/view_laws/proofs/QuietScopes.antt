@@ -15,7 +15,7 @@ use Rattle.flow_model.specs.declared.graphs.Container.{Container}
 use Rattle.flow_model.specs.declared.graphs.Control.{Control}
 use Rattle.flow_model.specs.declared.graphs.Graph.{Graph, out-Graph}
 use Rattle.flow_model.specs.declared.graphs.Template.{Template}
-use Rattle.flow_model.specs.declared.graphs.Work.{Work, Program, Block', Process}
+use Rattle.flow_model.specs.declared.graphs.Work.{Work, Program, Block, Process}
 use Rattle.flow_model.specs.declared.instances.Part.{Part}
 use Rattle.flow_model.specs.declared.names.Name.{Name}
 use Rattle.std.proofs.Common.{◌≡◌, ℕ, zero, suc, ◌+◌, ◌≤◌, ◌<◌, ◌==◌, Bool, true, false, List, [], ◌∷◌, map, length, refl, sym, ap, ◌∙◌, Option, Some, None, arith, inl, inr}
@@ -96,7 +96,7 @@ module _ (ts : List Template) (k : Known) (runs runs' : Runs) (g : Graph) (input
 
   pub gives_same : (name : Name) (w : Work) (j : ℕ) (i : Container) → IfInside runs below ts k name w j i → Agree (gives ts k runs name w) (gives ts (all_of k) runs' name w) j i
   gives_same name (Program p) j i ok = refl
-  gives_same name (Block' b h) j i ok = scope_same (Some h) (part name j) i ok
+  gives_same name (Block h) j i ok = scope_same (Some h) (part name j) i ok
   gives_same name (Process t) j i ok = scope_same (graph_of ts t) (part name j) i ok
 
   attempts_same : (a : ℕ) (activity : Activity) → slice_get (out-Graph g).activities a ≡ Some activity

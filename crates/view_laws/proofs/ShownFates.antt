@@ -17,7 +17,7 @@ use Rattle.flow_model.specs.declared.graphs.Container.{Container}
 use Rattle.flow_model.specs.declared.graphs.Graph.{Graph, out-Graph}
 use Rattle.flow_model.specs.declared.graphs.Program.{Program}
 use Rattle.flow_model.specs.declared.graphs.Template.{Template}
-use Rattle.flow_model.specs.declared.graphs.Work.{Work, Program as RunsProgram, Block', Process}
+use Rattle.flow_model.specs.declared.graphs.Work.{Work, Program as RunsProgram, Block, Process}
 use Rattle.flow_model.specs.declared.instances.Part.{Part}
 use Rattle.std.proofs.Common.{◌≡◌, ℕ, zero, suc, ◌+◌, ◌≤◌, ◌<◌, Bool, true, false, ◌&&◌, List, [], length, refl, sym, ap, ◌∙◌, Option, Some, None, arith, inl, inr}
 use Rattle.std.proofs.lemmas.Bool.{cases_lt}
@@ -45,7 +45,7 @@ open_joined a (Some true) outs h = refl
 
 goes_open : (w : Work) (n : ℕ) → is_open (goes_on w n) ≡ true
 goes_open (RunsProgram p) n = refl
-goes_open (Block' b g) n = refl
+goes_open (Block g) n = refl
 goes_open (Process t) n = refl
 
 tried_open : (a : Activity) (n : ℕ) (o : Option Container) → is_open (tried a n o) ≡ true

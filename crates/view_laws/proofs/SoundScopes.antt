@@ -15,7 +15,7 @@ use Rattle.flow_model.specs.declared.graphs.Container.{Container}
 use Rattle.flow_model.specs.declared.graphs.Control.{Control}
 use Rattle.flow_model.specs.declared.graphs.Graph.{Graph, out-Graph}
 use Rattle.flow_model.specs.declared.graphs.Template.{Template}
-use Rattle.flow_model.specs.declared.graphs.Work.{Work, Program, Block', Process}
+use Rattle.flow_model.specs.declared.graphs.Work.{Work, Program, Block, Process}
 use Rattle.flow_model.specs.declared.instances.Part.{Part}
 use Rattle.flow_model.specs.declared.instances.SourceEnd.{SourceEnd}
 use Rattle.flow_model.specs.declared.names.Name.{Name}
@@ -90,7 +90,7 @@ module _ (ts : List Template) (k : Known) (runs runs' : Runs) (g : Graph) (input
 
   pub gives_right : (name : Name) (w : Work) (j : ℕ) (i : Container) → IfClosed below ts k name w j i → Keeps (gives ts k runs name w) (gives ts (all_of k) runs' name w) j i
   gives_right name (Program p) j i ok = λ out h. h
-  gives_right name (Block' b g') j i ok = λ out h. scope_right name (Block' b g') (Some g') j i ok out h
+  gives_right name (Block g') j i ok = λ out h. scope_right name (Block g') (Some g') j i ok out h
   gives_right name (Process t) j i ok = λ out h. scope_right name (Process t) (graph_of ts t) j i ok out h
 
   right_upto : (n : ℕ) → n ≤ length order → (j : ℕ) → j < n → is_settled (ev (slice_index order j)) ≡ true → ef (slice_index order j) ≡ ev (slice_index order j)

@@ -12,7 +12,7 @@ use Rattle.flow_model.specs.declared.graphs.Activity.{Activity}
 use Rattle.flow_model.specs.declared.graphs.Container.{Container}
 use Rattle.flow_model.specs.declared.graphs.Graph.{Graph, out-Graph}
 use Rattle.flow_model.specs.declared.graphs.Template.{Template}
-use Rattle.flow_model.specs.declared.graphs.Work.{Work, Program, Block', Process}
+use Rattle.flow_model.specs.declared.graphs.Work.{Work, Program, Block, Process}
 use Rattle.flow_model.specs.declared.instances.Fate.TheVariants.{Waiting, Ready}
 use Rattle.flow_model.specs.declared.instances.Part.{Part}
 use Rattle.flow_model.specs.declared.names.Name.{Name}
@@ -66,7 +66,7 @@ gives_scope ts k runs name (Program p) h j i of = absurd (none_some of)
   where
     none_some : None ≡ Some h → ⊥
     none_some n = cc
-gives_scope ts k runs name (Block' b g) h j i of = ap (λ o. scope_gives k runs o (part name j) i) of
+gives_scope ts k runs name (Block g) h j i of = ap (λ o. scope_gives k runs o (part name j) i) of
 gives_scope ts k runs name (Process t) h j i of = ap (λ o. scope_gives k runs o (part name j) i) of
 
 -- an attempt that hasn't told its end gives nothing

@@ -10,7 +10,7 @@ use Rattle.flow_model.specs.ScopeContainers.{graph_of}
 use Rattle.flow_model.specs.declared.graphs.Graph.{Graph, out-Graph}
 use Rattle.flow_model.specs.declared.graphs.Program.{Program as ProgramOf}
 use Rattle.flow_model.specs.declared.graphs.Template.{Template}
-use Rattle.flow_model.specs.declared.graphs.Work.{Work, Program, Block', Process}
+use Rattle.flow_model.specs.declared.graphs.Work.{Work, Program, Block, Process}
 use Rattle.flow_model.specs.declared.instances.Part.{Part}
 use Rattle.item_laws.proofs.Entering.{entry_in, inside_of}
 use Rattle.item_laws.proofs.Sources.{run_settled}
@@ -38,7 +38,7 @@ sound_before ts sound t g is depth = listed ts t g (performed_together ts sound 
 
 program_is : (w : Work) (p : ProgramOf) → program_in w ≡ Some p → w ≡ Program p
 program_is (Program q) p is = let same : q ≡ p = cc in ap Program same
-program_is (Block' b g) p is = cc
+program_is (Block g) p is = cc
 program_is (Process t) p is = cc
 
 -- an item is of an activity of its graph, in which performers come before
