@@ -11,7 +11,6 @@ use Rattle.flow_model.specs.declared.trees.LeafAt.{LeafAt}
 use Rattle.fdl_parser.specs.Tokens.{Spelled, Tokens, IsToken, IsName, IsQuote, IsNumber, IsSigned, Unsigned, Negative, IsFirstStep, RcFirst, NameFirst, IsNextStep, MemberNext, PlaceNext, IsLeaf, FirstStep, MoreSteps}
 use Rattle.fdl_parser.specs.Lexed.{IsQuoted, AreQuoted}
 pub use Rattle.fdl_parser.specs.Tiers.{word_tier, mark_tier, kind_tier, tier}
-use Rattle.fdl_parser.specs.Alike.{Each, NoneLeft, OneMore}
 
 -- a number that tells words, marks and kinds of tokens apart
 abbrev pub kind_lead : What → ℕ
@@ -173,26 +172,6 @@ chain_same low high le one starts (Link h hs) (Link j js) c c' at =
     let t = chain_same low high le one starts hs js c c' s.rest in
     record { tree = rw (s.tree, t.tree) refl; rest = t.rest }
 
--- two trees are so, and what is left behind them is the same
-pub record Like (A : Type 0) (R : A → A → Type 0) (x y : A) (a b : Tokens) : Type 0 where
-  pub tree : R x y
-  pub rest : At a b
-
--- N has readings that are so, before what goes on less tightly than this
-abbrev pub HasLike : (A : Type 0) → (A → A → Type 0) → (A → Tokens → Tokens → Type 0) → ℕ → Type 0
-HasLike A R N high = (x y : A) (a a' b b' : Tokens) → N x a b → N y a' b' → tier b < high → tier b' < high → At a a' → Like A R x y b b'
-
-pub chain_like : {A : Type 0} {N : A → Tokens → Tokens → Type 0} {R : A → A → Type 0} {xs ys : List A} {a a' b b' : Tokens} → (low high : ℕ) → low ≤ high → HasLike A R N high → Begins A N low high → Chain A N xs a b → Chain A N ys a' b' → tier b < low → tier b' < low → At a a' → Like (List A) (Each A R) xs ys b b'
-chain_like low high le one starts Done Done c c' at = record { tree = NoneLeft; rest = at }
-chain_like low high le one starts Done (Link j js) c c' at =
-    let s = starts _ _ _ j in let e = ap tier at.same in absurd (omega (arith, s.0, e))
-chain_like low high le one starts (Link h hs) Done c c' at =
-    let s = starts _ _ _ h in let e = ap tier at.same in absurd (omega (arith, s.0, e))
-chain_like low high le one starts (Link h hs) (Link j js) c c' at =
-    let s = one _ _ _ _ _ _ h j (chain_calm low high le starts hs c) (chain_calm low high le starts js c') at in
-    let t = chain_like low high le one starts hs js c c' s.rest in
-    record { tree = OneMore s.tree t.tree; rest = t.rest }
-
 -- behind this token
 pub record Behind (A : Type 0) (k : What) (N : A → Tokens → Tokens → Type 0) (x : A) (a b : Tokens) : Type 0 where
   pub place : ℕ
@@ -202,11 +181,6 @@ pub record Behind (A : Type 0) (k : What) (N : A → Tokens → Tokens → Type 
 
 pub behind_same : (A : Type 0) (N : A → Tokens → Tokens → Type 0) (k : What) (high : ℕ) → HasOne A N high → HasOne A (Behind A k N) high
 behind_same A N k high one x y a a' b b' h j c c' at =
-    let s = word_same h.token j.token at in
-    one x y h.middle j.middle b b' h.item j.item c c' s.rest
-
-pub behind_like : (A : Type 0) (R : A → A → Type 0) (N : A → Tokens → Tokens → Type 0) (k : What) (high : ℕ) → HasLike A R N high → HasLike A R (Behind A k N) high
-behind_like A R N k high one x y a a' b b' h j c c' at =
     let s = word_same h.token j.token at in
     one x y h.middle j.middle b b' h.item j.item c c' s.rest
 

@@ -18,8 +18,7 @@ use Rattle.flow_model.specs.declared.trees.Cond.TheVariants as cond
 use Rattle.flow_model.specs.declared.trees.CondAt.{CondAt}
 use Rattle.fdl_parser.specs.Tokens.{Spelled, Tokens}
 use Rattle.fdl_parser.specs.Conditions.{mark_of, IsOperand, LeafOperand, NumberOperand, IsNextTerm, PlusTerm, MinusTerm, IsSum, FirstTerm, MoreTerms, IsSide, TextSide, SumSide, IsComparison, Compared, IsNegation, Comparison, Denied, Bracketed, AreConjoined, TwoNegations, MoreNegations, IsConjunction, OneNegation, Negations, AreDisjoined, TwoConjunctions, MoreConjunctions, IsDisjunction, OneConjunction, Conjunctions, IsCondition, Whole}
-use Rattle.fdl_parser.specs.Alike.{Each, NoneLeft, OneMore, AlikeCond, EqualCond, AlikeNot, AlikeAnd, AlikeOr, AlikeConds, NoConds, MoreConds, AlikeCondAt, AtOnePlace}
-use Rattle.fdl_parser.proofs.Same.{tier, lead, mark_tier, kind_tier, At, Same, Like, tokens_same, word_same, lead_token, tier_token, calm_token, lead_quote, apart, quote_same, signed_same, leaf_same, leaf_lead, signed_lead, Chain, Done, Link, snoc, HasLike, chain_calm, chain_same, chain_like, Behind, behind_like, behind_begins, cons_eq}
+use Rattle.fdl_parser.proofs.Same.{tier, lead, mark_tier, kind_tier, At, Same, tokens_same, word_same, lead_token, tier_token, calm_token, lead_quote, apart, quote_same, signed_same, leaf_same, leaf_lead, signed_lead, Chain, Done, Link, snoc, HasOne, chain_calm, chain_same, Behind, behind_same, behind_begins, cons_eq}
 
 -- tells leaves from numbers
 abbrev leaf_class : ℕ → ℕ
@@ -136,10 +135,6 @@ comparison_same (Compared {l = l} {r = r} {o = o} h1 h2 h3) (Compared {l = m} {r
 comparison_lead : {x : Cond} {a b : Tokens} → (f : ℕ → ℕ) (k : ℕ) → f 50 ≡ k → f 51 ≡ k → f 53 ≡ k → f 16 ≡ k → f 54 ≡ k → IsComparison x a b → f (lead a) ≡ k
 comparison_lead f k n r v m t (Compared h1 h2 h3) = side_lead f k n r v m t h1
 
-each_conds : {xs ys : List Cond} → Each Cond AlikeCond xs ys → AlikeConds xs ys
-each_conds NoneLeft = NoConds
-each_conds (OneMore h r) = MoreConds h (each_conds r)
-
 -- AND neg
 abbrev AndNeg : ℕ → Cond → Tokens → Tokens → Type 0
 AndNeg n x a b = Behind Cond (Word word.AND) (IsNegation n) x a b
@@ -199,60 +194,56 @@ disjunction_parts : {n : ℕ} {x : Cond} {a b : Tokens} → IsDisjunction n x a 
 disjunction_parts (OneConjunction {x = x} {b = b} h) = record { first = x; more = []; middle = b; is = refl; begins = h; goes_on = Done }
 disjunction_parts (Conjunctions h) = let r = disjoined h in record { first = r.first; more = r.second ∷ r.more; middle = r.middle; is = ap any_of r.are; begins = r.begins; goes_on = r.goes_on }
 
-joined_like : (build : List Cond → Cond) → ((xs ys : List Cond) → AlikeConds xs ys → AlikeCond (build xs) (build ys)) → (x y : Cond) (xs ys : List Cond) → AlikeCond x y → Each Cond AlikeCond xs ys → AlikeCond (joined build x xs) (joined build y ys)
-joined_like build b x y xs ys h NoneLeft = h
-joined_like build b x y xs ys h (OneMore r rs) = b _ _ (MoreConds h (MoreConds r (each_conds rs)))
+joined_eq : (build : List Cond → Cond) (x y : Cond) (xs ys : List Cond) → x ≡ y → xs ≡ ys → joined build x xs ≡ joined build y ys
+joined_eq build x y xs ys e f = rw (e, f) refl
 
 -- members with the same word between them
-members_like : (build : List Cond → Cond) → ((xs ys : List Cond) → AlikeConds xs ys → AlikeCond (build xs) (build ys)) → (N : Cond → Tokens → Tokens → Type 0) (k : What) (low high : ℕ) → low ≤ high → low ≤ kind_tier k → kind_tier k < high → HasLike Cond AlikeCond N high → HasLike Cond AlikeCond (Joined build N (Behind Cond k N)) low
-members_like build b N k low high le l u one x y a a' d d' p q c c' at =
+members_same : (build : List Cond → Cond) (N : Cond → Tokens → Tokens → Type 0) (k : What) (low high : ℕ) → low ≤ high → low ≤ kind_tier k → kind_tier k < high → HasOne Cond N high → HasOne Cond (Joined build N (Behind Cond k N)) low
+members_same build N k low high le l u one x y a a' d d' p q c c' at =
     let starts = behind_begins Cond N k low high l u in
     let s1 = one p.first q.first a a' p.middle q.middle p.begins q.begins (chain_calm low high le starts p.goes_on c) (chain_calm low high le starts q.goes_on c') at in
-    let s2 = chain_like low high le (behind_like Cond AlikeCond N k high one) starts p.goes_on q.goes_on c c' s1.rest in
-    let t = joined_like build b p.first q.first p.more q.more s1.tree s2.tree in
-    record { tree = subst (λ (z : Cond). AlikeCond z y) (sym p.is) (subst (λ (z : Cond). AlikeCond (joined build p.first p.more) z) (sym q.is) t); rest = s2.rest }
+    let s2 = chain_same low high le (behind_same Cond N k high one) starts p.goes_on q.goes_on c c' s1.rest in
+    record { tree = p.is ∙ (joined_eq build p.first q.first p.more q.more s1.tree s2.tree ∙ sym q.is); rest = s2.rest }
 
-conjunction_like : (n : ℕ) → HasLike Cond AlikeCond (IsNegation n) 8 → HasLike Cond AlikeCond (IsConjunction n) 7
-conjunction_like n one x y a a' b b' h j c c' at =
-    members_like all_of (λ xs ys r. AlikeAnd r) (IsNegation n) (Word word.AND) 7 8 (omega arith) (omega arith) (omega arith) one x y a a' b b' (conjunction_parts h) (conjunction_parts j) c c' at
+conjunction_same : (n : ℕ) → HasOne Cond (IsNegation n) 8 → HasOne Cond (IsConjunction n) 7
+conjunction_same n one x y a a' b b' h j c c' at =
+    members_same all_of (IsNegation n) (Word word.AND) 7 8 (omega arith) (omega arith) (omega arith) one x y a a' b b' (conjunction_parts h) (conjunction_parts j) c c' at
 
-disjunction_like : (n : ℕ) → HasLike Cond AlikeCond (IsNegation n) 8 → HasLike Cond AlikeCond (IsDisjunction n) 6
-disjunction_like n one x y a a' b b' h j c c' at =
-    members_like any_of (λ xs ys r. AlikeOr r) (IsConjunction n) (Word word.OR) 6 7 (omega arith) (omega arith) (omega arith) (conjunction_like n one) x y a a' b b' (disjunction_parts h) (disjunction_parts j) c c' at
+disjunction_same : (n : ℕ) → HasOne Cond (IsNegation n) 8 → HasOne Cond (IsDisjunction n) 6
+disjunction_same n one x y a a' b b' h j c c' at =
+    members_same any_of (IsConjunction n) (Word word.OR) 6 7 (omega arith) (omega arith) (omega arith) (conjunction_same n one) x y a a' b b' (disjunction_parts h) (disjunction_parts j) c c' at
 
 -- tells NOT, parentheses and comparisons
 abbrev negation_class : ℕ → ℕ
 negation_class n = if n == 138 then 1 else (if n == 1 then 2 else 0)
 
-negation_step : (n : ℕ) → ((m : ℕ) → n ≡ suc m → HasLike Cond AlikeCond (IsNegation m) 8) → HasLike Cond AlikeCond (IsNegation n) 8
-negation_step n rec x y a a' b b' (Comparison h) (Comparison j) c c' at =
-    let s = comparison_same h j c c' at in
-    record { tree = subst (λ (z : Cond). AlikeCond x z) s.tree EqualCond; rest = s.rest }
-negation_step n rec x y a a' b b' (Denied lt h1 h2 h3) (Denied lt' j1 j2 j3) c c' at =
+negation_step : (n : ℕ) → ((m : ℕ) → n ≡ suc m → HasOne Cond (IsNegation m) 8) → HasOne Cond (IsNegation n) 8
+negation_step n rec x y a a' b b' (Comparison h) (Comparison j) c c' at = comparison_same h j c c' at
+negation_step n rec x y a a' b b' (Denied lt h1 h2) (Denied lt' j1 j2) c c' at =
     let e : n ≡ suc (n - 1) = omega (arith, lt) in
     let s1 = word_same h1 j1 at in
     let s2 = rec (n - 1) e _ _ _ _ _ _ h2 j2 c c' s1.rest in
-    record { tree = AlikeNot h3 j3 s2.tree; rest = s2.rest }
+    record { tree = ap (λ (z : Cond). cond.Not z) s2.tree; rest = s2.rest }
 negation_step n rec x y a a' b b' (Bracketed lt h1 h2 h3) (Bracketed lt' j1 j2 j3) c c' at =
     let e : n ≡ suc (n - 1) = omega (arith, lt) in
     let s1 = word_same h1 j1 at in
-    let s2 = disjunction_like (n - 1) (rec (n - 1) e) _ _ _ _ _ _ h2 j2 (calm_token h3 (omega arith)) (calm_token j3 (omega arith)) s1.rest in
+    let s2 = disjunction_same (n - 1) (rec (n - 1) e) _ _ _ _ _ _ h2 j2 (calm_token h3 (omega arith)) (calm_token j3 (omega arith)) s1.rest in
     let s3 = word_same h3 j3 s2.rest in
     record { tree = s2.tree; rest = s3.rest }
-negation_step n rec x y a a' b b' (Comparison h) (Denied lt j1 j2 j3) c c' at = apart (λ t. negation_class (lead t)) (comparison_lead negation_class 0 refl refl refl refl refl h) (ap negation_class (lead_token j1)) at refl
+negation_step n rec x y a a' b b' (Comparison h) (Denied lt j1 j2) c c' at = apart (λ t. negation_class (lead t)) (comparison_lead negation_class 0 refl refl refl refl refl h) (ap negation_class (lead_token j1)) at refl
 negation_step n rec x y a a' b b' (Comparison h) (Bracketed lt j1 j2 j3) c c' at = apart (λ t. negation_class (lead t)) (comparison_lead negation_class 0 refl refl refl refl refl h) (ap negation_class (lead_token j1)) at refl
-negation_step n rec x y a a' b b' (Denied lt h1 h2 h3) (Comparison j) c c' at = apart (λ t. negation_class (lead t)) (ap negation_class (lead_token h1)) (comparison_lead negation_class 0 refl refl refl refl refl j) at refl
+negation_step n rec x y a a' b b' (Denied lt h1 h2) (Comparison j) c c' at = apart (λ t. negation_class (lead t)) (ap negation_class (lead_token h1)) (comparison_lead negation_class 0 refl refl refl refl refl j) at refl
 negation_step n rec x y a a' b b' (Bracketed lt h1 h2 h3) (Comparison j) c c' at = apart (λ t. negation_class (lead t)) (ap negation_class (lead_token h1)) (comparison_lead negation_class 0 refl refl refl refl refl j) at refl
-negation_step n rec x y a a' b b' (Denied lt h1 h2 h3) (Bracketed lt' j1 j2 j3) c c' at = apart lead (lead_token h1) (lead_token j1) at refl
-negation_step n rec x y a a' b b' (Bracketed lt h1 h2 h3) (Denied lt' j1 j2 j3) c c' at = apart lead (lead_token h1) (lead_token j1) at refl
+negation_step n rec x y a a' b b' (Denied lt h1 h2) (Bracketed lt' j1 j2 j3) c c' at = apart lead (lead_token h1) (lead_token j1) at refl
+negation_step n rec x y a a' b b' (Bracketed lt h1 h2 h3) (Denied lt' j1 j2) c c' at = apart lead (lead_token h1) (lead_token j1) at refl
 
-pub negation_like : (n : ℕ) → HasLike Cond AlikeCond (IsNegation n) 8
-negation_like zero = negation_step zero (λ m e. absurd (omega (arith, e)))
-negation_like (suc n) = negation_step (suc n) (λ m e. let k : n ≡ m = omega (arith, e) in subst (λ (i : ℕ). HasLike Cond AlikeCond (IsNegation i) 8) k (negation_like n))
+pub negation_same : (n : ℕ) → HasOne Cond (IsNegation n) 8
+negation_same zero = negation_step zero (λ m e. absurd (omega (arith, e)))
+negation_same (suc n) = negation_step (suc n) (λ m e. let k : n ≡ m = omega (arith, e) in subst (λ (i : ℕ). HasOne Cond (IsNegation i) 8) k (negation_same n))
 
-pub condition_like : {x y : CondAt} {a a' b b' : Tokens} → IsCondition x a b → IsCondition y a' b' → At a a' → Like CondAt AlikeCondAt x y b b'
-condition_like (Whole {x = x} {p = p} h1 h2 h3) (Whole {x = y} {p = q} j1 j2 j3) at =
+pub condition_same : {x y : CondAt} {a a' b b' : Tokens} → IsCondition x a b → IsCondition y a' b' → At a a' → Same x y b b'
+condition_same (Whole h1 h2 h3) (Whole j1 j2 j3) at =
     let s1 = word_same h1 j1 at in
-    let s2 = disjunction_like _ (negation_like _) _ _ _ _ _ _ h2 j2 (calm_token h3 (omega arith)) (calm_token j3 (omega arith)) s1.rest in
+    let s2 = disjunction_same _ (negation_same _) _ _ _ _ _ _ h2 j2 (calm_token h3 (omega arith)) (calm_token j3 (omega arith)) s1.rest in
     let s3 = word_same h3 j3 s2.rest in
-    record { tree = subst (λ (r : ℕ). AlikeCondAt (record { place = p; cond = x }) (record { place = r; cond = y })) s1.tree (AtOnePlace s2.tree); rest = s3.rest }
+    record { tree = rw (s1.tree, s2.tree) refl; rest = s3.rest }

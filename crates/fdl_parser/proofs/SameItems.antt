@@ -1,5 +1,5 @@
 -- A text's tokens have one tree.
-use Rattle.std.proofs.Common.{◌≡◌, ℕ, ◌<◌, ◌≤◌, List, [], ◌∷◌, ◌++◌, Option, Some, refl, ap, sym, ◌∙◌, subst, arith}
+use Rattle.std.proofs.Common.{◌≡◌, ℕ, ◌<◌, ◌≤◌, List, [], ◌∷◌, ◌++◌, Option, Some, refl, ap, sym, ◌∙◌, arith}
 use Rattle.fdl_lexer.specs.declared.kinds.What.TheVariants.{Mark}
 use Rattle.flow_model.specs.declared.trees.NameAt.{NameAt}
 use Rattle.flow_model.specs.declared.trees.NumberAt.{NumberAt}
@@ -11,13 +11,16 @@ use Rattle.flow_model.specs.declared.trees.PersonTree.{PersonTree}
 use Rattle.flow_model.specs.declared.trees.ProcessTree.{ProcessTree}
 use Rattle.flow_model.specs.declared.trees.ItemTree.{ItemTree}
 use Rattle.flow_model.specs.declared.trees.ItemTree.TheVariants as item
+use Rattle.flow_model.specs.declared.trees.Tree.{Tree}
 use Rattle.fdl_parser.specs.declared.cursor.mark.TheConstants as mark
-use Rattle.fdl_parser.specs.Tokens.{Tokens, IsWord, IsName}
+use Rattle.fdl_lexer.specs.declared.kinds.Token.{Token}
+use Rattle.fdl_lexer.specs.Tokens.{AreTokens}
+use Rattle.fdl_parser.specs.Tokens.{Tokens, spell, IsWord, IsName}
 use Rattle.fdl_parser.specs.Lexed.{AreQuoted}
-use Rattle.fdl_parser.specs.Items.{IsKind, LongKind, StringKind, StructKind, IsCount, NoCount, OneCount, IsMember, OneMember, AreMembers, NoMember, MoreMembers, IsStructure, OneStructure, AreNamed, FirstRole, NextRole, AreRoles, NoRoles, SomeRoles, IsPerson, OnePerson, IsProcess, OneProcess, IsItem, StructureItem, PersonItem, ProcessItem, AreItems, NoItem, MoreItems}
-use Rattle.fdl_parser.specs.Alike.{Each, AlikeItem, EqualItem, BothProcess}
-use Rattle.fdl_parser.proofs.Same.{tier, lead, At, Same, Like, word_same, lead_token, tier_token, calm_token, lead_name, tier_name, apart, name_same, number_same, Chain, Done, snoc, chain_same, chain_like, Behind, behind_same, behind_begins, cons_eq}
-use Rattle.fdl_parser.proofs.SameActivities.{structures_same, closing_same, closing_calm, elements_like}
+use Rattle.fdl_parser.specs.Items.{IsKind, LongKind, StringKind, StructKind, IsCount, NoCount, OneCount, IsMember, OneMember, AreMembers, NoMember, MoreMembers, IsStructure, OneStructure, AreNamed, FirstRole, NextRole, AreRoles, NoRoles, SomeRoles, IsPerson, OnePerson, IsProcess, OneProcess, IsItem, StructureItem, PersonItem, ProcessItem, AreItems, NoItem, MoreItems, IsTree}
+use Rattle.fdl_parser.proofs.Same.{tier, lead, At, Same, word_same, lead_token, tier_token, calm_token, lead_name, tier_name, apart, name_same, number_same, Chain, Done, snoc, chain_same, Behind, behind_same, behind_begins, cons_eq}
+use Rattle.fdl_parser.proofs.Quoted.{tokens_quoted}
+use Rattle.fdl_parser.proofs.SameActivities.{structures_same, closing_same, closing_calm, elements_same}
 
 abbrev kind_code : {x : KindTree} {a b : Tokens} → IsKind x a b → ℕ
 kind_code (LongKind h) = 109
@@ -120,19 +123,16 @@ person_same (OnePerson h1 h2 h3 h4) (OnePerson j1 j2 j3 j4) at =
     let s4 = closing_same h4 j4 s3.rest in
     record { tree = rw (s2.tree, s3.tree, s4.tree) refl; rest = s4.rest }
 
-abbrev AlikeProcess : ProcessTree → ProcessTree → Type 0
-AlikeProcess x y = AlikeItem (item.Process x) (item.Process y)
-
-process_like : {x y : ProcessTree} {a a' b b' : Tokens} → IsProcess x a b → IsProcess y a' b' → At a a' → Like ProcessTree AlikeProcess x y b b'
-process_like (OneProcess h1 h2 h3 h4 h5) (OneProcess j1 j2 j3 j4 j5) at =
+process_same : {x y : ProcessTree} {a a' b b' : Tokens} → IsProcess x a b → IsProcess y a' b' → At a a' → Same x y b b'
+process_same (OneProcess h1 h2 h3 h4 h5) (OneProcess j1 j2 j3 j4 j5) at =
     let c = closing_calm h5 in
     let d = closing_calm j5 in
     let s1 = word_same h1 j1 at in
     let s2 = name_same h2 j2 s1.rest in
     let s3 = structures_same h3 j3 s2.rest in
-    let s4 = elements_like _ _ _ _ _ _ _ h4 j4 (omega (arith, c)) (omega (arith, d)) s3.rest in
+    let s4 = elements_same _ _ _ _ _ _ _ h4 j4 (omega (arith, c)) (omega (arith, d)) s3.rest in
     let s5 = closing_same h5 j5 s4.rest in
-    record { tree = rw (s1.tree, s2.tree, s3.input, s3.output, s5.tree) (BothProcess s4.tree); rest = s5.rest }
+    record { tree = rw (s1.tree, s2.tree, s3.input, s3.output, s4.tree, s5.tree) refl; rest = s5.rest }
 
 abbrev item_code : {x : ItemTree} {a b : Tokens} → IsItem x a b → ℕ
 item_code (StructureItem h) = 101
@@ -144,15 +144,11 @@ item_lead (StructureItem (OneStructure h1 h2 h3 h4)) = lead_token h1
 item_lead (PersonItem (OnePerson h1 h2 h3 h4)) = lead_token h1
 item_lead (ProcessItem (OneProcess h1 h2 h3 h4 h5)) = lead_token h1
 
-item_like : {x y : ItemTree} {a a' b b' : Tokens} → IsItem x a b → IsItem y a' b' → At a a' → Like ItemTree AlikeItem x y b b'
-item_like (StructureItem {x = x} h) (StructureItem j) at =
-    let s = structure_same h j at in
-    record { tree = subst (λ (z : StructDef). AlikeItem (item.Structure x) (item.Structure z)) s.tree EqualItem; rest = s.rest }
-item_like (PersonItem {x = x} h) (PersonItem j) at =
-    let s = person_same h j at in
-    record { tree = subst (λ (z : PersonTree). AlikeItem (item.Person x) (item.Person z)) s.tree EqualItem; rest = s.rest }
-item_like (ProcessItem h) (ProcessItem j) at = let s = process_like h j at in record { tree = s.tree; rest = s.rest }
-item_like h j at = apart lead (item_lead h) (item_lead j) at refl
+item_same : {x y : ItemTree} {a a' b b' : Tokens} → IsItem x a b → IsItem y a' b' → At a a' → Same x y b b'
+item_same (StructureItem h) (StructureItem j) at = let s = structure_same h j at in record { tree = ap (λ (k : StructDef). item.Structure k) s.tree; rest = s.rest }
+item_same (PersonItem h) (PersonItem j) at = let s = person_same h j at in record { tree = ap (λ (k : PersonTree). item.Person k) s.tree; rest = s.rest }
+item_same (ProcessItem h) (ProcessItem j) at = let s = process_same h j at in record { tree = ap (λ (k : ProcessTree). item.Process k) s.tree; rest = s.rest }
+item_same h j at = apart lead (item_lead h) (item_lead j) at refl
 
 item_begins : {x : ItemTree} {a b : Tokens} → IsItem x a b → (1 ≤ tier a) × (tier a < 2)
 item_begins (StructureItem (OneStructure h1 h2 h3 h4)) = let e = tier_token h1 in (omega (arith, e), omega (arith, e))
@@ -164,7 +160,14 @@ item_chain NoItem = Done
 item_chain (MoreItems h j) = snoc (item_chain h) j
 
 -- all items of the same tokens
-pub items_like : {xs ys : List ItemTree} {a : Tokens} → AreItems xs a [] → AreItems ys a [] → AreQuoted a → Each ItemTree AlikeItem xs ys
-items_like h j q =
-    let s = chain_like 1 2 (omega arith) (λ x y a b d e h j c k at. item_like h j at) (λ x a b h. item_begins h) (item_chain h) (item_chain j) (omega arith) (omega arith) (record { same = refl; quoted = q }) in
+pub items_same : {xs ys : List ItemTree} {a : Tokens} → AreItems xs a [] → AreItems ys a [] → AreQuoted a → xs ≡ ys
+items_same h j q =
+    let s = chain_same 1 2 (omega arith) (λ x y a b d e h j c k at. item_same h j at) (λ x a b h. item_begins h) (item_chain h) (item_chain j) (omega arith) (omega arith) (record { same = refl; quoted = q }) in
     s.tree
+
+tree_eq : (t u : Tree) → t.items ≡ u.items → t ≡ u
+tree_eq t u e = ap (λ (xs : List ItemTree). let made : Tree = record { items = xs } in made) e
+
+-- the tokens of a text have one tree
+pub trees_are_one : (text : List ℕ) (tokens : List Token) (t u : Tree) → AreTokens text tokens → IsTree t (spell text tokens) → IsTree u (spell text tokens) → t ≡ u
+trees_are_one text tokens t u lexed h j = tree_eq t u (items_same h j (tokens_quoted text tokens lexed))

@@ -2,7 +2,9 @@
 use Rattle.std.proofs.Common.{◌≡◌, ℕ, ◌+◌, ◌<◌, ◌==◌, false, List, [], ◌∷◌, ◌++◌, refl, ap, sym, ◌∙◌, arith}
 use Rattle.fdl_lexer.specs.declared.kinds.What.TheVariants.{Mark}
 use Rattle.flow_model.specs.declared.trees.NameAt.{NameAt}
+use Rattle.flow_model.specs.declared.trees.CondAt.{CondAt}
 use Rattle.flow_model.specs.declared.trees.WhenTree.{WhenTree}
+use Rattle.flow_model.specs.declared.trees.WhenTree.TheVariants as when
 use Rattle.flow_model.specs.declared.trees.ControlTree.{ControlTree}
 use Rattle.flow_model.specs.declared.trees.EndTree.{EndTree}
 use Rattle.flow_model.specs.declared.trees.EndTree.TheVariants as end_of
@@ -13,33 +15,32 @@ use Rattle.flow_model.specs.declared.trees.DataTree.{DataTree}
 use Rattle.fdl_parser.specs.declared.cursor.mark.TheConstants as mark
 use Rattle.fdl_parser.specs.Tokens.{Tokens, IsWord}
 use Rattle.fdl_parser.specs.Lines.{IsTransition, Unconditional, Otherwise, Conditional, IsControl, ControlLine, IsEnd, BorderEnd, ActivityEnd, AreEnds, LoopEnds, LineEnds, IsMap, LeafToLeaf, AreMaps, FirstMap, MoreMaps, IsDataLine, DataLine}
-use Rattle.fdl_parser.specs.Alike.{AlikeWhen, EqualWhen, BothWhen, AlikeControl, BothControl}
-use Rattle.fdl_parser.proofs.Same.{tier, lead, At, Same, Like, word_same, lead_token, tier_token, calm_token, lead_name, apart, name_same, leaf_same, Chain, Done, snoc, chain_calm, chain_same, Behind, behind_same, behind_begins, cons_eq}
-use Rattle.fdl_parser.proofs.SameConditions.{condition_like}
+use Rattle.fdl_parser.proofs.Same.{tier, lead, At, Same, word_same, lead_token, tier_token, calm_token, lead_name, apart, name_same, leaf_same, Chain, Done, snoc, chain_calm, chain_same, Behind, behind_same, behind_begins, cons_eq}
+use Rattle.fdl_parser.proofs.SameConditions.{condition_same}
 
-transition_like : {x y : WhenTree} {a a' b b' : Tokens} → IsTransition x a b → IsTransition y a' b' → tier b < 4 → tier b' < 4 → At a a' → Like WhenTree AlikeWhen x y b b'
-transition_like Unconditional Unconditional c c' at = record { tree = EqualWhen; rest = at }
-transition_like (Otherwise h) (Otherwise j) c c' at = let s = word_same h j at in record { tree = EqualWhen; rest = s.rest }
-transition_like (Conditional h1 h2) (Conditional j1 j2) c c' at =
+transition_same : {x y : WhenTree} {a a' b b' : Tokens} → IsTransition x a b → IsTransition y a' b' → tier b < 4 → tier b' < 4 → At a a' → Same x y b b'
+transition_same Unconditional Unconditional c c' at = record { tree = refl; rest = at }
+transition_same (Otherwise h) (Otherwise j) c c' at = let s = word_same h j at in record { tree = refl; rest = s.rest }
+transition_same (Conditional h1 h2) (Conditional j1 j2) c c' at =
     let s1 = word_same h1 j1 at in
-    let s2 = condition_like h2 j2 s1.rest in
-    record { tree = BothWhen s2.tree; rest = s2.rest }
-transition_like Unconditional (Otherwise j) c c' at = let e = ap tier at.same in let f = tier_token j in absurd (omega (arith, e, f))
-transition_like Unconditional (Conditional j1 j2) c c' at = let e = ap tier at.same in let f = tier_token j1 in absurd (omega (arith, e, f))
-transition_like (Otherwise h) Unconditional c c' at = let e = ap tier at.same in let f = tier_token h in absurd (omega (arith, e, f))
-transition_like (Conditional h1 h2) Unconditional c c' at = let e = ap tier at.same in let f = tier_token h1 in absurd (omega (arith, e, f))
-transition_like (Otherwise h) (Conditional j1 j2) c c' at = apart lead (lead_token h) (lead_token j1) at refl
-transition_like (Conditional h1 h2) (Otherwise j) c c' at = apart lead (lead_token h1) (lead_token j) at refl
+    let s2 = condition_same h2 j2 s1.rest in
+    record { tree = ap (λ (k : CondAt). when.Cond k) s2.tree; rest = s2.rest }
+transition_same Unconditional (Otherwise j) c c' at = let e = ap tier at.same in let f = tier_token j in absurd (omega (arith, e, f))
+transition_same Unconditional (Conditional j1 j2) c c' at = let e = ap tier at.same in let f = tier_token j1 in absurd (omega (arith, e, f))
+transition_same (Otherwise h) Unconditional c c' at = let e = ap tier at.same in let f = tier_token h in absurd (omega (arith, e, f))
+transition_same (Conditional h1 h2) Unconditional c c' at = let e = ap tier at.same in let f = tier_token h1 in absurd (omega (arith, e, f))
+transition_same (Otherwise h) (Conditional j1 j2) c c' at = apart lead (lead_token h) (lead_token j1) at refl
+transition_same (Conditional h1 h2) (Otherwise j) c c' at = apart lead (lead_token h1) (lead_token j) at refl
 
-pub control_like : {x y : ControlTree} {a a' b b' : Tokens} → IsControl x a b → IsControl y a' b' → tier b < 4 → tier b' < 4 → At a a' → Like ControlTree AlikeControl x y b b'
-control_like (ControlLine h1 h2 h3 h4 h5 h6) (ControlLine j1 j2 j3 j4 j5 j6) c c' at =
+pub control_same : {x y : ControlTree} {a a' b b' : Tokens} → IsControl x a b → IsControl y a' b' → tier b < 4 → tier b' < 4 → At a a' → Same x y b b'
+control_same (ControlLine h1 h2 h3 h4 h5 h6) (ControlLine j1 j2 j3 j4 j5 j6) c c' at =
     let s1 = word_same h1 j1 at in
     let s2 = word_same h2 j2 s1.rest in
     let s3 = name_same h3 j3 s2.rest in
     let s4 = word_same h4 j4 s3.rest in
     let s5 = name_same h5 j5 s4.rest in
-    let s6 = transition_like h6 j6 c c' s5.rest in
-    record { tree = rw (s1.tree, s3.tree, s5.tree) (BothControl s6.tree); rest = s6.rest }
+    let s6 = transition_same h6 j6 c c' s5.rest in
+    record { tree = rw (s1.tree, s3.tree, s5.tree, s6.tree) refl; rest = s6.rest }
 
 end_same : {x y : EndTree} {a a' b b' : Tokens} (border : ℕ) → (100 + border == 50) ≡ false → (50 == 100 + border) ≡ false → IsEnd border x a b → IsEnd border y a' b' → At a a' → Same x y b b'
 end_same border e f (BorderEnd h) (BorderEnd j) at = let s = word_same h j at in record { tree = refl; rest = s.rest }

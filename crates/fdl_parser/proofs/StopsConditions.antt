@@ -1,8 +1,6 @@
 -- How far the forms of a condition are read.
 use Rattle.std.proofs.Common.{◌≡◌, ℕ, suc, zero, ◌-◌, ◌<◌, List, [], ◌∷◌, Option, Some, refl, ap, sym, ◌∙◌, subst, arith, inl, inr}
-use Rattle.std.specs.Prelude.{◌≢◌, Box}
-use denote.RawPtr.{null_ptr}
-use Rattle.std.specs.declared.alloc.Global.{Global}
+use Rattle.std.specs.Prelude.{◌≢◌}
 use Rattle.flow_table.specs.declared.keyword.TheConstants as word
 use Rattle.flow_model.specs.declared.graphs.Operator.{Operator}
 use Rattle.flow_model.specs.declared.graphs.Operator.TheVariants.{Eq, Ne, Lt, Le, Gt, Ge}
@@ -13,7 +11,6 @@ use Rattle.flow_model.specs.declared.trees.OperandTree.{OperandTree}
 use Rattle.flow_model.specs.declared.trees.TermTree.{TermTree}
 use Rattle.flow_model.specs.declared.trees.Side.{Side}
 use Rattle.flow_model.specs.declared.trees.Cond.{Cond}
-use Rattle.flow_model.specs.declared.trees.Cond.TheVariants as cond
 use Rattle.flow_model.specs.declared.trees.CondAt.{CondAt}
 use Rattle.fdl_lexer.specs.declared.kinds.What.{What}
 use Rattle.fdl_lexer.specs.declared.kinds.What.TheVariants.{Word, Name, Rc, Number, Text, Mark}
@@ -22,7 +19,7 @@ use Rattle.fdl_parser.specs.declared.cursor.SyntaxFault.{SyntaxFault}
 use Rattle.fdl_parser.specs.Tokens.{Tokens, first_kind, IsWord, IsMark, IsSigned, Unsigned, Negative, IsFirstStep, RcFirst, NameFirst, IsLeaf, FirstStep, MoreSteps}
 use Rattle.fdl_parser.specs.Tiers.{kind_tier, tier, Looser}
 use Rattle.fdl_parser.specs.Stops.{Reads, Quotes, NoStep, Anything, IsTaken, IsStop, Stops}
-use Rattle.fdl_parser.specs.Conditions.{mark_of, condition_levels, IsOperand, LeafOperand, NumberOperand, IsNextTerm, PlusTerm, MinusTerm, IsSum, FirstTerm, MoreTerms, IsSide, TextSide, SumSide, IsComparison, Compared, Denies, IsNegation, Comparison, Denied, Bracketed, AreConjoined, TwoNegations, MoreNegations, IsConjunction, OneNegation, Negations, AreDisjoined, TwoConjunctions, MoreConjunctions, IsDisjunction, OneConjunction, Conjunctions, IsCondition, Whole}
+use Rattle.fdl_parser.specs.Conditions.{mark_of, condition_levels, IsOperand, LeafOperand, NumberOperand, IsNextTerm, PlusTerm, MinusTerm, IsSum, FirstTerm, MoreTerms, IsSide, TextSide, SumSide, IsComparison, Compared, IsNegation, Comparison, Denied, Bracketed, AreConjoined, TwoNegations, MoreNegations, IsConjunction, OneNegation, Negations, AreDisjoined, TwoConjunctions, MoreConjunctions, IsDisjunction, OneConjunction, Conjunctions, IsCondition, Whole}
 use Rattle.fdl_parser.proofs.Stops.{Seq, Either, Star, None, More, star_snoc, Through, CanRead, taken_less, stops_less, stops_second, taken_both}
 use Rattle.fdl_parser.proofs.StopsTokens.{OfOne, can_one, taken_one, stop_one, can_signed, can_quote, can_leaf, taken_mark, taken_signed, taken_quote, leaf_so_far, leaf_taken}
 use Rattle.fdl_parser.proofs.Shapes.{Among, NotAmong, opt_tier, tier_first, among_apart, Shape, Same, Loops, WordForm, MarkForm, word_shape, mark_shape, shape_any, shape_as, takes_as, stops_as, widen, with_more, before, seq, seq_end, no_shape, at_first, stop_now, stop_then, take_then, either, take_left, take_right, stop_left, stop_right, star, loop_first, loop_more, loop_taken, loop_stops, loop_now, any_taken, any_stops, free_taken, free_stops}
@@ -327,15 +324,8 @@ BracketForm n = Seq (MarkForm mark.OPEN) (InnerForm n)
 abbrev NegationForm : ℕ → Tokens → Tokens → Type 0
 NegationForm n = Either (DenyForm n) (Either (BracketForm n) (Reads IsComparison))
 
--- there is a denial of each condition
-abbrev some_box : (x : Cond) → Box Cond Global
-some_box x = record { ptr = null_ptr; alloc = record { memory = record { seal = tt } }; value = x }
-
-some_denial : (x : Cond) → Denies (cond.Not (some_box x)) x
-some_denial x = record { boxed = some_box x; is = refl; holds = refl }
-
 negation_into : (n : ℕ) → 0 < n → (a b : Tokens) → NegationForm n a b → Reads (IsNegation n) a b
-negation_into n some a b (inl h) = (_, Denied some h.1.1 h.2.1 (some_denial h.2.0))
+negation_into n some a b (inl h) = (_, Denied some h.1.1 h.2.1)
 negation_into n some a b (inr (inl h)) = (_, Bracketed some h.1.1 h.2.1.1 h.2.2.1)
 negation_into n some a b (inr (inr h)) = (_, Comparison h.1)
 
@@ -344,7 +334,7 @@ negation_out n a b h = go h.1
   where
     go : {x : Cond} → IsNegation n x a b → NegationForm n a b
     go (Comparison j) = inr (inr (_, j))
-    go (Denied some j k d) = inl (_, (_, j), (_, k))
+    go (Denied some j k) = inl (_, (_, j), (_, k))
     go (Bracketed some j k l) = inr (inl (_, (_, j), (_, (_, k), (_, l))))
 
 negation_same : (n : ℕ) → 0 < n → Same (NegationForm n) (Reads (IsNegation n))
@@ -355,7 +345,7 @@ last_out a b h = go h.1
   where
     go : {x : Cond} → IsNegation 0 x a b → Reads IsComparison a b
     go (Comparison j) = (_, j)
-    go (Denied some j k d) = absurd (omega (arith, some))
+    go (Denied some j k) = absurd (omega (arith, some))
     go (Bracketed some j k l) = absurd (omega (arith, some))
 
 last_same : Same (Reads IsComparison) (Reads (IsNegation 0))

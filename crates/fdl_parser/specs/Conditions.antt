@@ -1,6 +1,5 @@
 -- The grammar of conditions, with the trees: what stands between two rows of tokens.
-use Rattle.std.specs.Prelude.{◌≡◌, ℕ, ◌<◌, ◌-◌, List, [], ◌∷◌, ◌++◌, true, false, Box}
-use Rattle.std.specs.declared.alloc.Global.{Global}
+use Rattle.std.specs.Prelude.{ℕ, ◌<◌, ◌-◌, List, [], ◌∷◌, ◌++◌, true, false}
 use Rattle.flow_table.specs.declared.keyword.TheConstants as word
 use Rattle.flow_model.specs.declared.graphs.Operator.{Operator}
 use Rattle.flow_model.specs.declared.graphs.Operator.TheVariants.{Eq, Ne, Lt, Le, Gt, Ge}
@@ -59,19 +58,13 @@ pub data IsComparison : Cond → Tokens → Tokens → Type 0 where
   Compared : {l r : Side} {o : Operator} {p : ℕ} {a b c d : Tokens} → IsSide l a b → IsMark (mark_of o) p b c
       → IsSide r c d → IsComparison (cond.Compare l o r) a d
 
--- the first condition denies the second
-pub record Denies (denial denied : Cond) : Type 0 where
-  pub boxed : Box Cond Global
-  pub is : denial ≡ cond.Not boxed
-  pub holds : boxed.value ≡ denied
-
 -- the number says how many levels of NOT and parentheses are left
 mutual
   -- neg = comparison | NOT neg | ( cond )
   pub data IsNegation : ℕ → Cond → Tokens → Tokens → Type 0 where
     Comparison : {n : ℕ} {x : Cond} {a b : Tokens} → IsComparison x a b → IsNegation n x a b
-    Denied : {n p : ℕ} {x y : Cond} {a b c : Tokens} → 0 < n → IsWord word.NOT p a b → IsNegation (n - 1) x b c
-        → Denies y x → IsNegation n y a c
+    Denied : {n p : ℕ} {x : Cond} {a b c : Tokens} → 0 < n → IsWord word.NOT p a b → IsNegation (n - 1) x b c
+        → IsNegation n (cond.Not x) a c
     Bracketed : {n p q : ℕ} {x : Cond} {a b c d : Tokens} → 0 < n → IsMark mark.OPEN p a b → IsDisjunction (n - 1) x b c
         → IsMark mark.CLOSE q c d → IsNegation n x a d
 

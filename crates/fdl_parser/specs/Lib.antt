@@ -5,7 +5,7 @@ pub mod Conditions
 pub mod Lines
 pub mod Activities
 pub mod Items
-pub mod Alike
+pub mod Laws
 pub mod Tiers
 pub mod Stops
 pub mod Refusing

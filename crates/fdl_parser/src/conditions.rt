@@ -1,16 +1,17 @@
 //! Conditions.
 ghost use Rattle.std.specs.Prelude.{◌≡◌, ◌≢◌, ◌<◌, length, IfOk, IfErr, IfSome, Some, None, true, false, [], ◌∷◌};
+ghost use Rattle.flow_model.specs.declared.trees.Cond.TheVariants as form;
 ghost use Rattle.fdl_parser.specs.declared.cursor.mark.TheConstants as sign;
 ghost use Rattle.fdl_parser.specs.Faults.{Names};
 ghost use Rattle.fdl_parser.specs.Stops.{Reads, Anything, OneComes, NoneComes, IsTaken, Stops};
 ghost use Rattle.fdl_parser.specs.Tiers.{Looser};
 ghost use Rattle.fdl_parser.specs.Tokens.{StaysWithin};
-ghost use Rattle.fdl_parser.specs.Conditions.{mark_of, Denies, IsOperand, IsNextTerm, IsSide, IsComparison, IsNegation};
+ghost use Rattle.fdl_parser.specs.Conditions.{mark_of, IsOperand, IsNextTerm, IsSide, IsComparison, IsNegation};
 ghost use Rattle.fdl_parser.specs.Conditions.{IsConjunction, IsDisjunction, IsCondition};
 
 use crate::cursor::{Cursor, SyntaxFault, mark};
 use fdl_lexer::What;
-use flow_model::{Cond, CondAt, List, OperandTree, Operator, Side, TermTree};
+use flow_model::{Boxed, Cond, CondAt, List, OperandTree, Operator, Side, TermTree};
 use flow_table::keyword;
 use std::alloc::Global;
 
@@ -242,10 +243,10 @@ impl<'a> Cursor<'a> {
 }
 
 fn not_of(alloc: Global, denied: Cond) -> Result<Cond, SyntaxFault>
-    ensures denies { IfOk result (λ denial. Denies denial denied) }
+    ensures denies { IfOk result (λ denial. denial ≡ form.Not denied) }
     ensures memory { IfErr result (λ e. e ≡ SyntaxFault.NoMemory) }
 {
-    match Box::new(alloc, denied) {
+    match Boxed::new(alloc, denied) {
         Ok(boxed) => Ok(Cond::Not(boxed)),
         Err(_) => Err(SyntaxFault::NoMemory),
     }

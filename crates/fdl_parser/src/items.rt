@@ -8,7 +8,6 @@ ghost use Rattle.fdl_parser.specs.Tiers.{Looser};
 ghost use Rattle.fdl_parser.specs.Tokens.{spell, reading, StaysWithin};
 ghost use Rattle.fdl_parser.specs.Items.{IsKind, IsCount, IsMember, IsStructure, AreRoles, IsPerson, IsProcess, IsItem};
 ghost use Rattle.fdl_parser.specs.Items.{IsTree};
-ghost use Rattle.fdl_parser.specs.Alike.{AlikeTree};
 
 use crate::activities::LEVELS;
 use crate::cursor::{Cursor, SyntaxFault, mark};
@@ -171,14 +170,14 @@ impl<'a> Cursor<'a> {
 
 /// The tree of a text's tokens: the one that the grammar relates to them.
 ///
-/// Where the tokens are the lexer's there is no other, but for where in memory the operand of a NOT lies.
+/// Where the tokens are the lexer's there is no other: each tree that they have is equal to it.
 ///
 /// `At` comes where they have none, with the place of the first token with which they begin no text of
 /// the grammar, or else the text's length.
 pub fn parse(alloc: Global, text: &[u8], tokens: &Tokens) -> Result<Tree, SyntaxFault>
     ensures tree { IfOk result (λ tree. IsTree tree (spell text.now tokens.now.items)) }
     ensures one { IfOk result (λ tree. AreTokens text.now tokens.now.items → (other : Tree)
-        → IsTree other (spell text.now tokens.now.items) → AlikeTree tree other) }
+        → IsTree other (spell text.now tokens.now.items) → tree ≡ other) }
     ensures names { IfErr result (NamesOne (reading text.now tokens.now.items)) }
     ensures first { IfErr result (RefusesFirst text.now tokens.now.items) }
     ensures none { IfErr result (HaveNoTree text.now tokens.now.items) }

@@ -10,7 +10,9 @@ mod activities;
 mod conditions;
 mod cursor;
 mod items;
+mod laws;
 mod lines;
 
 pub use cursor::{Cursor, SyntaxFault, mark};
 pub use items::parse;
+pub use laws::trees_are_one;

@@ -24,13 +24,12 @@ use Rattle.flow_model.specs.declared.trees.KindTree.{KindTree}
 use Rattle.flow_model.specs.declared.trees.Member.{Member}
 use Rattle.flow_model.specs.declared.trees.ItemTree.{ItemTree}
 use Rattle.flow_model.specs.declared.trees.Tree.{Tree}
-use Rattle.fdl_parser.specs.Alike.{Each, NoneLeft, OneMore}
 use Rattle.fdl_print.specs.Pieces.{Piece, text, word, name}
 use Rattle.fdl_print.specs.Parts.{number_pieces, steps_pieces, operand_pieces, later_term, sum_pieces, side_pieces}
 use Rattle.fdl_print.specs.Conditions.{Shown, shown, condition_pieces, in_parentheses}
 use Rattle.fdl_print.specs.Elements.{join_pieces, attr_pieces, attr_line, when_pieces, control_pieces, end_piece, ends_pieces, map_pieces, later_map, maps_pieces, data_pieces, kind_piece, count_pieces, member_line, first_role, later_role, roles_pieces}
 use Rattle.fdl_print.specs.Canonical.{worked, activity_pieces, element_pieces, item_pieces, canonical_text}
-use Rattle.fdl_print.specs.Same.{SameName, SameNumber, SameMap, SameOperand, TwoLeaves, TwoNumbers, SameTerm, SameSide, TwoTexts, TwoSums, SameCond, TwoComparisons, TwoDenials, TwoAnds, TwoOrs, SameConds, NoConds, MoreConds, SameCondAt, SameWhen, TwoAlways, TwoOtherwise, TwoWhen, SameControl, SameEnd, TwoBorders, TwoActivities, SameEnds, TwoLines, TwoLoops, SameData, SameJoin, TwoAll, TwoAtLeastOne, TwoAtLeast, SameWhat, TwoJoins, TwoExits, TwoExpires, TwoRoles, TwoPersons, TwoPerformers, TwoStarts, TwoStarters, SameAttr, SameWork, TwoPrograms, TwoCalls, TwoBlocks, SameActivity, TwoActivityTrees, SameElement, TwoActs, TwoControls, TwoData, SameElements, NoElements, MoreElements, SameKind, TwoLong, TwoString, TwoStructs, SameCount, NoCounts, TwoCounts, SameMember, SameItem, TwoStructures, TwoPeople, TwoProcesses, SameButPlaces}
+use Rattle.fdl_print.specs.Same.{Each, NoneLeft, OneMore, SameName, SameNumber, SameMap, SameOperand, TwoLeaves, TwoNumbers, SameTerm, SameSide, TwoTexts, TwoSums, SameCond, TwoComparisons, TwoDenials, TwoAnds, TwoOrs, SameConds, NoConds, MoreConds, SameCondAt, SameWhen, TwoAlways, TwoOtherwise, TwoWhen, SameControl, SameEnd, TwoBorders, TwoActivities, SameEnds, TwoLines, TwoLoops, SameData, SameJoin, TwoAll, TwoAtLeastOne, TwoAtLeast, SameWhat, TwoJoins, TwoExits, TwoExpires, TwoRoles, TwoPersons, TwoPerformers, TwoStarts, TwoStarters, SameAttr, SameWork, TwoPrograms, TwoCalls, TwoBlocks, SameActivity, TwoActivityTrees, SameElement, TwoActs, TwoControls, TwoData, SameElements, NoElements, MoreElements, SameKind, TwoLong, TwoString, TwoStructs, SameCount, NoCounts, TwoCounts, SameMember, SameItem, TwoStructures, TwoPeople, TwoProcesses, SameButPlaces}
 use Rattle.fdl_print.proofs.Blocks.{worked_process, worked_block, element_activity, element_control, element_line}
 use Rattle.fdl_print.proofs.ShowsConditions.{shown_compare, shown_and, shown_or, shown_not}
 
@@ -63,7 +62,7 @@ mutual
   cond_same : {x y : Cond} → SameCond x y → shown x ≡ shown y
   cond_same (TwoComparisons {l = l} {r = r} {k = k} {s = s} {o = o} h j) =
       shown_compare l r o ∙ rw (side_same l k h, side_same r s j) (sym (shown_compare k s o))
-  cond_same (TwoDenials {x = x} {y = y} {d = d} {e = e} h j s) = shown_not x d h ∙ rw (cond_same s) (sym (shown_not y e j))
+  cond_same (TwoDenials {x = x} {y = y} s) = shown_not x ∙ rw (cond_same s) (sym (shown_not y))
   cond_same (TwoAnds {xs = xs} {ys = ys} s) = shown_and xs ∙ rw (conds_same s) (sym (shown_and ys))
   cond_same (TwoOrs {xs = xs} {ys = ys} s) = shown_or xs ∙ rw (conds_same s) (sym (shown_or ys))
 

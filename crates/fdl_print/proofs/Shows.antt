@@ -16,10 +16,9 @@ use Rattle.fdl_lexer.specs.declared.kinds.What.TheVariants.{Word, Name, Rc, Item
 use Rattle.fdl_lexer.specs.declared.kinds.Token.{Token as Placed}
 use Rattle.fdl_lexer.proofs.Doubled.{split, too_long}
 use Rattle.fdl_parser.specs.Tokens.{Spelled, Tokens, spell, IsToken, IsName, IsQuote, IsNumber, IsSigned, Unsigned, Negative, IsFirstStep, RcFirst, NameFirst, IsNextStep, MemberNext, PlaceNext, IsLeaf, FirstStep, MoreSteps}
-use Rattle.fdl_parser.specs.Alike.{Each, NoneLeft, OneMore}
 use Rattle.fdl_print.specs.Pieces.{Piece, Token, Stop, word, name, quoted, digits}
 use Rattle.fdl_print.specs.Parts.{number_pieces, first_step, later_step, steps_pieces, leaf_pieces}
-use Rattle.fdl_print.specs.Same.{SameName, SameNumber, SameLeaf}
+use Rattle.fdl_print.specs.Same.{Each, NoneLeft, OneMore, SameName, SameNumber, SameLeaf}
 use Rattle.fdl_print.proofs.Fine.{IsFine, fine_word, fine_number, fine_name, fine_text, fine_rc, fine_dot, fine_open_bracket, fine_close_bracket, fine_minus}
 use Rattle.fdl_print.proofs.Laid.{Said, Says, NoPiece, OneToken, OneStop, Fits}
 

@@ -1,7 +1,5 @@
 -- A condition's pieces are read again as that condition: parentheses that are left out aren't missed.
 use Rattle.std.proofs.Common.{◌≡◌, ℕ, zero, suc, ◌-◌, ◌<◌, ◌≤◌, true, false, List, [], ◌∷◌, ◌++◌, length, map, refl, sym, ap, ◌∙◌, subst, arith, append-nil, length-append}
-use Rattle.std.specs.Prelude.{Box}
-use Rattle.std.specs.declared.alloc.Global.{Global}
 use Rattle.flow_table.specs.declared.keyword.TheConstants as keyword
 use Rattle.flow_model.specs.declared.graphs.Operator.{Operator}
 use Rattle.flow_model.specs.declared.trees.OperandTree.{OperandTree}
@@ -18,12 +16,11 @@ use Rattle.flow_model.specs.declared.trees.CondAt.{CondAt}
 use Rattle.fdl_lexer.specs.declared.kinds.What.TheVariants.{Mark}
 use Rattle.fdl_parser.specs.declared.cursor.mark.TheConstants as mark
 use Rattle.fdl_parser.specs.Tokens.{Tokens, IsToken}
-use Rattle.fdl_parser.specs.Conditions.{condition_levels, Denies, IsOperand, LeafOperand, NumberOperand, IsNextTerm, PlusTerm, MinusTerm, IsSum, FirstTerm, MoreTerms, IsSide, TextSide, SumSide, IsComparison, Compared, IsNegation, Comparison, Denied, Bracketed, AreConjoined, TwoNegations, MoreNegations, IsConjunction, OneNegation, Negations, AreDisjoined, TwoConjunctions, MoreConjunctions, IsDisjunction, OneConjunction, Conjunctions, IsCondition, Whole}
-use Rattle.fdl_parser.specs.Alike.{Each, NoneLeft, OneMore}
+use Rattle.fdl_parser.specs.Conditions.{condition_levels, IsOperand, LeafOperand, NumberOperand, IsNextTerm, PlusTerm, MinusTerm, IsSum, FirstTerm, MoreTerms, IsSide, TextSide, SumSide, IsComparison, Compared, IsNegation, Comparison, Denied, Bracketed, AreConjoined, TwoNegations, MoreNegations, IsConjunction, OneNegation, Negations, AreDisjoined, TwoConjunctions, MoreConjunctions, IsDisjunction, OneConjunction, Conjunctions, IsCondition, Whole}
 use Rattle.fdl_print.specs.Pieces.{Piece, word, sign}
 use Rattle.fdl_print.specs.Parts.{operator_mark, operand_pieces, later_term, sum_pieces, side_pieces}
 use Rattle.fdl_print.specs.Conditions.{Form, AnOr, AnAnd, Other, Shown as Showing, shown, shown_by, in_parentheses, in_or, in_and, later_or, later_and, or_pieces, and_pieces, condition_pieces}
-use Rattle.fdl_print.specs.Same.{SameOperand, TwoLeaves, TwoNumbers, SameTerm, SameSide, TwoTexts, TwoSums, SameCond, TwoComparisons, TwoDenials, TwoAnds, TwoOrs, SameConds, NoConds, MoreConds, SameCondAt}
+use Rattle.fdl_print.specs.Same.{Each, NoneLeft, OneMore, SameOperand, TwoLeaves, TwoNumbers, SameTerm, SameSide, TwoTexts, TwoSums, SameCond, TwoComparisons, TwoDenials, TwoAnds, TwoOrs, SameConds, NoConds, MoreConds, SameCondAt}
 use Rattle.fdl_print.proofs.Laying.{shown_first}
 use Rattle.fdl_print.proofs.Fine.{fine_open, fine_close, fine_plus, fine_minus, fine_operator}
 use Rattle.fdl_print.proofs.Shows.{Shows, Again, chain, so, by, more_shows, more_later, token_shows, word_shows, behind_sound, leaf_shows, signed_shows, quote_shows}
@@ -66,14 +63,8 @@ shown_and xs = ap (λ (c : Cond). shown c) (sym (rolls-And xs)) ∙ fold-roll-Co
 pub shown_or : (xs : List Cond) → shown (cond.Or xs) ≡ record { form = AnOr; bare = or_pieces (map shown xs) }
 shown_or xs = ap (λ (c : Cond). shown c) (sym (rolls-Or xs)) ∙ fold-roll-Cond Showing shown_by (Cond-F.Or xs)
 
-shown_boxed : (boxed : Box Cond Global) → shown (cond.Not boxed) ≡ record { form = Other; bare = word keyword.NOT ∷ in_and (shown boxed.value) }
-shown_boxed boxed = ap (λ (c : Cond). shown c) (sym (rolls-Not boxed)) ∙ fold-roll-Cond Showing shown_by (Cond-F.Not boxed)
-
-pub shown_not : (y x : Cond) → Denies y x → shown y ≡ record { form = Other; bare = word keyword.NOT ∷ in_and (shown x) }
-shown_not y x d = ap (λ (c : Cond). shown c) d.is ∙ shown_boxed d.boxed ∙ ap (λ (c : Cond). not_shown (in_and (shown c))) d.holds
-  where
-    not_shown : List Piece → Showing
-    not_shown ps = record { form = Other; bare = word keyword.NOT ∷ ps }
+pub shown_not : (x : Cond) → shown (cond.Not x) ≡ record { form = Other; bare = word keyword.NOT ∷ in_and (shown x) }
+shown_not x = ap (λ (c : Cond). shown c) (sym (rolls-Not x)) ∙ fold-roll-Cond Showing shown_by (Cond-F.Not x)
 
 and_or : (s : Showing) → s.form ≡ AnOr → in_and s ≡ in_parentheses s.bare
 and_or s e = rw e refl
@@ -236,14 +227,11 @@ bracket_levels o w l = record {
 
 negation_step : (n : ℕ) → ((m : ℕ) → n ≡ suc m → HasNegations m) → HasNegations n
 negation_step n rec x a b (Comparison h) = comparison_shows h
-negation_step n rec y a d (Denied {x = x} lt w h denies) =
+negation_step n rec y a d (Denied {x = x} lt w h) =
     let e : n ≡ suc (n - 1) = omega (arith, lt) in
     let q = rec (n - 1) e _ _ _ h in
-    other_levels (shown_not y x denies) (λ m le.
-    so (λ u v t.
-    let boxed : Box Cond Global = record denies.boxed { value = t.second.tree } in
-    let again : Denies (cond.Not boxed) t.second.tree = record { boxed = boxed; is = refl; holds = refl } in
-    record { tree = cond.Not boxed; is = Denied (omega arith) t.first.is t.second.is again; same = TwoDenials denies again t.second.same })
+    other_levels (shown_not x) (λ m le.
+    so (λ u v t. record { tree = cond.Not t.second.tree; is = Denied (omega arith) t.first.is t.second.is; same = TwoDenials t.second.same })
     (chain (word_shows refl w) (q.member (m - 1) (omega arith))))
 negation_step n rec x a d (Bracketed lt o h w) =
     let e : n ≡ suc (n - 1) = omega (arith, lt) in

@@ -15,10 +15,9 @@ use Rattle.fdl_lexer.specs.declared.kinds.Token.{Token as Placed}
 use Rattle.fdl_lexer.specs.Tokens.{AreTokens}
 use Rattle.fdl_parser.specs.Tokens.{Tokens, spell}
 use Rattle.fdl_parser.specs.Items.{block_levels, IsKind, LongKind, StringKind, StructKind, IsCount, NoCount, OneCount, IsMember, OneMember, AreMembers, NoMember, MoreMembers, IsStructure, OneStructure, AreNamed, FirstRole, NextRole, AreRoles, NoRoles, SomeRoles, IsPerson, OnePerson, IsProcess, OneProcess, IsItem, StructureItem, PersonItem, ProcessItem, AreItems, NoItem, MoreItems, IsTree}
-use Rattle.fdl_parser.specs.Alike.{Each, NoneLeft, OneMore}
 use Rattle.fdl_print.specs.Elements.{kind_piece, count_pieces, member_line, structure_pieces, first_role, later_role, roles_pieces, person_pieces}
 use Rattle.fdl_print.specs.Canonical.{process_pieces, item_pieces, canonical_text}
-use Rattle.fdl_print.specs.Same.{SameName, SameKind, TwoLong, TwoString, TwoStructs, SameCount, NoCounts, TwoCounts, SameMember, SameStructure, SamePerson, SameProcess, SameItem, TwoStructures, TwoPeople, TwoProcesses}
+use Rattle.fdl_print.specs.Same.{Each, NoneLeft, OneMore, SameName, SameKind, TwoLong, TwoString, TwoStructs, SameCount, NoCounts, TwoCounts, SameMember, SameStructure, SamePerson, SameProcess, SameItem, TwoStructures, TwoPeople, TwoProcesses}
 use Rattle.fdl_print.specs.Laws.{ReadsAs}
 use Rattle.fdl_print.proofs.Fine.{fine_open, fine_close, fine_comma, fine_colon, fine_semicolon}
 use Rattle.fdl_print.proofs.Laid.{laid}

@@ -66,7 +66,7 @@ and_pieces (first ∷ later) = in_and first ++ flat_map later_and later
 abbrev pub shown_by : Cond-F Shown → Shown
 shown_by (Cond-F.Or members) = record { form = AnOr; bare = or_pieces members }
 shown_by (Cond-F.And members) = record { form = AnAnd; bare = and_pieces members }
-shown_by (Cond-F.Not member) = record { form = Other; bare = word keyword.NOT ∷ in_and member.value }
+shown_by (Cond-F.Not member) = record { form = Other; bare = word keyword.NOT ∷ in_and member }
 shown_by (Cond-F.Compare left operator right) =
     record { form = Other; bare = side_pieces left ++ sign (operator_mark operator) ∷ side_pieces right }
 

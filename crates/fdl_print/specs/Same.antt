@@ -1,4 +1,4 @@
--- Trees that are the same but for places, and for where in memory what a NOT denies lies.
+-- Trees that are the same but for places.
 use Rattle.std.specs.Prelude.{◌≡◌, ℕ, Bool, is_some, Option, Some, None, List, [], ◌∷◌}
 use Rattle.flow_model.specs.declared.graphs.Operator.{Operator}
 use Rattle.flow_model.specs.declared.trees.NameAt.{NameAt}
@@ -40,8 +40,11 @@ use Rattle.flow_model.specs.declared.trees.ProcessTree.{ProcessTree}
 use Rattle.flow_model.specs.declared.trees.ItemTree.{ItemTree}
 use Rattle.flow_model.specs.declared.trees.ItemTree.TheVariants as item
 use Rattle.flow_model.specs.declared.trees.Tree.{Tree}
-use Rattle.fdl_parser.specs.Conditions.{Denies}
-use Rattle.fdl_parser.specs.Alike.{Each}
+
+-- two lists are so, one by one
+pub data Each (A : Type 0) (R : A → A → Type 0) : List A → List A → Type 0 where
+  NoneLeft : Each A R [] []
+  OneMore : {x y : A} {xs ys : List A} → R x y → Each A R xs ys → Each A R (x ∷ xs) (y ∷ ys)
 
 -- ---- names, numbers, leaves
 
@@ -85,7 +88,7 @@ mutual
   pub data SameCond : Cond → Cond → Type 0 where
     TwoComparisons : {l r k s : Side} {o : Operator} → SameSide l k → SameSide r s
         → SameCond (cond.Compare l o r) (cond.Compare k o s)
-    TwoDenials : {x y d e : Cond} → Denies x d → Denies y e → SameCond d e → SameCond x y
+    TwoDenials : {x y : Cond} → SameCond x y → SameCond (cond.Not x) (cond.Not y)
     TwoAnds : {xs ys : List Cond} → SameConds xs ys → SameCond (cond.And xs) (cond.And ys)
     TwoOrs : {xs ys : List Cond} → SameConds xs ys → SameCond (cond.Or xs) (cond.Or ys)
 

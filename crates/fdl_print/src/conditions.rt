@@ -170,7 +170,7 @@ impl Printer {
             Cond::And(members) => self.members_of_and(members.as_slice()),
             Cond::Not(member) => {
                 self.word(keyword::NOT)?;
-                self.in_and(member)
+                self.in_and(member.get())
             }
             Cond::Compare(left, operator, right) => self.compare(left, *operator, right),
         }

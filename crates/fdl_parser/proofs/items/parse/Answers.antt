@@ -1,7 +1,6 @@
 use Rattle.std.proofs.lemmas.Result.{err_from_is_err_and}
 use Rattle.fdl_parser.specs.Tokens.{Unread}
-use Rattle.fdl_parser.proofs.SameItems.{items_like}
-use Rattle.fdl_parser.proofs.Quoted.{tokens_quoted}
+use Rattle.fdl_parser.proofs.SameItems.{trees_are_one}
 use Rattle.fdl_parser.specs.Items.{NoItem, MoreItems}
 use Rattle.fdl_parser.proofs.Rows.{read_whole, names_one}
 use Rattle.fdl_parser.proofs.StopsItems.{refuses_item, refused_first, refused_none, some_left}
@@ -21,7 +20,7 @@ returns-clause-tree c = read_whole _ _ _ c.loop-cursor.invariant.read _ c.is_at_
 
 pub returns-clause-one : goal.returns-clause-one
 returns-clause-one c = λ lexed other is.
-    items_like (read_whole _ _ _ c.loop-cursor.invariant.read _ c.is_at_end.ensures c.loop-cursor-test.false) is (tokens_quoted _ _ lexed)
+    trees_are_one _ _ _ other lexed (read_whole _ _ _ c.loop-cursor.invariant.read _ c.is_at_end.ensures c.loop-cursor-test.false) is
 
 pub returns-in_err-text_item-clause-names : goal.returns-in_err-text_item-clause-names
 returns-in_err-text_item-clause-names c =

@@ -17,7 +17,7 @@ negation-returns-then-not-is_mark-clause-read t c = Comparison c.in_ok-compariso
 
 pub negation-returns-then-denies-clause-read : goal.negation-returns-then-denies-clause-read
 negation-returns-then-denies-clause-read t c = let h : 0 < c.args.levels = omega arith in
-    Denied h c.in_ok-word.ensures.read c.in_ok-denied.ensures.read c.in_ok-denial.ensures.denies
+    rw c.in_ok-denial.ensures.denies (Denied h c.in_ok-word.ensures.read c.in_ok-denied.ensures.read)
 
 pub negation-returns-clause-read : goal.negation-returns-clause-read
 negation-returns-clause-read t c = let h : 0 < c.args.levels = omega arith in
