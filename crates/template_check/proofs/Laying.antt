@@ -96,12 +96,12 @@ wired g elements same drawn = record {
 pub laid : (g : Graph) (elements : List ElementTree) → AreWired (length (out-Graph g).activities) (out-Graph g).controls (out-Graph g).lines (out-Graph g).loops (out-Graph g).wiring
     → pairs_of (out-Graph g).controls ≡ edges_in elements → All (IsDrawn elements) (out-Graph g).lines → IsLaid g
 laid g elements w same drawn = record {
-  incoming = w.incoming;
-  outgoing = w.outgoing;
-  feeding = w.feeding;
+  incoming = w.incoming.each;
+  outgoing = w.outgoing.each;
+  feeding = w.feeding.each;
   sinking = w.sinking;
-  looping = w.looping;
-  flow = order_is_flow g (out-Graph g).wiring.order (ordered g (out-Graph g).wiring.order w.ordered) (wired g elements same drawn);
+  looping = w.looping.each;
+  flow = order_is_flow g (out-Graph g).wiring.order (ordered g (out-Graph g).wiring.order w.ordered.ordered) (wired g elements same drawn);
 }
 
 -- the ends of the connectors are activities

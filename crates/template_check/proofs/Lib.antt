@@ -1,4 +1,5 @@
 pub mod Rows
+pub mod OneWiring
 pub mod InText
 pub mod FirstBroken
 pub mod Refused

@@ -1,7 +1,5 @@
 -- What is built of a list, element by element, is what its elements give.
 use Rattle.std.proofs.Common.{◌≡◌, ℕ, ◌+◌, ◌<◌, ◌≤◌, List, [], ◌∷◌, ◌++◌, length, get_or, take, map, Option, Some, None, Bor, sym, ap, subst, ◌∙◌, append-nil, zero, suc, arith}
-use Rattle.std.specs.Prelude.{Box}
-use Rattle.std.specs.declared.alloc.Global.{Global}
 use Rattle.std.specs.List.{filter_map, cons_option}
 use Rattle.std.proofs.Math.ListN.{get_or-map}
 use Rattle.std.proofs.lemmas.List.{take_more, take_all, length-map}
@@ -21,6 +19,7 @@ use Rattle.flow_model.specs.declared.trees.ProcessTree.{ProcessTree}
 use Rattle.text_graphs.specs.GraphTexts.{GraphText, process_text, block_text}
 use Rattle.text_graphs.specs.Texts.{activities_in, controls_in, lines_in}
 use Rattle.template_check.specs.Meant.{Reading, IsMeant, IsMeantWith, MeantTo, AreMeantFrom, AreParts, NoneLeft, NoPart, OnePart, IsOne, IsControl, IsDataLine, IsLoopLine, IsActivity, IsWork, BlockOf}
+use Rattle.template_check.specs.Wires.{AreWired}
 use Rattle.text_graphs.proofs.Sorting.{one_more}
 
 module _ {X Y : Type 0} (R : X → Option Y → Type 0) where
@@ -110,21 +109,22 @@ module _ (input output : Leaves) (activities : List Activity) (controls : List C
       → AreParts (IsOne (IsControl r.leaves g.elements)) (controls_in g.elements) controls
       → AreParts (IsDataLine r.leaves g) (lines_in g.elements) lines
       → AreParts (IsLoopLine r.leaves g) (lines_in g.elements) loops
+      → AreWired (length activities) controls lines loops wiring
       → IsMeant r text made
-  graph_meant r g text same reads writes acts connects draws rounds =
+  graph_meant r g text same reads writes acts connects draws rounds wires =
       let parts = out-roll-Graph (record { input = input; output = output; activities = activities; controls = controls; lines = lines; loops = loops; wiring = wiring }) in
       let input_is : r.leaves g.input ≡ Some (out-Graph made).input.leaves = rw parts reads in
       let output_is : r.leaves g.output ≡ Some (out-Graph made).output.leaves = rw parts writes in
       let controls_are : AreParts (IsOne (IsControl r.leaves g.elements)) (controls_in g.elements) (out-Graph made).controls = rw parts connects in
       let lines_are : AreParts (IsDataLine r.leaves g) (lines_in g.elements) (out-Graph made).lines = rw parts draws in
       let loops_are : AreParts (IsLoopLine r.leaves g) (lines_in g.elements) (out-Graph made).loops = rw parts rounds in
+      let wiring_is : AreWired (length (out-Graph made).activities) (out-Graph made).controls (out-Graph made).lines (out-Graph made).loops (out-Graph made).wiring = rw parts wires in
       let activities_are : (depth : ℕ) → AreParts (IsOne (IsActivity (MeantTo r depth) r g)) (activities_in g.elements) (out-Graph made).activities = rw parts acts in
       subst (λ (t : GraphText). IsMeant r t made) same
-      (meant_each r g made (λ depth. record { input = input_is; output = output_is; activities = activities_are depth; controls = controls_are; lines = lines_are; loops = loops_are }))
+      (meant_each r g made (λ depth. record { input = input_is; output = output_is; activities = activities_are depth; controls = controls_are; lines = lines_are; loops = loops_are; wired = wiring_is }))
 
 -- what a block does is its graph
-pub block_meant : (r : Reading) (g : GraphText) (a : ActivityTree) (inner given : List ElementTree) (graph : Graph) (box : Box Graph Global) → a.work ≡ work.Block inner → given ≡ inner → box.value ≡ graph
-    → IsMeant r (block_text g.process a given) graph → (depth : ℕ) → IsWork (MeantTo r depth) r g a (Block box)
-block_meant r g a inner given graph box is same boxed meant depth =
-    let P = MeantTo r depth (block_text g.process a inner) in
-    BlockOf inner is (subst P (sym boxed) (subst (λ (es : List ElementTree). MeantTo r depth (block_text g.process a es) graph) same (meant depth)))
+pub block_meant : (r : Reading) (g : GraphText) (a : ActivityTree) (inner given : List ElementTree) (graph : Graph) → a.work ≡ work.Block inner → given ≡ inner
+    → IsMeant r (block_text g.process a given) graph → (depth : ℕ) → IsWork (MeantTo r depth) r g a (Block graph)
+block_meant r g a inner given graph is same meant depth =
+    BlockOf inner is (subst (λ (es : List ElementTree). MeantTo r depth (block_text g.process a es) graph) same (meant depth))

@@ -10,7 +10,7 @@ use Rattle.flow_model.specs.declared.graphs.DoneBy.TheVariants as doer
 use Rattle.flow_model.specs.declared.graphs.Graph.{Graph, out-Graph}
 use Rattle.flow_model.specs.declared.graphs.Program.{Program as ProgramOf}
 use Rattle.flow_model.specs.declared.graphs.Template.{Template}
-use Rattle.flow_model.specs.declared.graphs.Work.{Work, Program, Block', Process}
+use Rattle.flow_model.specs.declared.graphs.Work.{Work, Program, Block, Process}
 use Rattle.flow_model.specs.declared.trees.ActivityTree.{ActivityTree}
 use Rattle.flow_model.specs.declared.trees.AttrAt.{AttrAt}
 use Rattle.flow_model.specs.declared.trees.AttrTree.{AttrTree}
@@ -131,7 +131,7 @@ inside_meant P r g a made h (BlockOf inner work has) runs = (inner, work, block 
   where
     block : (w : Work) → HasInside (P (block_text g.process a inner)) w → graph_in [] w ≡ Some h → P (block_text g.process a inner) h
     block (Program p) has runs = absurd has
-    block (Block' b x) has runs = let same : x ≡ h = cc in subst (P (block_text g.process a inner)) same has
+    block (Block x) has runs = let same : x ≡ h = cc in subst (P (block_text g.process a inner)) same has
     block (Process t) has runs = absurd has
 
 listed : {X : Type 0} (xs : List X) (k : ℕ) (x : X) → slice_get xs k ≡ Some x → Contains xs x

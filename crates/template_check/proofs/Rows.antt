@@ -1,5 +1,5 @@
 -- The rows of places are filled element by element.
-use Rattle.std.proofs.Common.{◌≡◌, ℕ, ◌+◌, ◌<◌, ◌≢◌, Bool, true, false, List, [], ◌∷◌, ◌++◌, length, get_or, drop, replicate, cond, refl, sym, ap, subst, ◌∙◌, append_assoc, append-nil, add-one, inl, inr, ◌≤◌, zero, suc}
+use Rattle.std.proofs.Common.{◌≡◌, ℕ, ◌+◌, ◌<◌, ◌≢◌, Bool, true, false, List, [], ◌∷◌, ◌++◌, length, get_or, drop, replicate, cond, refl, sym, ap, subst, ◌∙◌, append_assoc, append-nil, add-one, inl, inr, ◌≤◌, zero, suc, arith}
 use Rattle.std.specs.List.{All}
 use Rattle.std.specs.Prelude.{◌==◌}
 use Rattle.std.proofs.Math.ListN.{set}
@@ -8,7 +8,9 @@ use Rattle.std.proofs.lemmas.Bool.Decides.{eqb_tells}
 use Rattle.std.proofs.lemmas.List.{get_or-set_same, get_or-set_other, drop_all}
 use Rattle.std.proofs.lemmas.Option.{unwrap_or-slice_get}
 use Rattle.flow_model.specs.Wiring.{places}
-use Rattle.template_check.specs.Wires.{AreRows}
+use Rattle.flow_model.specs.declared.graphs.Control.{Control}
+use Rattle.graph_check.specs.Walks.{AreNodes}
+use Rattle.template_check.specs.Wires.{AreRows, pairs_of}
 
 -- the rows are filled up to place i
 pub record AreFilled {X : Type 0} (leads : X → ℕ → Bool) (items : List X) (i : ℕ) (rows : List (List ℕ)) : Type 0 where
@@ -22,9 +24,12 @@ none_filled (suc count) (suc a) = none_filled count a
 pub filled_none : {X : Type 0} (leads : X → ℕ → Bool) (items : List X) (count : ℕ) (rows : List (List ℕ)) → rows ≡ replicate count [] → AreFilled leads items 0 rows
 filled_none leads items count rows is = record { each = λ a. ap (λ r. r ++ places (λ x. leads x a) 0 items) (ap (λ rs. get_or rs a []) is ∙ none_filled count a) }
 
-pub filled_all : {X : Type 0} (leads : X → ℕ → Bool) (items : List X) (i : ℕ) (rows : List (List ℕ)) → length items ≤ i → AreFilled leads items i rows → AreRows leads items rows
-filled_all leads items i rows all h =
-    λ a. unwrap_or-slice_get rows a [] ∙ sym (append-nil (get_or rows a [])) ∙ ap (λ r. get_or rows a [] ++ places (λ x. leads x a) i r) (sym (drop_all i items all)) ∙ h.each a
+pub filled_all : {X : Type 0} (leads : X → ℕ → Bool) (count : ℕ) (items : List X) (i : ℕ) (rows : List (List ℕ)) → length items ≤ i → length rows ≡ count → AreFilled leads items i rows
+    → AreRows leads count items rows
+filled_all leads count items i rows all long h = record {
+  long = long;
+  each = λ a. unwrap_or-slice_get rows a [] ∙ sym (append-nil (get_or rows a [])) ∙ ap (λ r. get_or rows a [] ++ places (λ x. leads x a) i r) (sym (drop_all i items all)) ∙ h.each a;
+}
 
 -- the element at place i, and those behind it
 dropped : {X : Type 0} (items : List X) (i : ℕ) (x : X) → i < length items → get_or items i x ≡ x → drop i items ≡ x ∷ drop (i + 1) items
@@ -69,3 +74,10 @@ module _ {X : Type 0} (leads : X → ℕ → Bool) (items : List X) (i : ℕ) (x
 -- what holds of all elements holds of the one that was read
 pub read_all : {X : Type 0} (P : X → Type 0) (items : List X) (i : ℕ) (x : X) → All P items → i < length items → x ≡ get_or items i x → P x
 read_all P items i x all less is = subst P (sym is) (all i x less)
+
+-- the connectors as pairs lie among the activities
+pub pairs_below : (count : ℕ) (controls : List Control) → All (λ c. c.from < count) controls → All (λ c. c.to < count) controls → AreNodes count (pairs_of controls)
+pairs_below count [] sources targets k d less = absurd (omega (arith, less))
+pairs_below count (c ∷ controls) sources targets zero d less = (sources zero c (omega arith), targets zero c (omega arith))
+pairs_below count (c ∷ controls) sources targets (suc k) d less =
+    pairs_below count controls (λ j e lt. sources (suc j) e (omega (arith, lt))) (λ j e lt. targets (suc j) e (omega (arith, lt))) k d (omega (arith, less))

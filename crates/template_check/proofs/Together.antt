@@ -11,7 +11,7 @@ use Rattle.flow_model.specs.declared.graphs.Activity.{Activity}
 use Rattle.flow_model.specs.declared.graphs.Control.{Control}
 use Rattle.flow_model.specs.declared.graphs.Graph.{Graph, out-Graph}
 use Rattle.flow_model.specs.declared.graphs.Template.{Template}
-use Rattle.flow_model.specs.declared.graphs.Work.{Work, Program, Block', Process}
+use Rattle.flow_model.specs.declared.graphs.Work.{Work, Program, Block, Process}
 use Rattle.flow_model.specs.declared.trees.ProcessTree.{ProcessTree}
 use Rattle.text_graphs.specs.Blocks.{lists_of, IsCovered}
 use Rattle.template_check.specs.Built.{IsSoundGraph, SoundTo, IsSoundAlone, AreSound, IsSound, ComeBeforeTo, ComeBeforeAlone}
@@ -84,7 +84,7 @@ module _ (ts : List Template) (all : AreSound ts) where
     where
       by_work : (w : Work) (h : Graph) → (graph_in [] w ≡ Some h → IsSoundAlone h) → graph_in ts w ≡ Some h → IsSoundAlone h
       by_work (Program p) h alone is = cc
-      by_work (Block' p g) h alone is = alone is
+      by_work (Block g) h alone is = alone is
       by_work (Process k) h alone is = template_sound ts k h all.alone is
 
   runs_sound : (g : Graph) → IsSoundAlone g → (a : ℕ) → OfInside ts IsSoundAlone (slice_get (out-Graph g).activities a)
@@ -112,7 +112,7 @@ module _ (ts : List Template) (all : AreSound ts) where
   -- what an activity runs has its performers before
   run_performed : (w : Work) (h : Graph) → (graph_in [] w ≡ Some h → ComeBeforeAlone h) → graph_in ts w ≡ Some h → ComeBeforeAlone h
   run_performed (Program p) h alone is = cc
-  run_performed (Block' p g) h alone is = alone is
+  run_performed (Block g) h alone is = alone is
   run_performed (Process k) h alone is = template_performed ts k h all.performed is
 
   runs_performed : (g : Graph) → ComeBeforeAlone g → (a : ℕ) (activity : Activity) (h : Graph) → slice_get (out-Graph g).activities a ≡ Some activity → graph_in ts activity.work ≡ Some h → ComeBeforeAlone h

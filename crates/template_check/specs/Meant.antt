@@ -1,6 +1,6 @@
 -- What a text means: the graph that its elements ask for, where it is known which leaves the names of structures
 -- have, and at which places of the library the processes that are named stand.
-use Rattle.std.specs.Prelude.{◌≡◌, ℕ, zero, suc, ◌+◌, Option, Some, None, List, [], ◌∷◌}
+use Rattle.std.specs.Prelude.{◌≡◌, ℕ, zero, suc, ◌+◌, Option, Some, None, List, [], ◌∷◌, length}
 use Rattle.conditions.specs.Resolving.{IsResolved}
 use Rattle.containers.specs.Named.{leaf_place}
 use Rattle.flow_model.specs.declared.graphs.Activity.{Activity}
@@ -14,7 +14,7 @@ use Rattle.flow_model.specs.declared.graphs.LoopLine.{LoopLine}
 use Rattle.flow_model.specs.declared.graphs.Template.{Template}
 use Rattle.flow_model.specs.declared.graphs.When.{When}
 use Rattle.flow_model.specs.declared.graphs.When.TheVariants as when
-use Rattle.flow_model.specs.declared.graphs.Work.{Work, Program, Block', Process}
+use Rattle.flow_model.specs.declared.graphs.Work.{Work, Program, Block, Process}
 use Rattle.flow_model.specs.declared.trees.ActivityTree.{ActivityTree}
 use Rattle.flow_model.specs.declared.trees.Cond.{Cond}
 use Rattle.flow_model.specs.declared.trees.CondAt.{CondAt}
@@ -32,6 +32,7 @@ use Rattle.flow_model.specs.declared.trees.WhenTree.TheVariants as written
 use Rattle.flow_model.specs.declared.trees.WorkTree.TheVariants as work
 use Rattle.text_graphs.specs.Attributes.{first_said, exit_said, joined_by, program_by}
 use Rattle.template_check.specs.Built.{end_in}
+use Rattle.template_check.specs.Wires.{AreWired}
 use Rattle.process_rules.specs.Calling.{place_meant}
 use Rattle.text_graphs.specs.GraphTexts.{GraphText, process_text, block_text}
 use Rattle.leaf_rules.specs.Leaves.{Leafing, with_code, output_leaves, line_source, line_target, table_leaves}
@@ -136,7 +137,7 @@ IsLoopLine leaves g line made = IsLoopBy leaves g line line.ends made
 -- the graph of a block has this property
 abbrev pub HasInside : (Graph → Type 0) → Work → Type 0
 HasInside P (Program p) = ⊥
-HasInside P (Block' b g) = P g
+HasInside P (Block g) = P g
 HasInside P (Process t) = ⊥
 
 -- what an activity does: a program with its attributes, the process that its name stands for, or a block of which the
@@ -159,7 +160,7 @@ pub record IsActivity (P : GraphText → Graph → Type 0) (r : Reading) (g : Gr
   pub joined : made.join ≡ joined_by a.attrs
   pub exits : IsExit (with_code (r.leaves a.output.name)) (first_said exit_said a.attrs) made.exit
 
--- a graph: its leaves, activities, connectors and lines, in the order of the text
+-- a graph: its leaves, activities, connectors and lines, in the order of the text, and the one wiring that these have
 pub record IsMeantWith (P : GraphText → Graph → Type 0) (r : Reading) (g : GraphText) (made : Graph) : Type 0 where
   pub input : r.leaves g.input ≡ Some (out-Graph made).input.leaves
   pub output : r.leaves g.output ≡ Some (out-Graph made).output.leaves
@@ -167,6 +168,8 @@ pub record IsMeantWith (P : GraphText → Graph → Type 0) (r : Reading) (g : G
   pub controls : AreParts (IsOne (IsControl r.leaves g.elements)) (controls_in g.elements) (out-Graph made).controls
   pub lines : AreParts (IsDataLine r.leaves g) (lines_in g.elements) (out-Graph made).lines
   pub loops : AreParts (IsLoopLine r.leaves g) (lines_in g.elements) (out-Graph made).loops
+  pub wired : AreWired (length (out-Graph made).activities) (out-Graph made).controls (out-Graph made).lines
+      (out-Graph made).loops (out-Graph made).wiring
 
 -- a graph is meant, and so are the blocks inside it, fewer than this many levels deep
 abbrev pub MeantTo : Reading → ℕ → GraphText → Graph → Type 0

@@ -1,5 +1,5 @@
 -- Rows of places, one for each activity: which elements of a list lead to it.
-use Rattle.std.specs.Prelude.{◌≡◌, ℕ, ◌<◌, ◌==◌, Bool, List, map}
+use Rattle.std.specs.Prelude.{◌≡◌, ℕ, ◌<◌, ◌==◌, Bool, List, length, map}
 use Rattle.std.specs.List.{All}
 use Rattle.flow_model.specs.ScopeContainers.{same_end}
 use Rattle.flow_model.specs.Wiring.{row_at, places}
@@ -9,11 +9,13 @@ use Rattle.flow_model.specs.declared.graphs.LoopLine.{LoopLine}
 use Rattle.flow_model.specs.declared.graphs.MapEnd.{MapEnd}
 use Rattle.flow_model.specs.declared.graphs.MapEnd.TheVariants.{Border, Activity as At}
 use Rattle.flow_model.specs.declared.graphs.Wiring.{Wiring}
-use Rattle.graph_check.specs.Walks.{IsOrder}
+use Rattle.graph_levels.specs.Levels.{IsLevelOrder}
 
--- each row has the places of the elements that lead to its activity, in order
-abbrev pub AreRows : {X : Type 0} → (X → ℕ → Bool) → List X → List (List ℕ) → Type 0
-AreRows leads items rows = (a : ℕ) → row_at rows a ≡ places (λ x. leads x a) 0 items
+-- this many rows, each with the places of the elements that lead to its activity, in order
+pub record AreRows {X : Type 0} (leads : X → ℕ → Bool) (count : ℕ) (items : List X)
+    (rows : List (List ℕ)) : Type 0 where
+  pub long : length rows ≡ count
+  pub each : (a : ℕ) → row_at rows a ≡ places (λ x. leads x a) 0 items
 
 -- an end that is an activity is one of this many
 abbrev pub IsEndBelow : ℕ → MapEnd → Type 0
@@ -32,12 +34,13 @@ pub record AreWithin (count : ℕ) (controls : List Control) (lines : List DataL
 abbrev pub pairs_of : List Control → List (ℕ × ℕ)
 pairs_of controls = map (λ c. (c.from, c.to)) controls
 
--- the rows of a wiring are those of its lists, and each connector leads forward in its order
+-- the rows of a wiring are those of its lists, and its order has the activities by the longest walk of connectors that
+-- leads to each: a graph has one wiring
 pub record AreWired (count : ℕ) (controls : List Control) (lines : List DataLine) (loops : List LoopLine)
     (wiring : Wiring) : Type 0 where
-  pub ordered : IsOrder count (pairs_of controls) wiring.order
-  pub incoming : AreRows (λ c a. c.to == a) controls wiring.incoming
-  pub outgoing : AreRows (λ c a. c.from == a) controls wiring.outgoing
-  pub feeding : AreRows (λ line a. same_end line.to (At a)) lines wiring.feeding
+  pub ordered : IsLevelOrder count (pairs_of controls) wiring.order
+  pub incoming : AreRows (λ c a. c.to == a) count controls wiring.incoming
+  pub outgoing : AreRows (λ c a. c.from == a) count controls wiring.outgoing
+  pub feeding : AreRows (λ line a. same_end line.to (At a)) count lines wiring.feeding
   pub sinking : wiring.sinking ≡ places (λ line. same_end line.to Border) 0 lines
-  pub looping : AreRows (λ line a. line.activity == a) loops wiring.looping
+  pub looping : AreRows (λ line a. line.activity == a) count loops wiring.looping

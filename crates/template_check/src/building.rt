@@ -462,7 +462,7 @@ impl<'a> Builder<'a> {
                 let (input, output) = (&activity.input, &activity.output);
                 let elements = elements.as_slice();
                 let graph = self.graph(scope.process, activity.place, input, output, elements)?;
-                Ok(Work::Block(Box::new(self.alloc, graph)?))
+                Ok(Work::Block(graph))
             }
         }
     }

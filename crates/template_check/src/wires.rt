@@ -6,12 +6,14 @@ ghost use Rattle.flow_model.specs.ScopeContainers.{same_end};
 ghost use Rattle.flow_model.specs.Wiring.{places};
 ghost use Rattle.template_check.specs.Wires.{AreRows, IsEndBelow, AreWithin, AreWired, pairs_of};
 ghost use Rattle.text_graphs.specs.ClosedWalks.{IsAcyclic};
-ghost use Rattle.graph_check.specs.Walks.{IsOrder};
+ghost use Rattle.graph_levels.specs.Levels.{IsLevelOrder};
 
 use flow_model::{Control, DataLine, List, LoopLine, MapEnd, Wiring};
+use graph_check::GraphFault;
+use graph_levels::level_order;
 use std::alloc::{AllocError, Global};
 use std::marker::Model;
-use text_graphs::{Edges, narrow};
+use text_graphs::narrow;
 
 /// Rows of places, one for each activity.
 #[derive(Drop)]
@@ -58,30 +60,30 @@ impl Rows {
     }
 }
 
-/// The connectors as edges between this many activities.
-fn edges_of(alloc: Global, count: usize, controls: &[Control]) -> Result<Edges, AllocError>
-    requires sources { All (λ c. c.from < count) controls.now }
-    requires targets { All (λ c. c.to < count) controls.now }
-    ensures nodes { IfOk result (λ edges. edges.nodes ≡ count) }
-    ensures pairs { IfOk result (λ edges. edges.pairs.items ≡ pairs_of controls.now) }
+fn pairs(alloc: Global, controls: &[Control]) -> Result<Vec<(u32, u32)>, AllocError>
+    ensures { IfOk result (λ pairs. pairs.items ≡ pairs_of controls.now) }
 {
-    let mut edges = Edges::new(alloc, narrow(count)?);
+    let mut pairs = Vec::new(alloc);
     for control in controls {
-        edges.add(control.from, control.to)?;
+        pairs.push((control.from, control.to))?;
     }
-    Ok(edges)
+    Ok(pairs)
 }
 
-/// An order of the activities in which each connector goes forward. There is one, since no walk is closed.
+/// The activities by the longest walk of connectors that leads to each: each connector goes forward. There is such an
+/// order, since no walk is closed.
 fn order(alloc: Global, count: usize, controls: &[Control]) -> Result<List<u32>, AllocError>
     requires sources { All (λ c. c.from < count) controls.now }
     requires targets { All (λ c. c.to < count) controls.now }
     requires acyclic { IsAcyclic (pairs_of controls.now) }
-    ensures { IfOk result (IsOrder count (pairs_of controls.now)) }
+    ensures { IfOk result (IsLevelOrder count (pairs_of controls.now)) }
 {
-    match edges_of(alloc, count, controls)?.order(alloc)? {
-        Some(order) => Ok(order),
-        None => Ok(List::new(alloc)),
+    let nodes = narrow(count)?;
+    let pairs = pairs(alloc, controls)?;
+    match level_order(alloc, nodes, &pairs) {
+        Ok(order) => Ok(order),
+        Err(GraphFault::Cycle(_)) => Ok(List::new(alloc)),
+        Err(GraphFault::NoMemory) => Err(AllocError),
     }
 }
 
@@ -91,7 +93,7 @@ fn incoming(
     controls: &[Control],
 ) -> Result<List<List<u32>>, AllocError>
     requires { All (λ c. c.to < count) controls.now }
-    ensures { IfOk result (AreRows (λ c a. c.to == a) controls.now) }
+    ensures { IfOk result (AreRows (λ c a. c.to == a) count controls.now) }
 {
     let mut rows = Rows::new(alloc, count)?;
     for (i, control) in controls.iter().enumerate() {
@@ -106,7 +108,7 @@ fn outgoing(
     controls: &[Control],
 ) -> Result<List<List<u32>>, AllocError>
     requires { All (λ c. c.from < count) controls.now }
-    ensures { IfOk result (AreRows (λ c a. c.from == a) controls.now) }
+    ensures { IfOk result (AreRows (λ c a. c.from == a) count controls.now) }
 {
     let mut rows = Rows::new(alloc, count)?;
     for (i, control) in controls.iter().enumerate() {
@@ -117,7 +119,7 @@ fn outgoing(
 
 fn feeding(alloc: Global, count: usize, lines: &[DataLine]) -> Result<List<List<u32>>, AllocError>
     requires { All (λ line. IsEndBelow count line.to) lines.now }
-    ensures { IfOk result (AreRows (λ line a. same_end line.to (MapEnd.Activity a)) lines.now) }
+    ensures { IfOk result (AreRows (λ line a. same_end line.to (MapEnd.Activity a)) count lines.now) }
 {
     let mut rows = Rows::new(alloc, count)?;
     for (i, line) in lines.iter().enumerate() {
@@ -143,7 +145,7 @@ fn sinking(alloc: Global, lines: &[DataLine]) -> Result<List<u32>, AllocError>
 
 fn looping(alloc: Global, count: usize, loops: &[LoopLine]) -> Result<List<List<u32>>, AllocError>
     requires { All (λ line. line.activity < count) loops.now }
-    ensures { IfOk result (AreRows (λ line a. line.activity == a) loops.now) }
+    ensures { IfOk result (AreRows (λ line a. line.activity == a) count loops.now) }
 {
     let mut rows = Rows::new(alloc, count)?;
     for (i, line) in loops.iter().enumerate() {

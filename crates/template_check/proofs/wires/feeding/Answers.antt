@@ -10,7 +10,7 @@ use Rattle.template_check.proofs.wires.feeding.Goals as goal
 use Rattle.template_check.proofs.wires.feeding.Goals.{in-Activity+in_ok-add-in-Activity, in-Border}
 
 pub returns : goal.returns
-returns c = rw c.into_list.ensures (filled_all (λ line a. same_end line.to (At a)) c.args.lines.now c.loop-i.i c.loop-i.rows c.loop-i-test.false c.loop-i.invariant.1)
+returns c = rw c.into_list.ensures (filled_all (λ line a. same_end line.to (At a)) c.args.count c.args.lines.now c.loop-i.i c.loop-i.rows c.loop-i-test.false c.loop-i.invariant.0 c.loop-i.invariant.1)
 
 pub loop-i-init : goal.loop-i-init
 loop-i-init c = (ap length c.in_ok-rows.ensures ∙ length-replicate c.args.count [], filled_none (λ line a. same_end line.to (At a)) c.args.lines.now c.args.count c.in_ok-rows.rows c.in_ok-rows.ensures)

@@ -7,7 +7,7 @@ use Rattle.template_check.proofs.Rows.{filled_none, filled_all, filled_next, rea
 use Rattle.template_check.proofs.wires.outgoing.Goals as goal
 
 pub returns : goal.returns
-returns c = rw c.into_list.ensures (filled_all (λ c a. c.from == a) c.args.controls.now c.loop-i.i c.loop-i.rows c.loop-i-test.false c.loop-i.invariant.1)
+returns c = rw c.into_list.ensures (filled_all (λ c a. c.from == a) c.args.count c.args.controls.now c.loop-i.i c.loop-i.rows c.loop-i-test.false c.loop-i.invariant.0 c.loop-i.invariant.1)
 
 pub loop-i-init : goal.loop-i-init
 loop-i-init c = (ap length c.in_ok-rows.ensures ∙ length-replicate c.args.count [], filled_none (λ c a. c.from == a) c.args.controls.now c.args.count c.in_ok-rows.rows c.in_ok-rows.ensures)

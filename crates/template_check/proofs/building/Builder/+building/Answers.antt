@@ -110,10 +110,10 @@ activity-returns-clause-meant t c = λ depth. record {
 pub work-returns-in_ok-callee-in-Process-clause-meant : goal.work-returns-in_ok-callee-in-Process-clause-meant
 work-returns-in_ok-callee-in-Process-clause-meant t c = λ depth. ProcessOf c.in-Process.name c.in_ok-callee-in-Process.field-0 c.in-Process.is c.in_ok-callee-in-Process.ensures.meant refl
 
-pub work-returns-in_ok-new-in-Block-clause-meant : goal.work-returns-in_ok-new-in-Block-clause-meant
-work-returns-in_ok-new-in-Block-clause-meant t c =
-    block_meant (reading_of c.args.self.now) (text_of c.args.scope.now) c.args.activity.now c.in-Block.elements c.as_slice-elements.result.now c.in_ok-graph-in-Block.graph c.in_ok-new-in-Block.field-0
-    c.in-Block.is c.as_slice-elements.ensures c.in_ok-new-in-Block.ensures.ok c.in_ok-graph-in-Block.ensures.meant
+pub work-returns-in_ok-graph-in-Block-clause-meant : goal.work-returns-in_ok-graph-in-Block-clause-meant
+work-returns-in_ok-graph-in-Block-clause-meant t c =
+    block_meant (reading_of c.args.self.now) (text_of c.args.scope.now) c.args.activity.now c.in-Block.elements c.as_slice-elements.result.now c.in_ok-graph-in-Block.graph
+    c.in-Block.is c.as_slice-elements.ensures c.in_ok-graph-in-Block.ensures.meant
 
 pub graph-returns-clause-meant : goal.graph-returns-clause-meant
 graph-returns-clause-meant t c =
@@ -124,5 +124,6 @@ graph-returns-clause-meant t c =
     let reads = ap (λ (n : NameAt). r.leaves n.name) same.input ∙ c.in_ok-plain.ensures in
     let writes = ap (λ (n : NameAt). r.leaves n.name) same.output ∙ c.in_ok-plain-2.ensures in
     let acts = λ (depth : ℕ). subst (λ (es : List ElementTree). AreParts (IsOne (IsActivity (MeantTo r depth) r (text_of scope))) (activities_in es) c.in_ok-activities.activities) (sym same.elements) (c.in_ok-activities.ensures.meant depth) in
+    let wired = rw (c.len.ensures, c.as_slice.ensures, c.as_slice-2.ensures, c.as_slice-3.ensures) at c.in_ok-wiring.ensures in
     graph_meant c.in_ok-plain.field-0 c.in_ok-plain-2.field-0 c.in_ok-activities.activities c.in_ok-controls.controls c.in_ok-lines.lines c.in_ok-loops.loops c.in_ok-wiring.wiring r (text_of scope) _
-    (text_same (text_of scope) _ same.numbered (ap names same.input) (ap names same.output) same.elements) reads writes acts c.in_ok-controls.ensures.meant c.in_ok-lines.ensures.meant c.in_ok-loops.ensures.meant
+    (text_same (text_of scope) _ same.numbered (ap names same.input) (ap names same.output) same.elements) reads writes acts c.in_ok-controls.ensures.meant c.in_ok-lines.ensures.meant c.in_ok-loops.ensures.meant wired
