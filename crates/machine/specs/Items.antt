@@ -6,7 +6,7 @@ use Rattle.flow_model.specs.declared.graphs.Activity.{Activity}
 use Rattle.flow_model.specs.declared.graphs.Graph.{Graph, out-Graph}
 use Rattle.flow_model.specs.declared.graphs.Program.{Program as ProgramOf}
 use Rattle.flow_model.specs.declared.graphs.Template.{Template}
-use Rattle.flow_model.specs.declared.graphs.Work.{Work, Program, Block', Process}
+use Rattle.flow_model.specs.declared.graphs.Work.{Work, Program, Block, Process}
 use Rattle.flow_model.specs.declared.instances.Fate.{Fate}
 use Rattle.flow_model.specs.declared.instances.Fate.TheVariants as fates
 use Rattle.flow_model.specs.declared.instances.Part.{Part}
@@ -80,7 +80,7 @@ entry_at ts (q ∷ (r ∷ qs)) at = option_and_then (entry_at ts (r ∷ qs)) (in
 -- the program that an activity runs, if it runs one
 abbrev pub program_in : Work → Option ProgramOf
 program_in (Program p) = Some p
-program_in (Block' b g) = None
+program_in (Block g) = None
 program_in (Process t) = None
 
 -- an item is kept where its activity runs a program

@@ -5,7 +5,7 @@ use Rattle.flow_model.specs.ScopeContainers.{graph_in}
 use Rattle.flow_model.specs.declared.graphs.Activity.{Activity}
 use Rattle.flow_model.specs.declared.graphs.Graph.{Graph, out-Graph}
 use Rattle.flow_model.specs.declared.graphs.Template.{Template}
-use Rattle.flow_model.specs.declared.graphs.Work.{Work, Program, Block', Process}
+use Rattle.flow_model.specs.declared.graphs.Work.{Work, Program, Block, Process}
 use Rattle.flow_model.specs.declared.instances.Message.{Message}
 use Rattle.flow_model.specs.declared.instances.Message.TheVariants.{Begin, Signal, End}
 use Rattle.flow_model.specs.declared.instances.Part.{Part}
@@ -28,7 +28,7 @@ receiver (End path) = around path.parts
 -- the process activities on the way along these parts
 abbrev pub is_process : Work → ℕ
 is_process (Program p) = 0
-is_process (Block' b g) = 0
+is_process (Block g) = 0
 is_process (Process t) = 1
 
 -- the count below an activity that runs this graph; nothing is below one that runs none

@@ -8,7 +8,7 @@ use Rattle.flow_model.specs.ScopeContainers.{up_to}
 use Rattle.flow_model.specs.declared.graphs.Activity.{Activity}
 use Rattle.flow_model.specs.declared.graphs.Container.{Container}
 use Rattle.flow_model.specs.declared.graphs.Graph.{Graph, out-Graph}
-use Rattle.flow_model.specs.declared.graphs.Work.{Work, Program as RunsProgram, Block', Process}
+use Rattle.flow_model.specs.declared.graphs.Work.{Work, Program as RunsProgram, Block, Process}
 use Rattle.flow_model.specs.declared.instances.SourceEnd.{SourceEnd}
 use Rattle.flow_model.specs.declared.instances.SourceEnd.TheVariants.{Unsettled}
 use Rattle.flow_model.specs.declared.names.Name.{Name}
@@ -84,7 +84,7 @@ attempt_place (suc j) = Some j
 -- the state of an activity that nothing has happened to
 abbrev pub fresh_standing : Work → Standing
 fresh_standing (RunsProgram w) = Item waiting
-fresh_standing (Block' b g) = Inner Waits 0
+fresh_standing (Block g) = Inner Waits 0
 fresh_standing (Process t) = Inner Waits 0
 
 -- the number of connectors that lead to an activity, by the wiring, as far as a tally counts

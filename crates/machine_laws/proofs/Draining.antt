@@ -79,7 +79,7 @@ message_one c q m n a b = let both : Some m ≡ Some n = sym a ∙ b in cc
 front_one : (c c' c'' : State) (q : ℕ) → TakesFront c c' q → TakesFront c c'' q → c' ≡ c''
 front_one c c' c'' q a b =
     let same = message_one c q a.message b.message a.front.1 b.front.1 in
-    step c c' c'' (Turn q b.message) tt (subst (λ m. Steps c (Turn q m) c') same a.steps) b.steps
+    step c c' c'' (Turn q b.message) (subst (λ m. Steps c (Turn q m) c') same a.steps) b.steps
 
 -- ---- as many queues stay
 

@@ -1,85 +1,26 @@
 -- A line is read in one way.
-use Rattle.std.proofs.Common.{◌≡◌, ◌⊎◌, inl, inr, ℕ, ◌+◌, ◌-◌, ◌^◌, ◌<◌, ◌≤◌, List, [], ◌∷◌, ◌++◌, length, Some, None}
-use Rattle.std.proofs.Common.{refl, sym, ap, subst, ◌∙◌, arith, append_assoc}
+use Rattle.std.proofs.Common.{◌≡◌, ◌⊎◌, inl, inr, ℕ, ◌+◌, ◌-◌, ◌^◌, ◌<◌, ◌≤◌, List, [], ◌∷◌, length, Some, None}
+use Rattle.std.proofs.Common.{refl, sym, ap, subst, ◌∙◌, arith}
 use Rattle.std.specs.Prelude.{min}
 use Rattle.command_lang.specs.Grammar.{IsCommand, WordAndRest}
 use Rattle.command_lang.specs.Reading.{AreLineTokens, HasNoTokens, RefusesToken, wrong_byte, spoken_in}
 use Rattle.command_lang.specs.Refusing.{SomeCommand}
 use Rattle.command_lang.specs.declared.reading.CommandFault.TheVariants.{Word}
-use Rattle.fdl_lexer.proofs.SameScan.{one_scan, tokens_done, stuck_done}
-use Rattle.fdl_lexer.specs.Tokens.{AreTokens, IsStuckAt}
 use Rattle.fdl_lexer.specs.declared.kinds.Token.{Token}
 use Rattle.fdl_parser.specs.Refusing.{IsFirstFault}
-use Rattle.fdl_parser.specs.Stops.{first_and}
 use Rattle.fdl_parser.specs.Tokens.{Tokens, Spelled, spell, reading, place_in}
 use Rattle.flow_model.specs.declared.commands.Command.{Command}
+use Rattle.text_laws.proofs.Judged.{fault_one}
+use Rattle.text_laws.proofs.Trees.{tokens_one, never_stuck, stuck_one}
 use Rattle.machine.specs.Scripts.{Reads, AsLong, AsBlank, AsCommand, AsWrong, IsRead}
 
 -- ---- tokens
-
-tokens_one : (line : List ℕ) (ts us : List Token) → AreTokens line ts → AreTokens line us → ts ≡ us
-tokens_one line ts us t u =
-    (one_scan line 0 ts us t.end u.end (length line) (length line) t.scanned u.scanned (tokens_done line ts t)
-    (tokens_done line us u)).0
-
-never_stuck : (line : List ℕ) (ts : List Token) (place : ℕ) → AreTokens line ts → IsStuckAt line place → ⊥
-never_stuck line ts place t s =
-    let same = (one_scan line 0 ts s.tokens t.end s.end (length line) place t.scanned s.scanned
-    (tokens_done line ts t) (stuck_done line place s)).1 in
-    let within = s.within in
-    omega arith
-
-stuck_one : (line : List ℕ) (p q : ℕ) → IsStuckAt line p → IsStuckAt line q → p ≡ q
-stuck_one line p q s t =
-    (one_scan line 0 s.tokens t.tokens s.end t.end p q s.scanned t.scanned (stuck_done line p s)
-    (stuck_done line q t)).1
 
 no_token : (t : Spelled) (ts : Tokens) → [] ≡ t ∷ ts → ⊥
 no_token t ts e = cc
 
 nothing_said : (c : Command) → IsCommand c [] → ⊥
 nothing_said c (WordAndRest h1 h2) = no_token _ _ h1.first
-
--- ---- the first token that can't stand there
-
--- two ways to cut a row: at one place, or the one further on than the other
-abbrev Further : Tokens → Tokens → Tokens → Tokens → Type 0
-Further front rest front' rest' =
-    (t : Spelled) × (ts : Tokens) × (front' ≡ front ++ t ∷ ts) × (rest ≡ t ∷ (ts ++ rest'))
-
-cut_one : (front rest front' rest' : Tokens) → front ++ rest ≡ front' ++ rest'
-    → (rest ≡ rest') ⊎ (Further front rest front' rest' ⊎ Further front' rest' front rest)
-cut_one [] rest [] rest' same = inl same
-cut_one [] rest (t ∷ front') rest' same = inr (inl (t, front', refl, same))
-cut_one (t ∷ front) rest [] rest' same = inr (inr (t, front, refl, sym same))
-cut_one (t ∷ front) rest (u ∷ front') rest' same =
-    let head : t ≡ u = cc in
-    let tail : front ++ rest ≡ front' ++ rest' = cc in
-    elim (cut_one front rest front' rest' tail) [
-      | inl one ↦ inl one
-      | inr (inl on) ↦
-          inr (inl (on.0, on.1, ap (λ x. x ∷ front') (sym head) ∙ ap (λ xs. t ∷ xs) on.2, on.3))
-      | inr (inr on) ↦ inr (inr (on.0, on.1, ap (λ x. x ∷ front) head ∙ ap (λ xs. u ∷ xs) on.2, on.3))
-    ]
-
--- what begins further on goes on where the other is blocked
-not_further : (says : Tokens → Type 0) (all rest rest' : Tokens) (f : IsFirstFault says all rest)
-    (g : IsFirstFault says all rest') → Further f.front rest g.front rest' → ⊥
-not_further says all rest rest' f g on =
-    let others = on.1 ++ g.more in
-    let row : g.front ++ g.more ≡ f.front ++ first_and rest others
-    = ap (λ xs. xs ++ g.more) on.2 ∙ append_assoc f.front (on.0 ∷ on.1) g.more
-    ∙ ap (λ r. f.front ++ first_and r others) (sym on.3) in
-    f.blocked others (subst says row g.begins)
-
-fault_one : (says : Tokens → Type 0) (all rest rest' : Tokens) → IsFirstFault says all rest
-    → IsFirstFault says all rest' → rest ≡ rest'
-fault_one says all rest rest' f g =
-    elim (cut_one f.front rest g.front rest' (sym f.cut ∙ g.cut)) [
-      | inl one ↦ one
-      | inr (inl on) ↦ absurd (not_further says all rest rest' f g on)
-      | inr (inr on) ↦ absurd (not_further says all rest' rest g f on)
-    ]
 
 -- ---- why a line is refused
 

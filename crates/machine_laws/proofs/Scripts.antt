@@ -1,6 +1,6 @@
 -- A script has one list of replies, and leads to one state.
 use Rattle.std.proofs.Common.{◌≡◌, ℕ, Bool, true, false, List, [], ◌∷◌, Option, Some, None, refl, sym, ap, ap₂, subst}
-use Rattle.std.proofs.Common.{◌∙◌, ◌⊎◌, inl, inr, ◌+◌, arith}
+use Rattle.std.proofs.Common.{◌∙◌, ◌+◌, arith}
 use Rattle.flow_core.specs.Answers.{view_text, worklist_text}
 use Rattle.flow_core.specs.Containing.{input_text}
 use Rattle.flow_model.specs.declared.commands.Command.{Command}
@@ -20,8 +20,7 @@ use Rattle.machine.specs.States.{Root, State, templates}
 use Rattle.machine.specs.Answers.{IsAnswer, IsListed, InputSays, item_input, AreAllRows, ViewSays, ShowSays}
 use Rattle.machine.specs.Answers.{root_path}
 use Rattle.machine.specs.Verdicts.{Subject, person_of, between, mode_in}
-use Rattle.machine_laws.specs.One.{HasOneJudgement, IsJudgedOnce, IfEnd, TextsAreJudgedOnce}
-use Rattle.machine.specs.Scripts.{Unended, no_lines, with_line, is_end, long_text, word_text}
+use Rattle.machine.specs.Scripts.{Unended, no_lines, is_end, long_text, word_text}
 use Rattle.machine.specs.Scripts.{Given, Line, Long, End, Answers, IsCommanded, IsObeyed, Reads}
 use Rattle.machine.specs.Scripts.{AsLong, AsBlank, AsCommand, AsWrong, ServesRead, ServesLine}
 use Rattle.machine.specs.Scripts.{ServesText, ServesTextLine, ServesInput, Sitting, Replies}
@@ -40,10 +39,9 @@ answers_one old s s' g u u' text r r' a b =
     (a.same ∙ sym b.same, a.gathers ∙ sym b.gathers, a.replies ∙ sym b.replies)
 
 obeyed_one : (old s s' : State) (command : Command) (u u' : Option Unended) (r r' : List ℕ)
-    → HasOneJudgement command → IsObeyed old s command r × (u ≡ None) → IsObeyed old s' command r'
-    × (u' ≡ None) → One s s' u u' r r'
-obeyed_one old s s' command u u' r r' judged a b =
-    let same = commands old s s' command judged r r' a.0 b.0 in (same.0, a.1 ∙ sym b.1, same.1)
+    → IsObeyed old s command r × (u ≡ None) → IsObeyed old s' command r' × (u' ≡ None) → One s s' u u' r r'
+obeyed_one old s s' command u u' r r' a b =
+    let same = commands old s s' command r r' a.0 b.0 in (same.0, a.1 ∙ sym b.1, same.1)
 
 -- ---- queries
 
@@ -96,23 +94,23 @@ commanded_one old s s' Drain u u' r r' a b =
 commanded_one old s s' Checkpoint u u' r r' a b = answers_one old s s' None u u' _ r r' a b
 commanded_one old s s' (Ask query) u u' r r' a b = (a.0 ∙ sym b.0, a.1 ∙ sym b.1, answer_one old query r r' a.2 b.2)
 commanded_one old s s' (Start process starter key written) u u' r r' a b =
-    obeyed_one old s s' (Start process starter key written) u u' r r' tt a b
-commanded_one old s s' (Turn queue) u u' r r' a b = obeyed_one old s s' (Turn queue) u u' r r' tt a b
-commanded_one old s s' (Claim token name) u u' r r' a b = obeyed_one old s s' (Claim token name) u u' r r' tt a b
-commanded_one old s s' (Release token name) u u' r r' a b = obeyed_one old s s' (Release token name) u u' r r' tt a b
+    obeyed_one old s s' (Start process starter key written) u u' r r' a b
+commanded_one old s s' (Turn queue) u u' r r' a b = obeyed_one old s s' (Turn queue) u u' r r' a b
+commanded_one old s s' (Claim token name) u u' r r' a b = obeyed_one old s s' (Claim token name) u u' r r' a b
+commanded_one old s s' (Release token name) u u' r r' a b = obeyed_one old s s' (Release token name) u u' r r' a b
 commanded_one old s s' (Transfer token from to) u u' r r' a b =
-    obeyed_one old s s' (Transfer token from to) u u' r r' tt a b
-commanded_one old s s' (Take token) u u' r r' a b = obeyed_one old s s' (Take token) u u' r r' tt a b
+    obeyed_one old s s' (Transfer token from to) u u' r r' a b
+commanded_one old s s' (Take token) u u' r r' a b = obeyed_one old s s' (Take token) u u' r r' a b
 commanded_one old s s' (Done token by outcome) u u' r r' a b =
-    obeyed_one old s s' (Done token by outcome) u u' r r' tt a b
+    obeyed_one old s s' (Done token by outcome) u u' r r' a b
 commanded_one old s s' (Force token outcome) u u' r r' a b =
-    obeyed_one old s s' (Force token outcome) u u' r r' tt a b
-commanded_one old s s' (Restart token) u u' r r' a b = obeyed_one old s s' (Restart token) u u' r r' tt a b
-commanded_one old s s' (Suspend root) u u' r r' a b = obeyed_one old s s' (Suspend root) u u' r r' tt a b
-commanded_one old s s' (Resume root) u u' r r' a b = obeyed_one old s s' (Resume root) u u' r r' tt a b
-commanded_one old s s' (Terminate root) u u' r r' a b = obeyed_one old s s' (Terminate root) u u' r r' tt a b
-commanded_one old s s' (Delete root) u u' r r' a b = obeyed_one old s s' (Delete root) u u' r r' tt a b
-commanded_one old s s' (Clock number) u u' r r' a b = obeyed_one old s s' (Clock number) u u' r r' tt a b
+    obeyed_one old s s' (Force token outcome) u u' r r' a b
+commanded_one old s s' (Restart token) u u' r r' a b = obeyed_one old s s' (Restart token) u u' r r' a b
+commanded_one old s s' (Suspend root) u u' r r' a b = obeyed_one old s s' (Suspend root) u u' r r' a b
+commanded_one old s s' (Resume root) u u' r r' a b = obeyed_one old s s' (Resume root) u u' r r' a b
+commanded_one old s s' (Terminate root) u u' r r' a b = obeyed_one old s s' (Terminate root) u u' r r' a b
+commanded_one old s s' (Delete root) u u' r r' a b = obeyed_one old s s' (Delete root) u u' r r' a b
+commanded_one old s s' (Clock number) u u' r r' a b = obeyed_one old s s' (Clock number) u u' r r' a b
 
 read_one : (old s s' : State) (what : Reads) (u u' : Option Unended) (r r' : List ℕ) → ServesRead what old s u r
     → ServesRead what old s' u' r' → One s s' u u' r r'
@@ -130,105 +128,37 @@ line_one line old s s' u u' r r' a b =
 -- ---- an input
 
 text_one : (long : Bool) (text : List ℕ) (old s s' : State) (u u' : Option Unended) (r r' : List ℕ)
-    → IsJudgedOnce text → ServesText long text old s u r → ServesText long text old s' u' r'
-    → One s s' u u' r r'
-text_one true text old s s' u u' r r' means a b = answers_one old s s' None u u' long_text r r' a b
-text_one false text old s s' u u' r r' means a b = obeyed_one old s s' (Import text) u u' r r' means a b
+    → ServesText long text old s u r → ServesText long text old s' u' r' → One s s' u u' r r'
+text_one true text old s s' u u' r r' a b = answers_one old s s' None u u' long_text r r' a b
+text_one false text old s s' u u' r r' a b = obeyed_one old s s' (Import text) u u' r r' a b
 
 text_line_one : (ends : Bool) (g : Unended) (line : List ℕ) (old s s' : State) (u u' : Option Unended)
-    (r r' : List ℕ) (now on : Type 0) → (now → IsJudgedOnce g.text) → IfEnd ends now on
-    → ServesTextLine ends g line old s u r → ServesTextLine ends g line old s' u' r' → One s s' u u' r r'
-text_line_one true g line old s s' u u' r r' now on means is a b =
-    text_one g.has_long g.text old s s' u u' r r' (means is) a b
-text_line_one false g line old s s' u u' r r' now on means is a b = answers_one old s s' _ u u' [] r r' a b
+    (r r' : List ℕ) → ServesTextLine ends g line old s u r → ServesTextLine ends g line old s' u' r'
+    → One s s' u u' r r'
+text_line_one true g line old s s' u u' r r' a b = text_one g.has_long g.text old s s' u u' r r' a b
+text_line_one false g line old s s' u u' r r' a b = answers_one old s s' _ u u' [] r r' a b
 
-input_one : (g : Option Unended) (input : Given) (inputs : List Given) (old s s' : State) (u u' : Option Unended)
-    (r r' : List ℕ) → TextsAreJudgedOnce g (input ∷ inputs) → ServesInput g input old s u r
-    → ServesInput g input old s' u' r' → One s s' u u' r r'
-input_one None (Line line) inputs old s s' u u' r r' means a b = line_one line old s s' u u' r r' a b
-input_one None Long inputs old s s' u u' r r' means a b = answers_one old s s' None u u' long_text r r' a b
-input_one None End inputs old s s' u u' r r' means a b = answers_one old s s' None u u' [] r r' a b
-input_one (Some g) (Line line) inputs old s s' u u' r r' means a b =
-    text_line_one (is_end line) g line old s s' u u' r r' _ _ (λ both. both.0) means a b
-input_one (Some g) Long inputs old s s' u u' r r' means a b = answers_one old s s' _ u u' [] r r' a b
-input_one (Some g) End inputs old s s' u u' r r' means a b = answers_one old s s' None u u' _ r r' a b
-
--- ---- the texts behind an input
-
--- a command leaves no text, or one of which no line has come
-abbrev Leaves : Option Unended → Type 0
-Leaves u = (u ≡ None) ⊎ (u ≡ Some no_lines)
-
-commanded_leaves : (old s : State) (command : Command) (u : Option Unended) (r : List ℕ)
-    → IsCommanded old s command u r → Leaves u
-commanded_leaves old s (Import text) u r a = inr a.gathers
-commanded_leaves old s Drain u r a = inl a.1
-commanded_leaves old s Checkpoint u r a = inl a.gathers
-commanded_leaves old s (Ask query) u r a = inl a.1
-commanded_leaves old s (Start process starter key written) u r a = inl a.1
-commanded_leaves old s (Turn queue) u r a = inl a.1
-commanded_leaves old s (Claim token name) u r a = inl a.1
-commanded_leaves old s (Release token name) u r a = inl a.1
-commanded_leaves old s (Transfer token from to) u r a = inl a.1
-commanded_leaves old s (Take token) u r a = inl a.1
-commanded_leaves old s (Done token by outcome) u r a = inl a.1
-commanded_leaves old s (Force token outcome) u r a = inl a.1
-commanded_leaves old s (Restart token) u r a = inl a.1
-commanded_leaves old s (Suspend root) u r a = inl a.1
-commanded_leaves old s (Resume root) u r a = inl a.1
-commanded_leaves old s (Terminate root) u r a = inl a.1
-commanded_leaves old s (Delete root) u r a = inl a.1
-commanded_leaves old s (Clock number) u r a = inl a.1
-
-read_leaves : (old s : State) (what : Reads) (u : Option Unended) (r : List ℕ) → ServesRead what old s u r
-    → Leaves u
-read_leaves old s AsLong u r a = inl a.gathers
-read_leaves old s AsBlank u r a = inl a.gathers
-read_leaves old s (AsCommand command) u r a = commanded_leaves old s command u r a
-read_leaves old s (AsWrong place) u r a = inl a.gathers
-
-outside_behind : (inputs : List Given) (u : Option Unended) → Leaves u
-    → TextsAreJudgedOnce (Some no_lines) inputs × TextsAreJudgedOnce None inputs → TextsAreJudgedOnce u inputs
-outside_behind inputs u (inl none) means = subst (λ v. TextsAreJudgedOnce v inputs) (sym none) means.1
-outside_behind inputs u (inr one) means = subst (λ v. TextsAreJudgedOnce v inputs) (sym one) means.0
-
-text_behind : (long : Bool) (text : List ℕ) (old s : State) (u : Option Unended) (r : List ℕ)
-    → ServesText long text old s u r → u ≡ None
-text_behind true text old s u r a = a.gathers
-text_behind false text old s u r a = a.1
-
-text_line_behind : (ends : Bool) (g : Unended) (line : List ℕ) (old s : State) (u : Option Unended) (r : List ℕ)
-    (inputs : List Given) (now : Type 0) → ServesTextLine ends g line old s u r
-    → IfEnd ends (now × TextsAreJudgedOnce None inputs)
-    (TextsAreJudgedOnce (Some (record g { text = with_line g.text line })) inputs) → TextsAreJudgedOnce u inputs
-text_line_behind true g line old s u r inputs now a means =
-    subst (λ v. TextsAreJudgedOnce v inputs) (sym (text_behind g.has_long g.text old s u r a)) means.1
-text_line_behind false g line old s u r inputs now a means =
-    subst (λ v. TextsAreJudgedOnce v inputs) (sym a.gathers) means
-
-behind : (g : Option Unended) (input : Given) (inputs : List Given) (old s : State) (u : Option Unended)
-    (r : List ℕ) → TextsAreJudgedOnce g (input ∷ inputs) → ServesInput g input old s u r → TextsAreJudgedOnce u inputs
-behind None (Line line) inputs old s u r means a =
-    outside_behind inputs u (read_leaves old s a.0 u r a.2) means
-behind None Long inputs old s u r means a = outside_behind inputs u (inl a.gathers) means
-behind None End inputs old s u r means a = outside_behind inputs u (inl a.gathers) means
-behind (Some g) (Line line) inputs old s u r means a =
-    text_line_behind (is_end line) g line old s u r inputs _ a means
-behind (Some g) Long inputs old s u r means a = subst (λ v. TextsAreJudgedOnce v inputs) (sym a.gathers) means
-behind (Some g) End inputs old s u r means a = subst (λ v. TextsAreJudgedOnce v inputs) (sym a.gathers) means
+input_one : (g : Option Unended) (input : Given) (old s s' : State) (u u' : Option Unended) (r r' : List ℕ)
+    → ServesInput g input old s u r → ServesInput g input old s' u' r' → One s s' u u' r r'
+input_one None (Line line) old s s' u u' r r' a b = line_one line old s s' u u' r r' a b
+input_one None Long old s s' u u' r r' a b = answers_one old s s' None u u' long_text r r' a b
+input_one None End old s s' u u' r r' a b = answers_one old s s' None u u' [] r r' a b
+input_one (Some g) (Line line) old s s' u u' r r' a b =
+    text_line_one (is_end line) g line old s s' u u' r r' a b
+input_one (Some g) Long old s s' u u' r r' a b = answers_one old s s' _ u u' [] r r' a b
+input_one (Some g) End old s s' u u' r r' a b = answers_one old s s' None u u' _ r r' a b
 
 -- ---- a script
 
-pub scripts : (inputs : List Given) (a b c : Sitting) (rs rs' : List (List ℕ)) → TextsAreJudgedOnce a.unended inputs
-    → Replies a inputs rs b → Replies a inputs rs' c → (b ≡ c) × (rs ≡ rs')
-scripts [] a b c [] [] means x y = (x ∙ sym y, refl)
-scripts [] a b c [] (r ∷ rs) means x y = absurd y
-scripts [] a b c (r ∷ rs) rs' means x y = absurd x
-scripts (i ∷ is) a b c [] rs' means x y = absurd x
-scripts (i ∷ is) a b c (r ∷ rs) [] means x y = absurd y
-scripts (i ∷ is) a b c (r ∷ rs) (r' ∷ rs') means x y =
-    let one = input_one a.unended i is a.state x.0.state y.0.state x.0.unended y.0.unended r r' means x.1 y.1 in
+pub scripts : (inputs : List Given) (a b c : Sitting) (rs rs' : List (List ℕ)) → Replies a inputs rs b
+    → Replies a inputs rs' c → (b ≡ c) × (rs ≡ rs')
+scripts [] a b c [] [] x y = (x ∙ sym y, refl)
+scripts [] a b c [] (r ∷ rs) x y = absurd y
+scripts [] a b c (r ∷ rs) rs' x y = absurd x
+scripts (i ∷ is) a b c [] rs' x y = absurd x
+scripts (i ∷ is) a b c (r ∷ rs) [] x y = absurd y
+scripts (i ∷ is) a b c (r ∷ rs) (r' ∷ rs') x y =
+    let one = input_one a.unended i a.state x.0.state y.0.state x.0.unended y.0.unended r r' x.1 y.1 in
     let mid : x.0 ≡ y.0 = λ j. record { state = one.0 j; unended = one.1 j } in
-    let on = behind a.unended i is a.state y.0.state y.0.unended r' means y.1 in
-    let rest = scripts is y.0 b c rs rs' on (subst (λ m. Replies m is rs b) mid x.2) y.2 in
+    let rest = scripts is y.0 b c rs rs' (subst (λ m. Replies m is rs b) mid x.2) y.2 in
     (rest.0, ap₂ (λ q qs. q ∷ qs) one.2 rest.1)

@@ -22,7 +22,6 @@ use Rattle.machine.proofs.One.{step}
 use Rattle.recover_queue.specs.Queues.{queue as messages_of}
 use Rattle.std.specs.Prelude.{slice_get}
 use Rattle.machine.specs.Items.{Entry, program_in}
-use Rattle.machine.specs.Steps.{AddsOne}
 use Rattle.machine.specs.States.{State, item_of}
 use Rattle.machine.specs.Verdicts.{Subject, subject_by, subject_of, between, newest_of, next_root, first_of}
 use Rattle.machine.specs.Verdicts.{full_test, tests_on_item, same_root, person_of, person_test, who_test}
@@ -30,8 +29,8 @@ use Rattle.machine.specs.Verdicts.{outcome_test, claim_test, release_test, trans
 use Rattle.machine.specs.Verdicts.{completing_test, forcing_test, restart_test, IsNamed, RefusesOnItem}
 use Rattle.machine.specs.Verdicts.{IsFirstRefusal, IsSetFor, IsFor, IsNoteOf}
 use Rattle.machine.specs.Verdicts.{IsVerdict}
-use Rattle.machine_laws.specs.One.{HasOneJudgement}
 use Rattle.machine.specs.Scripts.{Comes, IsObeyed}
+use Rattle.machine_laws.proofs.Judging.{rule_one}
 use Rattle.worklist_laws.proofs.Spelled.{spells_one}
 
 some_one : {X : Type 0} (o : Option X) (x y : X) → o ≡ Some x → o ≡ Some y → x ≡ y
@@ -64,32 +63,32 @@ module _ (c : State) where
   on_item_one people token test r r' a b =
       a.2 ∙ ap (tests_on_item c people token test) (named_one token a.0 b.0 a.1 b.1) ∙ sym b.2
 
-  pub refusal_one : (command : Command) (r r' : Option Refusal) → HasOneJudgement command
-      → IsFirstRefusal c command r → IsFirstRefusal c command r' → r ≡ r'
-  refusal_one (asked.Import text) r r' judged a b =
-      a.2 ∙ ap (λ rule. first_of (rule ∷ full_test c ∷ [])) (judged.rules c a.0 b.0 a.1 b.1) ∙ sym b.2
-  refusal_one (asked.Start process starter key written) r r' judged a b = a ∙ sym b
-  refusal_one (asked.Turn queue) r r' judged a b = a ∙ sym b
-  refusal_one asked.Drain r r' judged a b = absurd a
-  refusal_one (asked.Claim token name) r r' judged a b =
+  pub refusal_one : (command : Command) (r r' : Option Refusal) → IsFirstRefusal c command r
+      → IsFirstRefusal c command r' → r ≡ r'
+  refusal_one (asked.Import text) r r' a b =
+      a.2 ∙ ap (λ rule. first_of (rule ∷ full_test c ∷ [])) (rule_one c text a.0 b.0 a.1 b.1) ∙ sym b.2
+  refusal_one (asked.Start process starter key written) r r' a b = a ∙ sym b
+  refusal_one (asked.Turn queue) r r' a b = a ∙ sym b
+  refusal_one asked.Drain r r' a b = absurd a
+  refusal_one (asked.Claim token name) r r' a b =
       on_item_one (person_test c name) token (claim_test (person_of c name)) r r' a b
-  refusal_one (asked.Release token name) r r' judged a b = on_item_one (person_test c name) token (release_test name) r r' a b
-  refusal_one (asked.Transfer token from to) r r' judged a b =
+  refusal_one (asked.Release token name) r r' a b = on_item_one (person_test c name) token (release_test name) r r' a b
+  refusal_one (asked.Transfer token from to) r r' a b =
       on_item_one (first_of (person_test c from ∷ person_test c to ∷ [])) token
       (transfer_test from (person_of c to)) r r' a b
-  refusal_one (asked.Take token) r r' judged a b = on_item_one None token taking_test r r' a b
-  refusal_one (asked.Done token by outcome) r r' judged a b =
+  refusal_one (asked.Take token) r r' a b = on_item_one None token taking_test r r' a b
+  refusal_one (asked.Done token by outcome) r r' a b =
       on_item_one (who_test c by) token (λ s. first_of (completing_test by s ∷ outcome_test outcome s ∷ [])) r r' a b
-  refusal_one (asked.Force token outcome) r r' judged a b =
+  refusal_one (asked.Force token outcome) r r' a b =
       on_item_one None token (λ s. first_of (forcing_test s ∷ outcome_test outcome s ∷ [])) r r' a b
-  refusal_one (asked.Restart token) r r' judged a b = on_item_one None token restart_test r r' a b
-  refusal_one (asked.Suspend root) r r' judged a b = a ∙ sym b
-  refusal_one (asked.Resume root) r r' judged a b = a ∙ sym b
-  refusal_one (asked.Terminate root) r r' judged a b = a ∙ sym b
-  refusal_one (asked.Delete root) r r' judged a b = a ∙ sym b
-  refusal_one (asked.Clock number) r r' judged a b = a ∙ sym b
-  refusal_one asked.Checkpoint r r' judged a b = absurd a
-  refusal_one (asked.Ask query) r r' judged a b = absurd a
+  refusal_one (asked.Restart token) r r' a b = on_item_one None token restart_test r r' a b
+  refusal_one (asked.Suspend root) r r' a b = a ∙ sym b
+  refusal_one (asked.Resume root) r r' a b = a ∙ sym b
+  refusal_one (asked.Terminate root) r r' a b = a ∙ sym b
+  refusal_one (asked.Delete root) r r' a b = a ∙ sym b
+  refusal_one (asked.Clock number) r r' a b = a ∙ sym b
+  refusal_one asked.Checkpoint r r' a b = absurd a
+  refusal_one (asked.Ask query) r r' a b = absurd a
 
   -- ---- the transaction
 
@@ -142,21 +141,20 @@ module _ (c : State) where
 
   -- ---- the verdict
 
-  pub verdict_one : (command : Command) (v w : Verdict) → HasOneJudgement command → IsVerdict c command v
-      → IsVerdict c command w → v ≡ w
-  verdict_one command (verdict.Do t) (verdict.Do t') judged a b = ap verdict.Do (for_one command t t' a.2 b.2)
-  verdict_one command (verdict.Do t) (verdict.Same root) judged a b = absurd (never (same_root c command) root a.0 b)
-  verdict_one command (verdict.Do t) (verdict.Refused r) judged a b =
-      absurd (let e : None ≡ Some r = refusal_one command None (Some r) judged a.1 b.1 in cc)
-  verdict_one command (verdict.Same root) (verdict.Do t) judged a b = absurd (never (same_root c command) root b.0 a)
-  verdict_one command (verdict.Same root) (verdict.Same root') judged a b =
+  pub verdict_one : (command : Command) (v w : Verdict) → IsVerdict c command v → IsVerdict c command w → v ≡ w
+  verdict_one command (verdict.Do t) (verdict.Do t') a b = ap verdict.Do (for_one command t t' a.2 b.2)
+  verdict_one command (verdict.Do t) (verdict.Same root) a b = absurd (never (same_root c command) root a.0 b)
+  verdict_one command (verdict.Do t) (verdict.Refused r) a b =
+      absurd (let e : None ≡ Some r = refusal_one command None (Some r) a.1 b.1 in cc)
+  verdict_one command (verdict.Same root) (verdict.Do t) a b = absurd (never (same_root c command) root b.0 a)
+  verdict_one command (verdict.Same root) (verdict.Same root') a b =
       ap verdict.Same (some_one (same_root c command) root root' a b)
-  verdict_one command (verdict.Same root) (verdict.Refused r) judged a b = absurd (never (same_root c command) root b.0 a)
-  verdict_one command (verdict.Refused r) (verdict.Do t) judged a b =
-      absurd (let e : None ≡ Some r = refusal_one command None (Some r) judged b.1 a.1 in cc)
-  verdict_one command (verdict.Refused r) (verdict.Same root) judged a b = absurd (never (same_root c command) root a.0 b)
-  verdict_one command (verdict.Refused r) (verdict.Refused r') judged a b =
-      ap verdict.Refused (let e : Some r ≡ Some r' = refusal_one command (Some r) (Some r') judged a.1 b.1 in cc)
+  verdict_one command (verdict.Same root) (verdict.Refused r) a b = absurd (never (same_root c command) root b.0 a)
+  verdict_one command (verdict.Refused r) (verdict.Do t) a b =
+      absurd (let e : None ≡ Some r = refusal_one command None (Some r) b.1 a.1 in cc)
+  verdict_one command (verdict.Refused r) (verdict.Same root) a b = absurd (never (same_root c command) root a.0 b)
+  verdict_one command (verdict.Refused r) (verdict.Refused r') a b =
+      ap verdict.Refused (let e : Some r ≡ Some r' = refusal_one command (Some r) (Some r') a.1 b.1 in cc)
 
 -- ---- the reply
 
@@ -177,49 +175,20 @@ note_one s s' (made.Terminate root) n n' a b = a ∙ sym b
 note_one s s' (made.Delete root) n n' a b = a ∙ sym b
 note_one s s' (made.Clock minutes) n n' a b = a ∙ sym b
 
--- ---- what the transaction of a command adds
-
--- the transaction that a command names adds one thing, where the command does
-for_adds_one : (c : State) (command : Command) (t : Transaction) → HasOneJudgement command → IsFor c command t
-    → AddsOne c.library t
-for_adds_one c (asked.Import text) t judged is =
-    subst (λ (x : Transaction). AddsOne c.library x) (sym is) (judged.means c)
-for_adds_one c (asked.Start process starter key written) t judged is =
-    subst (λ (x : Transaction). AddsOne c.library x) (sym is.3) tt
-for_adds_one c (asked.Turn queue) t judged is = subst (λ (x : Transaction). AddsOne c.library x) (sym is.2) tt
-for_adds_one c asked.Drain t judged is = absurd is
-for_adds_one c (asked.Claim token who) t judged is = subst (λ (x : Transaction). AddsOne c.library x) (sym is.2) tt
-for_adds_one c (asked.Release token who) t judged is = subst (λ (x : Transaction). AddsOne c.library x) (sym is.2) tt
-for_adds_one c (asked.Transfer token who to) t judged is =
-    subst (λ (x : Transaction). AddsOne c.library x) (sym is.2) tt
-for_adds_one c (asked.Take token) t judged is = subst (λ (x : Transaction). AddsOne c.library x) (sym is.4) tt
-for_adds_one c (asked.Done token who outcome) t judged is =
-    subst (λ (x : Transaction). AddsOne c.library x) (sym is.4) tt
-for_adds_one c (asked.Force token outcome) t judged is =
-    subst (λ (x : Transaction). AddsOne c.library x) (sym is.4) tt
-for_adds_one c (asked.Restart token) t judged is = subst (λ (x : Transaction). AddsOne c.library x) (sym is.2) tt
-for_adds_one c (asked.Suspend root) t judged is = subst (λ (x : Transaction). AddsOne c.library x) (sym is) tt
-for_adds_one c (asked.Resume root) t judged is = subst (λ (x : Transaction). AddsOne c.library x) (sym is) tt
-for_adds_one c (asked.Terminate root) t judged is = subst (λ (x : Transaction). AddsOne c.library x) (sym is) tt
-for_adds_one c (asked.Delete root) t judged is = subst (λ (x : Transaction). AddsOne c.library x) (sym is) tt
-for_adds_one c (asked.Clock minutes) t judged is = subst (λ (x : Transaction). AddsOne c.library x) (sym is) tt
-for_adds_one c asked.Checkpoint t judged is = absurd is
-for_adds_one c (asked.Ask query) t judged is = absurd is
-
 -- ---- the command
 
-module _ (s s' s'' : State) (command : Command) (judged : HasOneJudgement command) where
-  comes_one : (v : Verdict) (reply reply' : List ℕ) → IsVerdict s command v → Comes s v s' reply
-      → Comes s v s'' reply' → (s' ≡ s'') × (reply ≡ reply')
-  comes_one (verdict.Do t) reply reply' is a b =
-      let same : s' ≡ s'' = step s s' s'' t (for_adds_one s command t judged is.2) a.1 b.1 in
+module _ (s s' s'' : State) (command : Command) where
+  comes_one : (v : Verdict) (reply reply' : List ℕ) → Comes s v s' reply → Comes s v s'' reply'
+      → (s' ≡ s'') × (reply ≡ reply')
+  comes_one (verdict.Do t) reply reply' a b =
+      let same : s' ≡ s'' = step s s' s'' t a.1 b.1 in
       let note = note_one s s'' t a.0 b.0 (subst (λ m. IsNoteOf s t m a.0) same a.2) b.2 in
       (same, a.3 ∙ ap (λ n. applied_text (record { number = s.transactions + 1; note = n })) note ∙ sym b.3)
-  comes_one (verdict.Same root) reply reply' is a b = (a.0 ∙ sym b.0, a.1 ∙ sym b.1)
-  comes_one (verdict.Refused r) reply reply' is a b = (a.0 ∙ sym b.0, a.1 ∙ sym b.1)
+  comes_one (verdict.Same root) reply reply' a b = (a.0 ∙ sym b.0, a.1 ∙ sym b.1)
+  comes_one (verdict.Refused r) reply reply' a b = (a.0 ∙ sym b.0, a.1 ∙ sym b.1)
 
   pub commands : (reply reply' : List ℕ) → IsObeyed s s' command reply → IsObeyed s s'' command reply'
       → (s' ≡ s'') × (reply ≡ reply')
   commands reply reply' a b =
-      let same = verdict_one s command a.0 b.0 judged a.1 b.1 in
-      comes_one b.0 reply reply' b.1 (subst (λ v. Comes s v s' reply) same a.2) b.2
+      let same = verdict_one s command a.0 b.0 a.1 b.1 in
+      comes_one b.0 reply reply' (subst (λ v. Comes s v s' reply) same a.2) b.2

@@ -6,7 +6,8 @@ ghost use Rattle.machine_laws.specs.Laws.{TransfersAreSteps, AgentTakesAreSteps,
 ghost use Rattle.machine_laws.specs.Shown.{RowsAreShown};
 ghost use Rattle.machine_laws.specs.Applied.{AppliedAreSteps, AdoptedAreSteps, VerdictsAreGood, AdmittedAreGood};
 ghost use Rattle.machine_laws.specs.Right.{AllowedAreSteps};
-ghost use Rattle.machine_laws.specs.One.{PathsAreOne, LinesAreOne, VerdictsAreOne, CommandsAreOne, DrainsAreOne};
+ghost use Rattle.machine_laws.specs.One.{PathsAreOne, LinesAreOne, TextsAreJudgedOnce, VerdictsAreOne};
+ghost use Rattle.machine_laws.specs.One.{CommandsAreOne, DrainsAreOne};
 ghost use Rattle.machine_laws.specs.One.{WorklistsAreOne, AnswersAreOne, ScriptsAreOne};
 
 /// Law: a Clock is a step of the machine.
@@ -99,12 +100,17 @@ pub fn lines_are_one()
     ensures { LinesAreOne }
 {}
 
-/// Law: a command has one verdict in a state; an IMPORT, if its text is judged in one way.
+/// Law: a text breaks one rule first in a state, or none.
+pub fn texts_are_judged_once()
+    ensures { TextsAreJudgedOnce }
+{}
+
+/// Law: a command has one verdict in a state.
 pub fn verdicts_are_one()
     ensures { VerdictsAreOne }
 {}
 
-/// Law: a command leads to one state and has one reply; an IMPORT, if its text is judged in one way.
+/// Law: a command leads to one state and has one reply.
 pub fn commands_are_one()
     ensures { CommandsAreOne }
 {}
@@ -124,7 +130,7 @@ pub fn answers_are_one()
     ensures { AnswersAreOne }
 {}
 
-/// Law: a script has one list of replies and leads to one state, if each text that it imports is judged in one way.
+/// Law: a script has one list of replies and leads to one state.
 pub fn scripts_are_one()
     ensures { ScriptsAreOne }
 {}

@@ -15,11 +15,11 @@ module _ {J K : Type 0} (tells : Type 0) (holds : J → Summary → Type 0) (mom
     (place' : K → Slot × ℕ) (moved' : K → K → Summary → Type 0) where
   pub one_list : ScriptsHaveOneList tells holds moment left_since place moved tells' holds' moment' left_since' place'
       moved'
-  one_list s t s' t' j j' k k' inputs replies replies' same whole whole' judged all all' =
+  one_list s t s' t' j j' k k' inputs replies replies' same whole whole' all all' =
       let first = script_replied tells holds moment left_since place moved s j inputs replies s' j' all whole in
       let second = script_replied tells' holds' moment' left_since' place' moved' t k inputs replies' t' k' all'
       whole' in
-      let one = scripts inputs (sitting s) (sitting s') (sitting t') replies replies' judged first
+      let one = scripts inputs (sitting s) (sitting s') (sitting t') replies replies' first
       (subst (λ (x : machine.Sitting). machine.Replies x inputs replies' (sitting t')) (sym same)
       second) in
       (one.1, one.0)

@@ -6,7 +6,6 @@ use Rattle.flow_disk.specs.declared.disk.Slot.{Slot}
 use Rattle.flow_session.specs.Inputs.{Given, IsServed}
 use Rattle.flow_session.specs.Scripts.{ServesAll}
 use Rattle.flow_session.specs.declared.serving.Session.{Session}
-use Rattle.machine_laws.specs.One.{TextsAreJudgedOnce}
 use Rattle.machine.specs.Scripts as machine
 use Rattle.machine_laws.specs.Viewed.{view}
 use Rattle.session_laws.specs.Sittings.{sitting, IsWhole}
@@ -26,15 +25,14 @@ ScriptsAreReplies {J} tells holds moment left_since place moved =
     → ServesAll tells holds moment left_since place moved s j inputs replies s' j' → IsWhole s.core
     → machine.Replies (sitting s) inputs replies (sitting s')
 
--- two sessions that the machine sees as one have one list of replies to a script, and end as one, whatever journals they
--- have, if each text that is imported is judged in one way
+-- two sessions that the machine sees as one have one list of replies to a script, and end as one, whatever journals
+-- they have
 abbrev pub ScriptsHaveOneList : {J K : Type 0} → Type 0 → (J → Summary → Type 0) → (J → ℕ)
     → (J → ℕ → Image → Type 0) → (J → Slot × ℕ) → (J → J → Summary → Type 0) → Type 0 → (K → Summary → Type 0)
     → (K → ℕ) → (K → ℕ → Image → Type 0) → (K → Slot × ℕ) → (K → K → Summary → Type 0) → Type 0
 ScriptsHaveOneList {J} {K} tells holds moment left_since place moved tells' holds' moment' left_since' place' moved' =
     (s t s' t' : Session) (j j' : J) (k k' : K) (inputs : List Given)
     (replies replies' : List (List ℕ)) → sitting s ≡ sitting t → IsWhole s.core → IsWhole t.core
-    → TextsAreJudgedOnce (sitting s).unended inputs
     → ServesAll tells holds moment left_since place moved s j inputs replies s' j'
     → ServesAll tells' holds' moment' left_since' place' moved' t k inputs replies' t' k'
     → (replies ≡ replies') × (sitting s' ≡ sitting t')

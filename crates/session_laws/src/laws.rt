@@ -13,8 +13,7 @@ pub fn scripts_are_replies<J: Journal>()
     ensures { ScriptsAreReplies J.tells J.holds J.moment J.left_since J.place J.moved }
 {}
 
-/// Law: two sessions that the machine sees as one have one list of replies to a script, whatever journals they have, if
-/// each text that is imported is judged in one way.
+/// Law: two sessions that the machine sees as one have one list of replies to a script, whatever journals they have.
 pub fn scripts_have_one_list<J: Journal, K: Journal>()
     ensures { ScriptsHaveOneList J.tells J.holds J.moment J.left_since J.place J.moved
         K.tells K.holds K.moment K.left_since K.place K.moved }

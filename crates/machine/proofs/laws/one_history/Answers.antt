@@ -2,4 +2,4 @@ use Rattle.machine.proofs.One.{one_history}
 use Rattle.machine.proofs.laws.one_history.Goals as goal
 
 pub returns : goal.returns
-returns c = λ ts means s s' s'' d e. one_history ts means s s' s'' d e
+returns c = one_history

@@ -2,4 +2,4 @@ use Rattle.machine.proofs.One.{step}
 use Rattle.machine.proofs.laws.one_step.Goals as goal
 
 pub returns : goal.returns
-returns c = λ s s' s'' t means d e. step s s' s'' t means d e
+returns c = step
