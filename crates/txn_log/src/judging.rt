@@ -129,13 +129,13 @@ fn whole_len(rest: &[u8]) -> usize
     size
 }
 
-/// The records from byte 42 on.
-fn list(alloc: Global, bytes: &[u8]) -> Result<Found, AllocError>
+/// The records from byte 42 on, in a list with room for so many.
+fn list(alloc: Global, bytes: &[u8], room: usize) -> Result<Found, AllocError>
     requires { length bytes.now < 2 ^ 63 }
     ensures listed { IfOk result (λ found. listed_of found ≡ listed 0 42 (drop 42 bytes.now)) }
     ensures placed { IfOk result IsPlaced }
 {
-    let mut records = Vec::new(alloc);
+    let mut records = Vec::with_capacity(alloc, room)?;
     let mut at = 42;
     'gates: while at < bytes.len() {
         if bytes[at] != 1 {
@@ -181,6 +181,16 @@ fn outline_with(header: Header, bytes: &[u8]) -> Outline
     Outline::Damaged(at as u64)
 }
 
+/// The number of the records of a slot with this header; 0 where no gate ends them.
+fn record_count(header: Header, bytes: &[u8]) -> usize
+    requires { length bytes.now < 2 ^ 63 }
+{
+    match outline_with(header, bytes) {
+        Outline::Good(frame) => frame.records as usize,
+        _ => 0,
+    }
+}
+
 /// The first 42 bytes.
 fn head_of(bytes: &[u8]) -> &[u8]
     ensures { result.now ≡ take 42 bytes.now }
@@ -207,7 +217,7 @@ fn judged_of(header: Header, found: Found) -> Judged
     }
 }
 
-/// The judgement of a slot by its bytes.
+/// The judgement of a slot by its bytes. The records are counted first, so that their list has no room to spare.
 pub fn judge(alloc: Global, bytes: &[u8]) -> Result<Judged, AllocError>
     requires { length bytes.now < 2 ^ 63 }
     ensures { IfOk result (λ judged. state_in judged ≡ slot_state bytes.now) }
@@ -223,7 +233,7 @@ pub fn judge(alloc: Global, bytes: &[u8]) -> Result<Judged, AllocError>
     if let Some(place) = header_fault(head.len(), &header) {
         return Ok(Judged::Damaged(place));
     }
-    let found = list(alloc, bytes)?;
+    let found = list(alloc, bytes, record_count(header, bytes))?;
     Ok(judged_of(header, found))
 }
 
