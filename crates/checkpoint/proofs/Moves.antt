@@ -1,5 +1,5 @@
 -- A store that moves to its other slot.
-use Rattle.std.proofs.Common.{◌≡◌, inl, inr, ⊎_elim, ℕ, ◌<◌, List, refl, sym, ap, subst, ◌∙◌}
+use Rattle.std.proofs.Common.{◌≡◌, inl, inr, ⊎_elim, ℕ, ◌<◌, List, Err, refl, sym, ap, subst, ◌∙◌}
 use Rattle.flow_disk.specs.declared.disk.Slot.{Slot}
 use Rattle.flow_disk.specs.declared.disk.Slot.TheVariants.{A, B}
 use Rattle.flow_disk.specs.Images.{Image, bytes_in, opposite}
@@ -10,6 +10,14 @@ use Rattle.txn_log.specs.Stored.{SlotState, Unmade, Good, slot_state}
 use Rattle.txn_log.specs.Stores.{Counts, store_of}
 use Rattle.txn_log.proofs.StoreStates.{counts_good, counts_alone, counts_beside, counts_newer, store_same}
 use Rattle.checkpoint.specs.Compacting.{Turns, IsCompacted, MayBeCompacted}
+use Rattle.checkpoint.specs.Stops.{IfNoMemory}
+use Rattle.checkpoint.specs.declared.stops.MoveStop.{MoveStop}
+use Rattle.checkpoint.specs.declared.stops.MoveStop.TheVariants.{StoreFault, NoMemory}
+
+-- what holds where there was no memory
+pub if_no_memory : (T : Type 0) (stop : MoveStop) (P : Type 0) → stop ≡ NoMemory → IfNoMemory {T = T} (Err stop) P → P
+if_no_memory T StoreFault P is given = cc
+if_no_memory T NoMemory P is given = given
 
 -- a slot's turns from each of its three steps
 pub turns_shut : (slot : Slot) (before after : SlotState) (there : List ℕ) (c : Image) → StandsOrUnmade slot before there c → Turns slot before after there c
@@ -49,6 +57,13 @@ module _ (slot : Slot) (old : Image) (g : Header) (rs : List (List ℕ)) (d : �
 
   pub may_be_at : (o : Slot) → o ≡ opposite slot → (c : Image) → Turns o (slot_state (bytes_in old o)) (Good h kept (reach 42 kept)) (bytes_in old (opposite o)) c → MayBeCompacted (opposite slot) h kept old c
   may_be_at o same c turns = may_be_compacted c (subst (λ (p : Slot). Turns p (slot_state (bytes_in old p)) (Good h kept (reach 42 kept)) (bytes_in old (opposite p)) c) same turns)
+
+-- where the other slot is unmade, what counted still counts
+pub stays_at : (slot o : Slot) (old : Image) (g : Header) (rs : List (List ℕ)) (d : ℕ) → o ≡ opposite slot → store_of old ≡ Counts slot g rs d → (c : Image) → Stands o Unmade (bytes_in old (opposite o)) c → store_of c ≡ store_of old
+stays_at slot o old g rs d same is c stands =
+    let there = subst (λ (p : Slot). Stands p Unmade (bytes_in old (opposite p)) c) same stands in
+    let before : bytes_in c slot ≡ bytes_in old slot = sym (twice slot c) ∙ (there.other ∙ twice slot old) in
+    counts_alone slot c g rs d (ap slot_state before ∙ counts_good slot old g rs d is) there.here ∙ sym is
 
 pub ours_at : (slot o : Slot) (old : Image) (g : Header) (rs : List (List ℕ)) (d : ℕ) → o ≡ opposite slot → store_of old ≡ Counts slot g rs d → IsOurs (slot_state (bytes_in old o))
 ours_at slot o old g rs d same is = subst (λ (p : Slot). IsOurs (slot_state (bytes_in old p))) (sym same) (counts_beside slot old g rs d is)

@@ -1,10 +1,12 @@
 -- What images keep, and what a slot gets, while a body is written behind its closed gate.
-use Rattle.std.specs.Prelude.{◌≡◌, ℕ, ◌≤◌, List, [], ◌∷◌, ◌++◌, length}
+use Rattle.std.specs.Prelude.{◌≡◌, ℕ, ◌+◌, ◌*◌, ◌≤◌, List, [], ◌∷◌, ◌++◌, length}
 use Rattle.std.specs.Int.{w32, to_be_bytes}
 use Rattle.flow_disk.specs.declared.disk.Slot.{Slot}
 use Rattle.flow_disk.specs.Images.{Image, bytes_in, opposite}
 use Rattle.flow_disk.specs.Moments.{LeavesOnly}
+use Rattle.txn_log.specs.Records.{reach}
 use Rattle.txn_log.specs.Steps.{Begins, IsShut}
+use Rattle.checkpoint.specs.declared.writing.Written.{Written}
 
 -- a record with an open gate
 abbrev pub record_text : List ℕ → List ℕ
@@ -14,6 +16,12 @@ record_text payload = 1 ∷ (to_be_bytes w32 (length payload) ++ payload)
 abbrev pub spelled : List (List ℕ) → List ℕ
 spelled [] = []
 spelled (payload ∷ payloads) = record_text payload ++ spelled payloads
+
+-- so many records were written, and the place behind them is where they reach to; none is longer than a record may be
+pub record IsWritten (payloads : List (List ℕ)) (made : Written) : Type 0 where
+  pub records : made.records ≡ length payloads
+  pub end : made.end ≡ reach 42 payloads
+  pub small : made.end ≤ 42 + 2097157 * made.records
 
 -- what begins with so many bytes goes on with this piece behind them, and the other slot is as it was
 abbrev pub Adds : Slot → ℕ → List ℕ → Image → Image → Type 0

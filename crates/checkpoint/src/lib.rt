@@ -11,8 +11,12 @@
 #![tactic(auto)]
 
 mod compacting;
+mod payloads;
+mod stops;
 #[cfg(test)]
 mod tests;
 mod writing;
 
 pub use compacting::compact;
+pub use payloads::Payloads;
+pub use stops::MoveStop;

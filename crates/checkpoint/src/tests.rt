@@ -1,11 +1,11 @@
 //! A store moved to its other slot byte by byte, and what a stop at each call leaves.
-ghost use Rattle.std.specs.Prelude.{◌≡◌, ◌≤◌, ◌<◌, ◌^◌, length, All, IfOk};
+ghost use Rattle.std.specs.Prelude.{◌≡◌, ◌≤◌, ◌<◌, ◌^◌, replicate, All};
 ghost use Rattle.txn_log.specs.Records.{IsPayload};
 ghost use Rattle.txn_log.specs.Stored.{InRange};
 
-use crate::compact;
+use crate::{MoveStop, Payloads, compact};
 use flow_disk::{MemDisk, Slot};
-use flow_model::{Bytes, List};
+use std::alloc::{AllocError, Global};
 use std::test::Fail;
 use txn_log::{Header, Log};
 
@@ -30,19 +30,45 @@ fn header(generation: u64) -> Header
     }
 }
 
-fn clocks(rt: &HostRuntime, count: u8) -> Result<List<Bytes>, Fail>
-    ensures { IfOk result (λ kept. All IsPayload kept × (length kept ≡ count)) }
-{
-    let mut kept = List::new(rt.alloc());
-    'missing: while kept.len() < count as usize {
-        kept.push(Bytes::new(rt.alloc(), &CLOCK)?)?;
+/// So many copies of one payload; there is no memory for the one with `starved` behind it.
+#[derive(Drop)]
+struct Copies<'a> {
+    alloc: Global,
+    payload: &'a [u8],
+    left: usize,
+    starved: usize,
+}
+
+impl<'a> Payloads for Copies<'a> {
+    ghost left = { λ it. replicate it.left it.payload.now };
+
+    fn next(&mut self) -> Result<Option<Vec<u8>>, AllocError> {
+        if self.left == 0 {
+            return Ok(None);
+        }
+        if self.left == self.starved {
+            return Err(AllocError);
+        }
+        let payload = self.payload.to_vec(self.alloc)?;
+        self.left -= 1;
+        Ok(Some(payload))
     }
-    Ok(kept)
+}
+
+fn clocks(rt: &HostRuntime, count: u8) -> Copies<'static>
+    ensures { All IsPayload (replicate result.left result.payload.now) × (result.left ≡ count) }
+{
+    Copies {
+        alloc: rt.alloc(),
+        payload: &CLOCK,
+        left: count as usize,
+        starved: 0,
+    }
 }
 
 /// Reopens a store and moves it, and answers whether both was done.
 fn moves(rt: &HostRuntime, disk: &mut MemDisk, count: u8) -> Result<bool, Fail> {
-    let kept = clocks(rt, count)?;
+    let mut kept = clocks(rt, count);
     match Log::reopen(rt.alloc(), disk) {
         Ok(opened) => {
             let mut log = opened.log;
@@ -50,7 +76,7 @@ fn moves(rt: &HostRuntime, disk: &mut MemDisk, count: u8) -> Result<bool, Fail> 
             if generation > 100 {
                 return Ok(false);
             }
-            Ok(compact(&mut log, disk, &header(generation + 1), &kept).is_ok())
+            Ok(compact(&mut log, disk, &header(generation + 1), &mut kept).is_ok())
         }
         Err(_) => Ok(false),
     }
@@ -62,8 +88,7 @@ fn a_store_is_moved(rt: HostRuntime) -> Result<(), Fail> {
     let mut disk = MemDisk::new(alloc, &[])?;
     let mut log = Log::make(alloc, &mut disk, 1, 1_000_000)?;
     log.append(&mut disk, &CLOCK)?;
-    let kept = clocks(&rt, 1)?;
-    compact(&mut log, &mut disk, &header(2), &kept)?;
+    compact(&mut log, &mut disk, &header(2), &mut clocks(&rt, 1))?;
     assert_eq!(rt; disk.bytes(Slot::B), SECOND.as_slice());
     assert_eq!(rt; log.slot(), Slot::B);
     log.append(&mut disk, &CLOCK)?;
@@ -74,6 +99,33 @@ fn a_store_is_moved(rt: HostRuntime) -> Result<(), Fail> {
     assert_eq!(rt; moves(&rt, &mut disk, 2)?, true);
     assert_eq!(rt; Log::reopen(alloc, &mut disk)?.log.slot(), Slot::A);
     assert_eq!(rt; Log::reopen(alloc, &mut disk)?.records.len(), 2);
+    Ok(())
+}
+
+// Where there is no memory for the second of three records, the store stands where it stood, and goes on.
+#[test]
+fn no_memory_for_a_record(rt: HostRuntime) -> Result<(), Fail> {
+    let alloc = rt.alloc();
+    let mut disk = MemDisk::new(alloc, &[])?;
+    let mut log = Log::make(alloc, &mut disk, 1, 1_000_000)?;
+    log.append(&mut disk, &CLOCK)?;
+    let mut kept = clocks(&rt, 3);
+    kept.starved = 2;
+    let moved = compact(&mut log, &mut disk, &header(2), &mut kept);
+    assert_eq!(rt; moved, Err(MoveStop::NoMemory));
+    assert_eq!(rt; log.slot(), Slot::A);
+    for choice in [0, 1, 215, 221] {
+        let mut left = disk.crash(choice)?;
+        let opened = Log::reopen(alloc, &mut left)?;
+        assert_eq!(rt; opened.log.slot(), Slot::A);
+        assert_eq!(rt; opened.records.len(), 1);
+    }
+    let mut opened = Log::reopen(alloc, &mut disk)?;
+    opened.log.append(&mut disk, &CLOCK)?;
+    assert_eq!(rt; moves(&rt, &mut disk, 2)?, true);
+    let opened = Log::reopen(alloc, &mut disk)?;
+    assert_eq!(rt; opened.log.slot(), Slot::B);
+    assert_eq!(rt; opened.records.len(), 2);
     Ok(())
 }
 
