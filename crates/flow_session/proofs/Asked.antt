@@ -1,20 +1,19 @@
 -- What calls make of what is asked for, and what the journal keeps of it.
-use Rattle.std.proofs.Common.{◌≡◌, ◌⊎◌, inl, inr, ⊎_elim, ℕ, suc, ◌+◌, ◌-◌, ◌<◌, ◌≤◌, List, [], ◌∷◌, ◌++◌, length, take, Result, Ok, Err, IfErr, OnOk, refl, sym, ap, subst, ◌∙◌, append-nil, arith}
+use Rattle.std.proofs.Common.{◌≡◌, ◌⊎◌, inl, inr, ⊎_elim, ℕ, suc, ◌-◌, ◌<◌, ◌≤◌, List, [], ◌∷◌, ◌++◌, length, take, Result, Ok, Err, IfErr, OnOk, refl, sym, ap, subst, ◌∙◌, append-nil, arith}
 use Rattle.flow_core.specs.Summaries.{Summary, summary}
 use Rattle.flow_core.specs.Verdicts.{IsFront}
 use Rattle.flow_core.specs.declared.state.Core.{Core}
 use Rattle.flow_disk.specs.Images.{Image}
 use Rattle.flow_disk.specs.Moments.{LeavesOnly}
-use Rattle.flow_model.specs.declared.commands.Command.{Command}
 use Rattle.flow_model.specs.declared.commands.Command.TheVariants.{Drain, Turn as TurnCommand}
 use Rattle.flow_model.specs.declared.instances.Message.{Message}
 use Rattle.flow_model.specs.declared.transactions.Transaction.{Transaction}
 use Rattle.flow_model.specs.declared.transactions.Transaction.TheVariants.{Turn}
-use Rattle.flow_session.specs.Asking.{Asks, NoneAsked, JudgedSo, TurnsSoFar, OneMoreTurn, AreTurns, NoneTaken, OneTaken, IsTurnOf, AsksInside}
+use Rattle.flow_session.specs.Asking.{Asks, NoneAsked, JudgedSo, TurnsSoFar, OneMoreTurn, AreTurns, OneTaken, IsTurnOf, AsksInside}
 use Rattle.flow_session.specs.Draining.{IsNextQueue, queue_behind}
 use Rattle.flow_session.specs.Histories.{StandsFor, after}
 use Rattle.flow_session.specs.Inputs.{Given, Line, Long, End, Unended}
-use Rattle.flow_session.specs.Leading.{LeadsBy, EndsAsked, MakesAsked, MakesSteps}
+use Rattle.flow_session.specs.Leading.{LeadsBy, MakesAsked, MakesSteps}
 use Rattle.flow_session.specs.Serving.{Makes, WithOrWithout, KeepsMade, but_last}
 use Rattle.flow_session.specs.declared.serving.Stop.{Stop}
 use Rattle.flow_session.specs.declared.serving.Stop.TheVariants.{StoreFault, NoMemory}
@@ -213,15 +212,13 @@ module _ {J : Type 0} (tells : Type 0) (holds : J → Summary → Type 0) (momen
 
       -- a call that moves the journal, or stops
       pub asked_moved : (T : Type 0) (stop : Stop) (old new : J) (c : Core) (IsAsked : List Transaction → Type 0)
-          → (tells → holds old (summary c)) → (stop ≡ NoMemory → new ≡ old)
+          → (stop ≡ NoMemory → tells → holds new (summary c))
           → (tells → LeavesOnly moment left_since old new (StandsFor (summary c))) → IsAsked []
           → MakesAsked {T = T} tells holds moment left_since old new c c IsAsked (Err stop)
-      asked_moved T NoMemory old new c IsAsked held undone leaves none =
-          subst (λ j. MakesAsked {T = T} tells holds moment left_since old j c c IsAsked (Err NoMemory))
-          (sym (undone refl))
-          (makes_nothing tells moment left_since holds at_rest old (summary c) _ held
-          (record { asked = none; leads = tt; kept = held }))
-      asked_moved T StoreFault old new c IsAsked held undone leaves none =
+      asked_moved T NoMemory old new c IsAsked stays leaves none =
+          makes_none tells moment left_since old new (summary c) _ leaves
+          (record { asked = none; leads = tt; kept = stays refl })
+      asked_moved T StoreFault old new c IsAsked stays leaves none =
           makes_none tells moment left_since old new (summary c) _ leaves (record {
             asked = none;
             leads = tt;

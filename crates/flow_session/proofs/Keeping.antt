@@ -14,12 +14,38 @@ use Rattle.flow_disk.specs.Images.{Image}
 use Rattle.flow_disk.specs.Moments.{LeavesOnly}
 use Rattle.flow_core.specs.Summaries.{Summary, Follows, taken_up}
 use Rattle.flow_session.specs.Histories.{StandsFor, IsLive, under}
-use Rattle.flow_session.specs.Keeping.{Brings}
+use Rattle.checkpoint.specs.Compacting.{StaysPut}
+use Rattle.txn_log.specs.Standing.{StandsOn}
+use Rattle.flow_session.specs.Keeping.{Brings, IsOpen}
 use Rattle.flow_session.proofs.Summaries.{live_with, all_append}
 
 -- nothing was done
 pub nothing_done : {J : Type 0} (moment : J → ℕ) (left_since : J → ℕ → Image → Type 0) (journal : J) (P : Image → Type 0) → ((c : Image) → left_since journal (moment journal) c → P c) → LeavesOnly moment left_since journal journal P
 nothing_done moment left_since journal P here = record { later = omega arith; each = here; before = λ t c le left. inl left }
+
+-- where a log stands where it stood, its journal is as open as it was
+pub stays_open : {D : Type 0} (seen : D → Image) (images : D → Image → Type 0) (s : Summary) (log log' : Log) (disk disk' : D) → IsOpen seen images log disk s → StaysPut seen images log log' disk disk' → IsOpen seen images log' disk' s
+stays_open seen images s log log' disk disk' is stays = record {
+  alive = ap (λ (l : Log). l.failed) stays.logged ∙ is.alive;
+  stands = subst (λ (l : Log). StandsOn l (seen disk')) (sym stays.logged) (record {
+    header = is.stands.header;
+    payloads = is.stands.payloads;
+    counts = stays.same ∙ is.stands.counts;
+    generation = is.stands.generation;
+    count = is.stands.count;
+  });
+  only = stays.only;
+  holds = record {
+    slot = is.holds.slot;
+    header = is.holds.header;
+    records = is.holds.records;
+    end = is.holds.end;
+    counts = stays.same ∙ is.holds.counts;
+    comes_to = is.holds.comes_to;
+    later = is.holds.later;
+    live = is.holds.live;
+  };
+}
 
 -- no record yet
 pub brings_none : (h : Header) → Brings h [] (under h)

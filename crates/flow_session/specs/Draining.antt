@@ -17,8 +17,8 @@ pub record IsNextQueue (c : Core) (from queue : ℕ) : Type 0 where
   pub first : (other : ℕ) → has_message c other ≡ true
       → queues_before (length c.queues) from queue ≤ queues_before (length c.queues) from other
 
--- below the limit, the message at the front of a queue is taken, as a TURN: it leads from the state before it to the one
--- after it, and a right state whose worklists hold exactly its open manual items stays one
+-- below the limit, the message at the front of a queue is taken, as a TURN: it leads from the state before it to the
+-- one after it, and a right state whose worklists hold exactly its open manual items stays one
 pub record TakesFront (old new : Core) (queue : ℕ) : Type 0 where
   pub message : Message
   pub front : IsFront old queue message

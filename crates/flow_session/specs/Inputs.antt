@@ -1,5 +1,6 @@
 -- What one input of a session does: to the state, to the text of an IMPORT that isn't ended yet, and what is replied.
-use Rattle.std.specs.Prelude.{◌≡◌, ℕ, ◌<◌, ◌≤◌, Bool, true, false, if◌then◌else◌, Option, Some, None, option_map, List, []}
+use Rattle.std.specs.Prelude.{◌≡◌, ℕ, ◌<◌, ◌≤◌, Bool, true, false, if◌then◌else◌, Option, Some, None, option_map, List}
+use Rattle.std.specs.Prelude.{[]}
 use Rattle.std.specs.Prelude.{length}
 use Rattle.command_lang.specs.Reading.{AreLineTokens}
 use Rattle.flow_model.specs.declared.commands.Command.{Command}

@@ -26,11 +26,12 @@ pub record Begins (h : Header) (c : Core) : Type 0 where
   pub counts : summary c ≡ under h
   pub kept : c.kept ≡ h.transactions
 
--- a payload is the record of a transaction that is admitted, and adopted under its number
+-- a payload is the record of a transaction in range that is admitted, and adopted under its number
 pub record AdmitsOne (old : Core) (payload : List ℕ) (new : Core) : Type 0 where
   pub number : ℕ
   pub transaction : Transaction
   pub spelled : record_bytes number transaction ≡ payload
+  pub in_range : IsInRange number transaction
   pub admitted : IsAdmitted old number transaction
   pub allowed : IsAllowed old transaction
   pub adopted : Adopted old number transaction new
@@ -76,7 +77,8 @@ pub record IsBroken (slot : Slot) (place : ℕ) (image : Image) : Type 0 where
 
 -- ---- why a store isn't opened
 
--- The slots say so; or it is damaged at the gate of a record that is unfit, where those before are admitted. A fault and want of memory say nothing of it.
+-- The slots say so; or it is damaged at the gate of a record that is unfit, where those before are admitted. A fault
+-- and want of memory say nothing of it.
 abbrev pub IsUnopened : Image → LogStop → Type 0
 IsUnopened image (log.Damaged slot place) =
     IsVerdict (log.Damaged slot place) (store_of image) ⊎ IsBroken slot place image

@@ -11,9 +11,9 @@ use Rattle.flow_session.specs.Leading.{LeadsBy}
 use Rattle.flow_session.specs.Serving.{Makes}
 use Rattle.flow_session.specs.declared.serving.Session.{Session}
 
--- One input is served: what it does is what its words ask for; it makes transactions that it asks for and that lead from
--- the state before it to the one after it, and whatever a crash during the call leaves stands for the state after a
--- front part of them; before the reply is given all of them are kept. A CHECKPOINT moves the journal, and no other
+-- One input is served: what it does is what its words ask for; it makes transactions that it asks for and that lead
+-- from the state before it to the one after it, and whatever a crash during the call leaves stands for the state after
+-- a front part of them; before the reply is given all of them are kept. A CHECKPOINT moves the journal, and no other
 -- input does.
 pub record ServesOne {J : Type 0} (tells : Type 0) (holds : J → Summary → Type 0) (moment : J → ℕ)
     (left_since : J → ℕ → Image → Type 0) (place : J → Slot × ℕ) (moved : J → J → Summary → Type 0)

@@ -35,8 +35,8 @@ KeepsAllButLast moment left_since journal s ts =
     (image : Image) → left_since journal (moment journal) image
     → StandsFor (after s (but_last ts)) image ⊎ StandsFor (after s ts) image
 
--- What a journal keeps at the end of a call that made these transactions: all of them, also where there was no memory for
--- more; after a fault of the store, all of them or all but the last one.
+-- What a journal keeps at the end of a call that made these transactions: all of them, also where there was no memory
+-- for more; after a fault of the store, all of them or all but the last one.
 abbrev pub KeepsMade : {J T : Type 0} → (J → Summary → Type 0) → (J → ℕ) → (J → ℕ → Image → Type 0) → J → Summary
     → List Transaction → Result T Stop → Type 0
 KeepsMade holds moment left_since journal s ts (Ok x) = holds journal (after s ts)

@@ -64,22 +64,24 @@ pub trait Journal {
             (IsStopCause (faults self.old) (faults self.new)) };
 
     /// Keeps the live transactions alone from now on. `StoreFault` comes where its count of faults rose; then a
-    /// crash leaves the same history. `NoMemory` comes where there is no memory, and where it can't move; then
-    /// nothing was done.
+    /// crash leaves the same history. `NoMemory` comes where there is no memory, and where it can't move; then it
+    /// keeps what it kept, where it kept it.
     fn checkpoint(&mut self, core: &Core) -> Result<(), Stop>
         requires open { tells → holds self.old (summary core.now) }
         ensures kept { tells → OnOk result (holds self.new (summary core.now)) }
         ensures moved { OnOk result (moved self.old self.new (summary core.now)) }
         ensures any_moment { tells → LeavesOnly moment left_since self.old self.new (StandsFor (summary core.now)) }
-        ensures undone { IfErr result (λ stop. stop ≡ NoMemory → self.new ≡ self.old) }
+        ensures stays { IfErr result (λ stop. stop ≡ NoMemory → tells → holds self.new (summary core.now)) }
         ensures cause { MatchResult result (λ _. faults self.new ≡ faults self.old)
             (IsStopCause (faults self.old) (faults self.new)) };
 
     /// At one moment a crash leaves what it may leave then.
-    ghost at_rest: { (journal : Self) (s : Summary) (c : Image) → tells → holds journal s → left_since journal (moment journal) c → StandsFor s c };
+    ghost at_rest: { (journal : Self) (s : Summary) (c : Image) → tells → holds journal s
+        → left_since journal (moment journal) c → StandsFor s c };
 
     /// This moment is one of those since an earlier one.
-    ghost counts_now: { (journal : Self) (t : ℕ) (c : Image) → t ≤ moment journal → left_since journal (moment journal) c → left_since journal t c };
+    ghost counts_now: { (journal : Self) (t : ℕ) (c : Image) → t ≤ moment journal
+        → left_since journal (moment journal) c → left_since journal t c };
 }
 
 /// Keeps nothing: a history in memory.

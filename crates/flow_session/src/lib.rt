@@ -7,6 +7,7 @@
 mod draining;
 mod journal;
 mod laws;
+mod live_payloads;
 mod opening;
 mod serving;
 mod store;

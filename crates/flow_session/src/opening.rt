@@ -82,8 +82,8 @@ fn state_of(alloc: Global, opened: &Opened) -> Result<Core, LogStop>
 ///
 /// `Unmade`, `Foreign` and `Damaged` come by the slots, and `Damaged` at the gate of the first record that isn't in
 /// the grammar of records or isn't admitted there, as `specs/Refusing.antt` says. The disk isn't written. `StoreFault`
-/// comes only where its count of faults rose. The state is the one that the records give by the steps of the machine, as
-/// `specs/Replaying.antt` says.
+/// comes only where its count of faults rose. The state is the one that the records give by the steps of the machine,
+/// as `specs/Replaying.antt` says.
 pub fn open<D: Disk>(alloc: Global, disk: &mut D) -> Result<(Core, Opened), LogStop>
     ensures open { IfOk result (λ r. D.tells → IsOpen D.seen D.images r.1.log disk.new (summary r.0)) }
     ensures right { IfOk result (λ r. 1 ≤ (summary r.0).queues → IsRightAndListed r.0) }

@@ -1,5 +1,6 @@
 //! A session: the state, and the text of an IMPORT that isn't ended yet.
-ghost use Rattle.std.specs.Prelude.{◌≡◌, ◌⊎◌, ◌<◌, ◌≤◌, ◌+◌, ◌++◌, ◌∷◌, [], Some, None, length, IfOk, IfErr, OnOk, MatchResult};
+ghost use Rattle.std.specs.Prelude.{◌≡◌, ◌⊎◌, ◌<◌, ◌≤◌, ◌+◌, ◌++◌, ◌∷◌, [], Some, None, length, IfOk, IfErr, OnOk};
+ghost use Rattle.std.specs.Prelude.{MatchResult};
 ghost use Rattle.std.specs.Fmt.{decimal as digits_of};
 ghost use Rattle.flow_disk.specs.Moments.{LeavesOnly};
 ghost use Rattle.flow_model.specs.declared.commands.Command.TheVariants.{Checkpoint};
@@ -15,7 +16,9 @@ ghost use Rattle.flow_core.specs.Queries.{IsAnswer};
 ghost use Rattle.machine.specs.States.{blank};
 ghost use Rattle.machine_laws.specs.Applied.{Applied};
 ghost use Rattle.machine_laws.specs.Viewed.{view};
-ghost use Rattle.flow_session.specs.Inputs.{given, Line, SaysCheckpoint, AsksCheckpoint, unended_in, no_lines, is_end, with_line, unended, long_text, Answers, IsCommanded, ServesLine, ServesText, ServesInside, IsServed};
+ghost use Rattle.flow_session.specs.Inputs.{given, Line, SaysCheckpoint, AsksCheckpoint, unended_in, no_lines, is_end};
+ghost use Rattle.flow_session.specs.Inputs.{with_line, unended, long_text, Answers, IsCommanded, ServesLine};
+ghost use Rattle.flow_session.specs.Inputs.{ServesText, ServesInside, IsServed};
 ghost use Rattle.flow_session.specs.Replying.{IsObeyed, checkpoint_text};
 ghost use Rattle.flow_session.specs.Asking.{Asks, AsksSaid, AsksOutside, AsksText, AsksInside, AsksOf};
 ghost use Rattle.flow_session.specs.Leading.{MakesAsked};
@@ -381,8 +384,9 @@ impl Session {
     ///
     /// A line that can't be read and a command that isn't allowed have their refusal as the reply. `NoMemory` comes
     /// where there is no memory or the journal can't take a transaction or a checkpoint, `StoreFault` where it may not
-    /// have kept one; then nothing is replied. Also then the call made only transactions for which the input asks: under
-    /// `NoMemory` the journal holds exactly those, under `StoreFault` a crash leaves all of them or all but the last.
+    /// have kept one; then nothing is replied. Also then the call made only transactions for which the input asks:
+    /// under `NoMemory` the journal holds exactly those, under `StoreFault` a crash leaves all of them or all but the
+    /// last.
     pub fn serve<J: Journal>(&mut self, journal: &mut J, input: Input<'_>) -> Result<Vec<u8>, Stop>
         requires { J.tells → J.holds journal.old (summary self.old.core) }
         ensures kept { J.tells → OnOk result (J.holds journal.new (summary self.new.core)) }

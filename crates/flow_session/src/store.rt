@@ -1,12 +1,12 @@
 //! The journal of a store: its log and its disk.
-ghost use Rattle.std.specs.Prelude.{◌≡◌, ◌+◌, ◌<◌, List, false, length, IfErr, IfOk, IfSome, MatchResult, OnOk, IsTrue, ◌↔◌};
+ghost use Rattle.std.specs.Prelude.{◌≡◌, ◌+◌, ◌<◌, List, false, length, IfErr, IfSome, MatchResult, OnOk};
 ghost use Rattle.std.specs.List.{All};
 ghost use Rattle.flow_disk.specs.Images.{opposite};
 ghost use Rattle.flow_disk.specs.Moments.{LeavesOnly, Only};
-ghost use Rattle.txn_log.specs.Records.{IsPayload, reach};
-ghost use Rattle.txn_log.specs.Standing.{HasRecord, HasRecords, IsAt, MayHaveRecord, MayHaveRecords, StandsOn};
+ghost use Rattle.txn_log.specs.Records.{IsPayload};
+ghost use Rattle.txn_log.specs.Standing.{HasRecord, HasRecords, MayHaveRecord, MayHaveRecords, StandsOn};
 ghost use Rattle.txn_log.specs.Stored.{InRange};
-ghost use Rattle.checkpoint.specs.Compacting.{IsCompacted, MayBeCompacted};
+ghost use Rattle.checkpoint.specs.Compacting.{IsCompacted, MayBeCompacted, StaysPut};
 ghost use Rattle.flow_core.specs.Summaries.{Summary, summary};
 ghost use Rattle.flow_model.specs.declared.transactions.Transaction.{Transaction as TransactionOf};
 ghost use Rattle.live_history.specs.Rows.{present};
@@ -18,14 +18,15 @@ ghost use Rattle.flow_session.specs.Stopping.{IsStopCause};
 ghost use Rattle.flow_session.specs.declared.serving.Stop.TheVariants.{NoMemory};
 
 use crate::journal::Journal;
+use crate::live_payloads::{LivePayloads, is_payload, live_count};
 use crate::serving::Stop;
-use checkpoint::compact;
+use checkpoint::{MoveStop, compact};
 use flow_core::Core;
 use flow_disk::Disk;
-use flow_model::{Bytes, List, Numbered, Transaction};
+use flow_model::{Numbered, Transaction};
 use flow_txn::encode;
-use std::alloc::{AllocError, Global};
-use txn_log::{Batch, Header, Log, MAX_PAYLOAD};
+use std::alloc::Global;
+use txn_log::{Batch, Header, Log};
 
 /// A log has fewer records.
 const MOST_RECORDS: u64 = 1 << 32;
@@ -39,32 +40,6 @@ pub struct Stored<D: Disk + Drop> {
     alloc: Global,
     log: Log,
     disk: D,
-}
-
-/// Whether a payload may be appended; every record of the engine may.
-fn is_payload(payload: &[u8]) -> bool
-    ensures { IsTrue result ↔ IsPayload payload.now }
-{
-    !payload.is_empty() && payload.len() <= MAX_PAYLOAD
-}
-
-/// The payloads of the live transactions, which are those of the rows.
-fn payloads(alloc: Global, rows: &[Option<Numbered>]) -> Result<Option<List<Bytes>>, AllocError>
-    ensures range { IfOk result (λ kept. IfSome kept (All IsPayload)) }
-    ensures bytes { IfOk result (λ kept. IfSome kept (λ kept. kept ≡ payloads_of (present rows.now))) }
-{
-    let mut kept = List::new(alloc);
-    for row in rows {
-        let Some(numbered) = row else {
-            continue;
-        };
-        let payload = encode(alloc, numbered.number, &numbered.transaction)?;
-        if !is_payload(&payload) {
-            return Ok(None);
-        }
-        kept.push(Bytes::from_vec(payload))?;
-    }
-    Ok(Some(kept))
 }
 
 /// The header of the next generation; None where it has none.
@@ -191,39 +166,46 @@ fn append_all<D: Disk>(log: &mut Log, disk: &mut D, batch: &Batch) -> Result<(),
     }
 }
 
-/// Moves a log to its other slot.
+/// Moves a log to its other slot, with the payloads of the live transactions of these rows alone.
 ///
-/// `StoreFault` comes exactly where the disk failed. `NoMemory` comes where nothing was tried, as for [`append`].
+/// `StoreFault` comes exactly where the disk failed. `NoMemory` comes where there was none for a payload; then the log
+/// stands where it stood. It comes too where nothing was tried, as for [`append`].
 fn move_log<D: Disk>(
+    alloc: Global,
     log: &mut Log,
     disk: &mut D,
     header: &Header,
-    kept: &List<Bytes>,
+    rows: &[Option<Numbered>],
+    count: u64,
 ) -> Result<(), Stop>
-    requires kept { All IsPayload kept.now }
+    requires count { count ≡ length (present rows.now) }
+    requires kept { All IsPayload (payloads_of (present rows.now)) }
     requires range { InRange header.now }
     requires next { header.now.generation ≡ log.old.generation + 1 }
     requires stands { D.tells → StandsOn log.old (D.seen disk.old) }
     ensures stands { OnOk result (D.tells → StandsOn log.new (D.seen disk.new)) }
     ensures compacted { OnOk result (D.tells
-        → IsCompacted (opposite log.old.slot) header.now kept.now (D.seen disk.new)) }
+        → IsCompacted (opposite log.old.slot) header.now (payloads_of (present rows.now)) (D.seen disk.new)) }
     ensures durable { OnOk result (Only (D.seen disk.new) (D.images disk.new)) }
     ensures alive { OnOk result (log.new.failed ≡ false) }
-    ensures log { OnOk result (IsAt (opposite log.old.slot) header.now.generation
-        (length kept.now) (reach 42 kept.now) log.new) }
+    ensures log { OnOk result ((log.new.slot ≡ opposite log.old.slot)
+        × (log.new.generation ≡ header.now.generation)) }
     ensures cause { MatchResult result (λ _. D.faults disk.new ≡ D.faults disk.old)
         (IsStopCause (D.faults disk.old) (D.faults disk.new)) }
-    ensures undone { IfErr result (λ stop. stop ≡ NoMemory → (log.new ≡ log.old) × (disk.new ≡ disk.old)) }
+    ensures stays { D.tells → Only (D.seen disk.old) (D.images disk.old) → IfErr result (λ stop. stop ≡ NoMemory
+        → StaysPut D.seen D.images log.old log.new disk.old disk.new) }
     ensures any_moment { D.tells → Only (D.seen disk.old) (D.images disk.old)
         → LeavesOnly D.moment D.left_since disk.old disk.new
-        (MayBeCompacted (opposite log.old.slot) header.now kept.now (D.seen disk.old)) }
+        (MayBeCompacted (opposite log.old.slot) header.now (payloads_of (present rows.now)) (D.seen disk.old)) }
 {
-    if log.has_failed() || kept.len() as u64 >= MOST_RECORDS {
+    if log.has_failed() || count >= MOST_RECORDS {
         return Err(Stop::NoMemory);
     }
-    match compact(log, disk, header, kept) {
+    let mut kept = LivePayloads::new(alloc, rows);
+    match compact(log, disk, header, &mut kept) {
         Ok(()) => Ok(()),
-        Err(_) => Err(Stop::StoreFault),
+        Err(MoveStop::StoreFault) => Err(Stop::StoreFault),
+        Err(MoveStop::NoMemory) => Err(Stop::NoMemory),
     }
 }
 
@@ -242,9 +224,11 @@ impl<D: Disk + Drop> Journal for Stored<D> {
 
     ghost moved = { λ old new s. IsCheckpointed D.tells D.seen D.images old.log new.log new.disk s };
 
-    ghost at_rest = { λ journal s c told is left. rests D.seen D.images journal.log journal.disk s c is (D.only_now journal.disk c left) };
+    ghost at_rest = { λ journal s c told is left. rests D.seen D.images journal.log journal.disk s c is
+        (D.only_now journal.disk c left) };
 
-    ghost counts_now = { λ journal t c earlier left. D.counts_now journal.disk t c earlier (D.only_now journal.disk c left) };
+    ghost counts_now = { λ journal t c earlier left. D.counts_now journal.disk t c earlier
+        (D.only_now journal.disk c left) };
 
     fn payload(&self, number: u64, t: &Transaction) -> Result<Vec<u8>, Stop> {
         Ok(encode(self.alloc, number, t)?)
@@ -257,17 +241,25 @@ impl<D: Disk + Drop> Journal for Stored<D> {
 
     /// Moves the store to its other slot, which then holds the live transactions alone.
     ///
-    /// `StoreFault` comes exactly where the disk failed. `NoMemory` comes where nothing was tried: there is no
-    /// memory, the log has failed before, the store is at its last generation, or the counts or a live transaction
-    /// are out of the range of records, to none of which but the first a store of the program comes.
+    /// `StoreFault` comes exactly where the disk failed. `NoMemory` comes where there is no memory; then the store
+    /// stands where it stood. It comes too where the log has failed before, the store is at its last generation, or the
+    /// counts or a live transaction are out of the range of records, to none of which a store of the program comes.
     fn checkpoint(&mut self, core: &Core) -> Result<(), Stop> {
         let Some(header) = next_header(&self.log, core) else {
             return Err(Stop::NoMemory);
         };
-        let Some(kept) = payloads(self.alloc, core.live().rows())? else {
+        let rows = core.live().rows();
+        let Some(count) = live_count(self.alloc, rows)? else {
             return Err(Stop::NoMemory);
         };
-        move_log(&mut self.log, &mut self.disk, &header, &kept)?;
+        move_log(
+            self.alloc,
+            &mut self.log,
+            &mut self.disk,
+            &header,
+            rows,
+            count,
+        )?;
         Ok(())
     }
 }

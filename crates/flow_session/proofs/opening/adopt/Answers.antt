@@ -17,6 +17,7 @@ returns-in-Ok-adopt-clause-admitted c = λ order. record {
   number = c.in-Ok.numbered.number;
   transaction = c.in-Ok.numbered.transaction;
   spelled = c.in-Ok.ensures.read.0;
+  in_range = c.in-Ok.ensures.read.1;
   admitted = c.in-Ok-adopt.ensures.admitted order;
   allowed = c.in-Ok-adopt.ensures.allowed;
   adopted = record {

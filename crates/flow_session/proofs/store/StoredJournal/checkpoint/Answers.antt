@@ -1,22 +1,23 @@
 use Rattle.std.proofs.Common.{◌∙◌, ap, subst}
+use Rattle.std.proofs.lemmas.Result.{err_from_is_err_and}
 use Rattle.flow_disk.specs.Images.{opposite}
 use Rattle.flow_disk.proofs.Runs.{weaker}
 use Rattle.checkpoint.specs.Compacting.{IsCompacted, MayBeCompacted}
 use Rattle.flow_core.specs.Summaries.{summary}
+use Rattle.live_history.specs.Rows.{present}
 use Rattle.live_history.specs.declared.history.History.{History}
 use Rattle.flow_session.specs.Histories.{StandsFor, payloads}
 use Rattle.flow_session.proofs.Histories.{compacted, may_be_compacted}
-use Rattle.flow_session.proofs.Keeping.{in_journal}
+use Rattle.flow_session.proofs.Keeping.{in_journal, stays_open}
 use Rattle.flow_session.proofs.store.StoredJournal.checkpoint.Goals as goal
 
 pub returns-in_err-move_log-clause-any_moment : goal.returns-in_err-move_log-clause-any_moment
 returns-in_err-move_log-clause-any_moment g c told =
     let d = g.D.Disk in
     let is = c.requires.open told in
-    let bytes = rw c.in-Some-2.is at c.in_ok-kept.ensures.bytes in
-    let live = bytes ∙ ap payloads (c.rows.ensures ∙ ap (λ (h : History). h.items) c.live.ensures) in
+    let live = ap payloads (c.rows-rows.ensures ∙ ap (λ (h : History). h.items) c.live.ensures) in
     in_journal (λ j. j.disk) d.moment d.left_since _ _ (StandsFor (summary c.args.core.now))
-    (weaker d.moment d.left_since d.images c.args.self.now.disk c.move_log.new.disk (MayBeCompacted (opposite c.args.self.now.log.slot) c.in-Some.header c.in-Some-2.kept (d.seen c.args.self.now.disk)) (StandsFor (summary c.args.core.now)) (c.move_log.ensures.any_moment told is.only)
+    (weaker d.moment d.left_since d.images c.args.self.now.disk c.move_log.new.disk (MayBeCompacted (opposite c.args.self.now.log.slot) c.in-Some.header (payloads (present c.rows-rows.result.now)) (d.seen c.args.self.now.disk)) (StandsFor (summary c.args.core.now)) (c.move_log.ensures.any_moment told is.only)
     (λ image may. may_be_compacted (summary c.args.core.now) (opposite c.args.self.now.log.slot) c.in-Some.header (d.seen c.args.self.now.disk) image is.holds c.in-Some.ensures.2
     (subst (λ ps. MayBeCompacted (opposite c.args.self.now.log.slot) c.in-Some.header ps (d.seen c.args.self.now.disk) image) live may)))
 
@@ -24,8 +25,7 @@ pub returns-clause-kept : goal.returns-clause-kept
 returns-clause-kept g c told =
     let d = g.D.Disk in
     let is = c.requires.open told in
-    let bytes = rw c.in-Some-2.is at c.in_ok-kept.ensures.bytes in
-    let live = bytes ∙ ap payloads (c.rows.ensures ∙ ap (λ (h : History). h.items) c.live.ensures) in
+    let live = ap payloads (c.rows-rows.ensures ∙ ap (λ (h : History). h.items) c.live.ensures) in
     record {
       alive = c.in_ok-move_log.ensures.alive;
       stands = c.in_ok-move_log.ensures.stands told;
@@ -38,10 +38,9 @@ pub returns-clause-any_moment : goal.returns-clause-any_moment
 returns-clause-any_moment g c told =
     let d = g.D.Disk in
     let is = c.requires.open told in
-    let bytes = rw c.in-Some-2.is at c.in_ok-kept.ensures.bytes in
-    let live = bytes ∙ ap payloads (c.rows.ensures ∙ ap (λ (h : History). h.items) c.live.ensures) in
+    let live = ap payloads (c.rows-rows.ensures ∙ ap (λ (h : History). h.items) c.live.ensures) in
     in_journal (λ j. j.disk) d.moment d.left_since _ _ (StandsFor (summary c.args.core.now))
-    (weaker d.moment d.left_since d.images c.args.self.now.disk c.move_log.new.disk (MayBeCompacted (opposite c.args.self.now.log.slot) c.in-Some.header c.in-Some-2.kept (d.seen c.args.self.now.disk)) (StandsFor (summary c.args.core.now)) (c.move_log.ensures.any_moment told is.only)
+    (weaker d.moment d.left_since d.images c.args.self.now.disk c.move_log.new.disk (MayBeCompacted (opposite c.args.self.now.log.slot) c.in-Some.header (payloads (present c.rows-rows.result.now)) (d.seen c.args.self.now.disk)) (StandsFor (summary c.args.core.now)) (c.move_log.ensures.any_moment told is.only)
     (λ image may. may_be_compacted (summary c.args.core.now) (opposite c.args.self.now.log.slot) c.in-Some.header (d.seen c.args.self.now.disk) image is.holds c.in-Some.ensures.2
     (subst (λ ps. MayBeCompacted (opposite c.args.self.now.log.slot) c.in-Some.header ps (d.seen c.args.self.now.disk) image) live may)))
 
@@ -49,11 +48,10 @@ pub returns-clause-moved : goal.returns-clause-moved
 returns-clause-moved g c =
     let d = g.D.Disk in
     let log = c.in_ok-move_log.ensures.log in
-    let bytes = rw c.in-Some-2.is at c.in_ok-kept.ensures.bytes in
-    let live = bytes ∙ ap payloads (c.rows.ensures ∙ ap (λ (h : History). h.items) c.live.ensures) in
+    let live = ap payloads (c.rows-rows.ensures ∙ ap (λ (h : History). h.items) c.live.ensures) in
     record {
-      slot = log.slot_is;
-      generation = log.generation_is ∙ c.in-Some.ensures.1;
+      slot = log.0;
+      generation = log.1 ∙ c.in-Some.ensures.1;
       holds = λ told. record {
         header = c.in-Some.header;
         generation_is = c.in-Some.ensures.1;
@@ -62,3 +60,11 @@ returns-clause-moved g c =
       };
       durable = c.in_ok-move_log.ensures.durable;
     }
+
+pub returns-in_err-move_log-clause-stays : goal.returns-in_err-move_log-clause-stays
+returns-in_err-move_log-clause-stays g c =
+    let d = g.D.Disk in
+    let p = err_from_is_err_and c.from_residual-in_err-move_log.result c.from_residual-in_err-move_log.ensures.1 in
+    rw (p.1, p.2) (λ none told.
+    stays_open d.seen d.images (summary c.args.core.now) c.args.self.now.log c.move_log.new.log c.args.self.now.disk c.move_log.new.disk (c.requires.open told)
+    (c.in_err-move_log.ensures.stays told (c.requires.open told).only none))
