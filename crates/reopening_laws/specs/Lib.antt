@@ -1,0 +1,5 @@
+pub mod Codes
+pub mod Making
+pub mod Ranges
+pub mod Reopening
+pub mod Sessions
