@@ -38,7 +38,8 @@ abbrev pub verdict_printed : ℕ → ℕ → List ℕ
 verdict_printed good total = if good == total then codes "ok VERIFY " ++ decimal good ++ 10 ∷ [] else codes "no STEP "
     ++ decimal (good + 1) ++ 10 ∷ []
 
--- a verdict on this many lines, of which this many are justified from the first on: its text, and whether it is a refusal
+-- a verdict on this many lines, of which this many are justified from the first on: its text, and whether it is a
+-- refusal
 pub record IsVerdict (good total : ℕ) (text : List ℕ) (refused : Bool) : Type 0 where
   pub within : good ≤ total
   pub printed : text ≡ verdict_printed good total

@@ -8,7 +8,7 @@ use Rattle.flow_model.specs.declared.graphs.Container.{Container}
 use Rattle.flow_model.specs.declared.graphs.Graph.{Graph, out-Graph}
 use Rattle.flow_model.specs.declared.graphs.Program.{Program as ProgramOf}
 use Rattle.flow_model.specs.declared.graphs.Template.{Template}
-use Rattle.flow_model.specs.declared.graphs.Work.{Work, Program, Block', Process}
+use Rattle.flow_model.specs.declared.graphs.Work.{Work, Program, Block, Process}
 use Rattle.flow_model.specs.declared.instances.Message.{Message}
 use Rattle.flow_model.specs.declared.instances.Message.TheVariants.{Begin, Signal, End}
 use Rattle.flow_model.specs.declared.instances.Part.{Part}
@@ -99,7 +99,7 @@ entry_in ts item i = option_and_then (λ g. entry_at ts item.parts (stand g i.sc
 -- the program that an activity runs
 abbrev pub program_in : Work → Option ProgramOf
 program_in (Program p) = Some p
-program_in (Block' b g) = None
+program_in (Block g) = None
 program_in (Process t) = None
 
 abbrev pub entry_with : Entry → Option ProgramOf → Option Entry
@@ -203,7 +203,7 @@ receiver (End path) = around path.parts
 -- the process activities on the way along these parts
 abbrev pub is_process : Work → ℕ
 is_process (Program p) = 0
-is_process (Block' b g) = 0
+is_process (Block g) = 0
 is_process (Process t) = 1
 
 abbrev pub processes_below : (Graph → ℕ) → Option Graph → ℕ

@@ -23,8 +23,8 @@ use Rattle.flow_core.specs.declared.state.Root.{Root}
 
 -- ---- one item
 
--- an open item: its path, the clock when it became ready, its program, who holds it, who started its root, and the person
--- whose
+-- an open item: its path, the clock when it became ready, its program, who holds it, who started its root, and the
+-- person whose
 -- DONE PERFORMER OF asks for
 pub record Open : Type 0 where
   pub item : Path

@@ -26,13 +26,14 @@ EndsDone (Err status) = status ≡ Done
 abbrev pub empty_history : ℕ → ℕ → Summary
 empty_history queues limit = record { queues = queues; limit = limit; transactions = 0; roots = 0; live = [] }
 
--- A store with this number of queues and this limit is made: a crash at any moment leaves what was there, or where no store was
--- there none or exactly the new one; where the run is done, every image stands for its empty history.
+-- A store with this number of queues and this limit is made: a crash at any moment leaves what was there, or where no
+-- store was there none or exactly the new one; where the run is done, every image stands for its empty history.
 pub record MakesStore {D : Type 0} (queues limit : ℕ) (f : Files D) (IsDone : Type 0) : Type 0 where
   pub any_moment : LeavesOnly f.disk.moment f.disk.left_since f.old f.new (MayBeMade queues limit (f.disk.seen f.old))
   pub made : IsDone → (image : Image) → f.disk.images f.new image → StandsFor (empty_history queues limit) image
 
--- a crash at any moment leaves what was there; or the store is served, and it leaves the state after some of what is made
+-- a crash at any moment leaves what was there; or the store is served, and it leaves the state after some of what is
+-- made
 abbrev pub ServesFiles : {D : Type 0} → Files D → Type 0 → Type 0
 ServesFiles f IsDone =
     KeepsOrServes f.disk.tells f.disk.moment f.disk.left_since f.disk.seen f.disk.images f.old f.new IsDone

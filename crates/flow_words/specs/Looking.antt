@@ -19,8 +19,8 @@ use Rattle.flow_words.specs.Printed.{Prints, IsUnanswered}
 use Rattle.flow_words.specs.declared.status.Status.{Status}
 use Rattle.flow_words.specs.declared.status.Status.TheVariants.{Done, Usage, Refused}
 
--- A store is opened, which leaves what was there, and this is printed of the state for which it stands: the one to which
--- its records come by the steps of the machine.
+-- A store is opened, which leaves what was there, and this is printed of the state for which it stands: the one to
+-- which its records come by the steps of the machine.
 pub record LooksInto {D : Type 0} (f : Files D) (IsPrinted : Core → Type 0) : Type 0 where
   pub core : Core
   pub keeps : Only (f.disk.seen f.old) (f.disk.images f.old) → KeepsFiles f

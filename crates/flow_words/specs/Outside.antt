@@ -6,7 +6,8 @@ use Rattle.flow_io.specs.declared.outside.Sink as sink
 use Rattle.flow_io.specs.declared.outside.Source as source
 use Rattle.flow_session.specs.Runs.{KeepsStore}
 
--- the bytes that the source has left and those that the sink holds, where they tell them, and the counts of their faults
+-- the bytes that the source has left and those that the sink holds, where they tell them, and the counts of their
+-- faults
 pub record Channels : Type 0 where
   pub left : Option (List ℕ)
   pub left' : Option (List ℕ)

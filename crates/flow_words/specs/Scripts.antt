@@ -56,8 +56,8 @@ AreFirst left first others = IfSome left (λ bytes. script_inputs bytes ≡ firs
 abbrev pub all_replies : List (List ℕ) → List ℕ
 all_replies replies = flat_map (λ reply. reply) replies
 
--- An input is served and its reply printed; or its call stops before it replies, nothing is printed, and it has made none
--- but transactions that the input asks for; or the sink fails behind a front part of the reply.
+-- An input is served and its reply printed; or its call stops before it replies, nothing is printed, and it has made
+-- none but transactions that the input asks for; or the sink fails behind a front part of the reply.
 abbrev pub ServesAndPrints : {J : Type 0} → Type 0 → (J → Summary → Type 0) → (J → ℕ) → (J → ℕ → Image → Type 0)
     → (J → Slot × ℕ) → (J → J → Summary → Type 0) → Option (List ℕ) → Option (List ℕ) → Given → Session → Session
     → J → J → Result (Unit {0}) Status → Type 0
@@ -94,10 +94,10 @@ abbrev pub AreReplies : Session → List Given → List (List ℕ) → Session �
 AreReplies s given replies s' = Replies (sitting s) given replies (sitting s')
 
 -- The first inputs of a script are served one after the other, each reply printed before the next input is read; then
--- the run ends, within the call under way where it fails. What the served inputs make is one list of transactions, which
--- they ask for, and which leads from the first state to the last one; from a whole state the replies are those of the
--- machine. A call that stops has made none but transactions that the next input asks for. The run ends well only where
--- the script isn't too long, and as too long only where it is, behind all inputs that count.
+-- the run ends, within the call under way where it fails. What the served inputs make is one list of transactions,
+-- which they ask for, and which leads from the first state to the last one; from a whole state the replies are those of
+-- the machine. A call that stops has made none but transactions that the next input asks for. The run ends well only
+-- where the script isn't too long, and as too long only where it is, behind all inputs that count.
 pub record ServesScript {J : Type 0} (tells : Type 0) (holds : J → Summary → Type 0) (moment : J → ℕ)
     (left_since : J → ℕ → Image → Type 0) (place : J → Slot × ℕ) (moved : J → J → Summary → Type 0)
     (left held held' : Option (List ℕ)) (s s' : Session) (j j' : J) (ended : Result (Unit {0}) Status) : Type 0 where

@@ -267,7 +267,8 @@ fn line_of(alloc: Global, numbers: &[u64]) -> Result<Vec<u8>, AllocError>
     Ok(text)
 }
 
-/// The line that sums a load up: seed, roots, transactions, turns, roots that are done, roots above 100, bytes of replies.
+/// The line that sums a load up: seed, roots, transactions, turns, roots that are done, roots above 100, bytes of
+/// replies.
 fn summary(load: &Loading, seed: u64, roots: u64, above: u64) -> Result<Vec<u8>, AllocError>
     ensures { IfOk result (λ text. IsSummary seed roots above load.now text.items) }
 {

@@ -4,7 +4,8 @@ ghost use Rattle.machine_verdicts.specs.Keyed.{AdmittedHaveFreeKeys};
 ghost use Rattle.machine_verdicts.specs.Verdicts.{VerdictsAreSeen, NotesAreSeen};
 ghost use Rattle.machine_verdicts.specs.Answers.{QueuesAreSeen, AuditsAreSeen, TemplatesAreSeen, OutputsAreSeen};
 ghost use Rattle.machine_verdicts.specs.Answers.{InputsAreSeen, WorklistsAreSeen, ShowsAreSeen, AnswersAreSeen};
-ghost use Rattle.machine_verdicts.specs.Obeyed.{CommandsAreObeyed, RefusalsAreObeyed, SamesAreObeyed, RecordsAreAdopted};
+ghost use Rattle.machine_verdicts.specs.Obeyed.{CommandsAreObeyed, RefusalsAreObeyed, SamesAreObeyed};
+ghost use Rattle.machine_verdicts.specs.Obeyed.{RecordsAreAdopted};
 
 /// Law: before any transaction the keys are the machine's.
 pub fn blanks_are_keyed()

@@ -1,4 +1,5 @@
--- Why a store isn't shipped or a stream not followed: a fault of the sink, the source or the disk only where its count rose.
+-- Why a store isn't shipped or a stream not followed: a fault of the sink, the source or the disk only where its count
+-- rose.
 use Rattle.std.specs.Prelude.{◌≡◌, ◌<◌, ℕ}
 use Rattle.flow_io.specs.Causes.{Rose}
 use Rattle.flow_session.specs.Stopping.{IsOpenCause}
@@ -15,8 +16,8 @@ ShipEnd from before now (ship.Ahead number) = (number < from) × (now ≡ before
 ShipEnd from before now ship.WriteFault = Rose before now
 ShipEnd from before now ship.NoMemory = now ≡ before
 
--- How shipping stops, by the count of the faults of its disk: it rose only where the store isn't opened because its disk
--- failed.
+-- How shipping stops, by the count of the faults of its disk: it rose only where the store isn't opened because its
+-- disk failed.
 abbrev pub ShipDiskEnd : ℕ → ℕ → ShipStop → Type 0
 ShipDiskEnd before now (ship.Store stop) = IsOpenCause before now stop
 ShipDiskEnd before now (ship.Gone kept) = now ≡ before
@@ -32,7 +33,8 @@ PutEnd before now (ship.Ahead number) = ⊥
 PutEnd before now ship.WriteFault = Rose before now
 PutEnd before now ship.NoMemory = now ≡ before
 
--- How following stops, by the counts of the faults of its source and of its disk: each stayed, but that of the one that failed.
+-- How following stops, by the counts of the faults of its source and of its disk: each stayed, but that of the one that
+-- failed.
 abbrev pub FollowEnd : ℕ → ℕ → ℕ → ℕ → FollowStop → Type 0
 FollowEnd source source' disk disk' (follow.Store stop) = (source' ≡ source) × IsOpenCause disk disk' stop
 FollowEnd source source' disk disk' (follow.Frame place) = (source' ≡ source) × (disk' ≡ disk)

@@ -23,9 +23,9 @@ IsEndBy stop (Store found) = found ≡ stop
 IsEndBy stop NoMemory = Unit {0}
 IsEndBy stop ended = ⊥
 
--- A store is opened, and a stream is followed from its state on. Where the disk tells its bytes, that is what they stand
--- for, and what its records give by the steps of the machine; and where the stream ends, whatever the disk may leave
--- then stands for the state at the last stage.
+-- A store is opened, and a stream is followed from its state on. Where the disk tells its bytes, that is what they
+-- stand for, and what its records give by the steps of the machine; and where the stream ends, whatever the disk may
+-- leave then stands for the state at the last stage.
 pub record FollowsOpened (tells : Type 0) (seen : Image) (images : Image → Type 0) (left left' : Option (List ℕ))
     (result : Result Followed FollowStop) : Type 0 where
   pub core : Core

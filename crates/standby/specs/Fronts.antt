@@ -19,7 +19,8 @@ Agrees bytes = StartsWith bytes magic ⊎ StartsWith magic bytes
 abbrev pub IsAlike : Summary → Front → Type 0
 IsAlike store front = (front.queues ≡ store.queues) × (front.limit ≡ store.limit)
 
--- The bytes at the front of a stream, which are the first 25 or all that there are, are judged for a store: by the first of `Frame`, `Cut`, `Other` and `Gap` that holds.
+-- The bytes at the front of a stream, which are the first 25 or all that there are, are judged for a store: by the
+-- first of `Frame`, `Cut`, `Other` and `Gap` that holds.
 abbrev pub FrontJudged : Summary → List ℕ → Result Front FollowStop → Type 0
 FrontJudged store bytes (Ok front) =
     (bytes ≡ front_bytes front) × IsAlike store front × (front.from ≤ store.transactions)

@@ -29,7 +29,8 @@ ReadsSome most place before after old new (Err follow.ReadFault) = Keeps before 
 ReadsSome most place before after old new (Err follow.NoMemory) = Unit {0}
 ReadsSome most place before after old new (Err stop) = ⊥
 
--- So many bytes are read: all of them, or fewer where there are no more. `TooLong` comes where one is asked for and is there behind all that a stream may have.
+-- So many bytes are read: all of them, or fewer where there are no more. `TooLong` comes where one is asked for and is
+-- there behind all that a stream may have.
 abbrev pub Reads : ℕ → ℕ → Option (List ℕ) → Option (List ℕ) → List ℕ → Result Bool FollowStop → Type 0
 Reads count place before after out (Ok true) = Gives place before after out × (length out ≡ count)
 Reads count place before after out (Ok false) = Gives place before after out × (length out < count) × IsAtEnd after

@@ -16,8 +16,8 @@ use Rattle.standby.specs.Streams.{stream_bytes, PutsPart}
 abbrev pub last : {T : Type 0} → ℕ → List T → List T
 last count xs = drop (length xs - count) xs
 
--- the stream that ships an opened store with this number of transactions above a number: the queues and the limit of the
--- store, the number, and the last records
+-- the stream that ships an opened store with this number of transactions above a number: the queues and the limit of
+-- the store, the number, and the last records
 abbrev pub shipped : Opened → ℕ → ℕ → List ℕ
 shipped opened number from =
     stream_bytes (record { queues = opened.header.queues; limit = opened.header.limit; from = from })

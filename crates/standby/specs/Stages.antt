@@ -20,7 +20,8 @@ use Rattle.standby.specs.Streams.{front_bytes, frame_bytes, end_bytes}
 use Rattle.standby.specs.declared.following.Followed.{Followed}
 use Rattle.standby.specs.declared.frames.Front.{Front}
 use Rattle.standby.specs.declared.stops.FollowStop.{FollowStop}
-use Rattle.standby.specs.declared.stops.FollowStop.TheVariants.{Store, Frame, Cut, NotAllowed, ReadFault, TooLong, NoMemory}
+use Rattle.standby.specs.declared.stops.FollowStop.TheVariants.{Store, Frame, Cut, NotAllowed, ReadFault, TooLong}
+use Rattle.standby.specs.declared.stops.FollowStop.TheVariants.{NoMemory}
 
 -- ---- the transaction of a frame
 
@@ -39,7 +40,8 @@ Takes number t c taken c' taken' =
     ((number ≤ c.number) × (c' ≡ c) × (taken' ≡ taken))
     ⊎ (Adopts c number t c' × (taken' ≡ taken + 1))
 
--- why a transaction isn't taken: it isn't admitted; or it is, and the disk failed where it was kept; or there was no memory
+-- why a transaction isn't taken: it isn't admitted; or it is, and the disk failed where it was kept; or there was no
+-- memory
 abbrev pub StopsTaking : Core → ℕ → Transaction → FollowStop → Type 0
 StopsTaking c number t (NotAllowed told) = (told ≡ number) × (c.number < number) × IsRefused c number t
 StopsTaking c number t (Store StoreFault) = (c.number < number) × IsAdmitted c number t
@@ -61,7 +63,8 @@ pub record TakesPayload (number : ℕ) (payload : List ℕ) (c : Core) (taken : 
   pub is : IsRecord number transaction payload
   pub takes : Takes number transaction c taken c' taken'
 
--- why the payload of the frame at a place isn't taken under its number: it is no record under it, or its transaction isn't taken
+-- why the payload of the frame at a place isn't taken under its number: it is no record under it, or its transaction
+-- isn't taken
 abbrev pub StopsPayload : ℕ → ℕ → List ℕ → Core → FollowStop → Type 0
 StopsPayload place number payload c (Frame at) = (at ≡ place) × IsNoRecord number payload
 StopsPayload place number payload c NoMemory = Unit {0}
@@ -69,7 +72,8 @@ StopsPayload place number payload c stop = (t : Transaction) × IsRecord number 
 
 -- ---- stages
 
--- the state of the store, how many transactions were taken, the number of the last frame, how many bytes were read, and those that are still to be read, where the source tells them
+-- the state of the store, how many transactions were taken, the number of the last frame, how many bytes were read, and
+-- those that are still to be read, where the source tells them
 pub record Stage : Type 0 where
   pub core : Core
   pub taken : ℕ
@@ -140,7 +144,8 @@ UnlessFailed stop P = P
 abbrev pub StopsKept : (Core → Type 0) → Stage → Option (List ℕ) → FollowStop → Type 0
 StopsKept IsKept s after stop = StopsAt s after stop × UnlessFailed stop (IsKept s.core)
 
--- the frames behind a stage are followed to a last stage, where the stream ends with this state and number of transactions taken, or following stops
+-- the frames behind a stage are followed to a last stage, where the stream ends with this state and number of
+-- transactions taken, or following stops
 abbrev pub FollowsFrames : {T : Type 0} → (Core → Type 0) → Stage → Option (List ℕ) → Core → ℕ → Result T FollowStop
     → Type 0
 FollowsFrames IsKept s after c taken (Ok x) =
@@ -193,17 +198,17 @@ pub record IsDone (IsKept : Core → Type 0) (after : Option (List ℕ)) (follow
   pub taken : followed.taken ≡ last.taken
   pub kept : IsKept last.core
 
--- A stream is followed from a state on. Where the stream ends, the state at its last stage is kept; else its front isn't
--- read or is refused, or following ends at a stage, and unless the store failed or there was no memory, the state there
--- is kept.
+-- A stream is followed from a state on. Where the stream ends, the state at its last stage is kept; else its front
+-- isn't read or is refused, or following ends at a stage, and unless the store failed or there was no memory, the state
+-- there is kept.
 abbrev pub Follows : (Core → Type 0) → Core → Option (List ℕ) → Option (List ℕ) → Result Followed FollowStop → Type 0
 Follows IsKept c left after (Ok followed) = PassesFront c left (IsDone IsKept after followed)
 Follows IsKept c left after (Err stop) =
     ((StopsBefore left after stop ⊎ RefusesFront c left stop) × UnlessFailed stop (IsKept c))
     ⊎ PassesFront c left (λ last. StopsKept IsKept last after stop)
 
--- the same by what a source had left and has left: of the bytes taken from it some may not be read yet, but none where it
--- failed
+-- the same by what a source had left and has left: of the bytes taken from it some may not be read yet, but none where
+-- it failed
 pub record FollowsSource (IsKept : Core → Type 0) (c : Core) (left left' : Option (List ℕ))
     (result : Result Followed FollowStop) : Type 0 where
   pub held : List ℕ

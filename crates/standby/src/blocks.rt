@@ -1,5 +1,6 @@
 //! A source read in blocks.
-ghost use Rattle.std.specs.Prelude.{◌≡◌, ◌≤◌, ◌<◌, ◌+◌, ◌-◌, ◌++◌, ℕ, [], min, take, drop, length, vec_len, IsTrue, IfOk, IfSome, OnOk, OnErr, IfErr, MatchResult};
+ghost use Rattle.std.specs.Prelude.{◌≡◌, ◌≤◌, ◌<◌, ◌+◌, ◌-◌, ◌++◌, ℕ, [], min, take, drop, length, vec_len, IsTrue};
+ghost use Rattle.std.specs.Prelude.{IfOk, IfSome, OnOk, OnErr, IfErr, MatchResult};
 ghost use Rattle.standby.specs.Endings.{FollowEnd};
 ghost use Rattle.standby.specs.Frames.{HoldsFrame};
 ghost use Rattle.standby.specs.Readers.{ahead};

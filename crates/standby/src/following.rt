@@ -1,5 +1,6 @@
 //! A stream taken into a store.
-ghost use Rattle.std.specs.Prelude.{◌≡◌, ◌⊎◌, ℕ, Option, List, ◌+◌, ◌-◌, ◌^◌, ◌<◌, ◌≤◌, [], IfErr, IfOk, IsOk, MatchResult, OnErr, OnOk};
+ghost use Rattle.std.specs.Prelude.{◌≡◌, ◌⊎◌, ℕ, Option, List, ◌+◌, ◌-◌, ◌^◌, ◌<◌, ◌≤◌, [], IfErr, IfOk, IsOk};
+ghost use Rattle.std.specs.Prelude.{MatchResult, OnErr, OnOk};
 ghost use Rattle.std.specs.Io.KnownBytes.{Keeps};
 ghost use Rattle.flow_disk.specs.Images.{Image};
 ghost use Rattle.flow_disk.specs.Moments.{Only};
@@ -21,7 +22,8 @@ ghost use Rattle.flow_session.specs.Refusing.{IsUnopened};
 ghost use Rattle.standby.specs.Followed.{FollowsOpened, IsNotOpened};
 ghost use Rattle.standby.specs.Fronts.{FrontJudged};
 ghost use Rattle.standby.specs.Readers.{ahead};
-ghost use Rattle.standby.specs.Stages.{FollowsHeld, FollowsSource, Reaches, StopsPayload, StopsTaking, Takes, TakesPayload, UnlessFailed, stage};
+ghost use Rattle.standby.specs.Stages.{FollowsHeld, FollowsSource, Reaches, StopsPayload, StopsTaking, Takes};
+ghost use Rattle.standby.specs.Stages.{TakesPayload, UnlessFailed, stage};
 ghost use Rattle.standby.specs.Waiting.{IsFailure, IsUnchanged, TakesOn, WaitsBehind};
 ghost use Rattle.standby.specs.declared.stops.FollowStop.TheVariants as stop;
 
@@ -377,8 +379,8 @@ impl<D: Disk + Drop> Standby<D> {
 ///
 /// The store is opened first. Up to 1,000 transactions are kept behind one gate: one, and those behind it whose
 /// frames were read with it; a crash leaves all of them or none. All that was taken is kept before the source is read
-/// again and before anything is answered. A refusal comes at the first place of the stream where one holds, and what was
-/// taken before it stays. In the front of the stream they are judged in the order `Frame`, `Cut`, `Other`,
+/// again and before anything is answered. A refusal comes at the first place of the stream where one holds, and what
+/// was taken before it stays. In the front of the stream they are judged in the order `Frame`, `Cut`, `Other`,
 /// `Gap`; of a frame its first byte and its length are judged before `Cut`, and its payload where it is whole.
 /// `Store` with `StoreFault` comes where the disk failed, `ReadFault` where the source did.
 pub fn follow<S: Source, D: Disk + Drop>(

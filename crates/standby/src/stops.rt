@@ -82,7 +82,8 @@ impl From<AllocError> for FollowStop {
 }
 
 impl From<LogStop> for ShipStop {
-    ghost from_gives = { λ stop e. IsShipEndBy stop e × ((from count : ℕ) → ShipEnd from count count e) × ((disk disk' : ℕ) → IsOpenCause disk disk' stop → ShipDiskEnd disk disk' e) };
+    ghost from_gives = { λ stop e. IsShipEndBy stop e × ((from count : ℕ) → ShipEnd from count count e)
+        × ((disk disk' : ℕ) → IsOpenCause disk disk' stop → ShipDiskEnd disk disk' e) };
 
     fn from(stop: LogStop) -> ShipStop {
         match stop {
@@ -93,7 +94,8 @@ impl From<LogStop> for ShipStop {
 }
 
 impl From<LogStop> for FollowStop {
-    ghost from_gives = { λ stop e. IsEndBy stop e × ((source disk disk' : ℕ) → IsOpenCause disk disk' stop → FollowEnd source source disk disk' e) };
+    ghost from_gives = { λ stop e. IsEndBy stop e × ((source disk disk' : ℕ)
+        → IsOpenCause disk disk' stop → FollowEnd source source disk disk' e) };
 
     fn from(stop: LogStop) -> FollowStop {
         match stop {

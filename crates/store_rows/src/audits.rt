@@ -1,4 +1,5 @@
-//! Certificates of a store: as `explain` gives them, with each line left out, repeated, exchanged or changed, and of what is not there.
+//! Certificates of a store: as `explain` gives them, with each line left out, repeated, exchanged or changed, and of
+//! what is not there.
 use crate::stores::new_store;
 use flow_disk::MemDisk;
 use flow_trials::{Outcome, run_over};

@@ -163,8 +163,8 @@ fn faults_of_the_sink(rt: HostRuntime) -> Result<(), Fail> {
     Ok(())
 }
 
-/// Whether a store may be cut to these slots: it is refused, or it holds all of the script or what stood before its last
-/// checkpoint.
+/// Whether a store may be cut to these slots: it is refused, or it holds all of the script or what stood before its
+/// last checkpoint.
 fn may_be_cut(alloc: Global, a: &[u8], b: &[u8]) -> Result<bool, Fail> {
     let outcome = ran(alloc, b"CLOCK 9\n", MemDisk::with(alloc, a, b, &[])?)?;
     Ok(

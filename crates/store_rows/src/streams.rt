@@ -1,4 +1,5 @@
-//! Streams to a second store: cut at each byte, with each byte changed, from other stores, and of what is gone or ahead.
+//! Streams to a second store: cut at each byte, with each byte changed, from other stores, and of what is gone or
+//! ahead.
 use crate::stores::new_store;
 use flow_disk::MemDisk;
 use flow_trials::{Outcome, Store, answer, run_over};

@@ -30,7 +30,8 @@ impl TemplateStore {
         }
     }
 
-    /// What a text would add; `Rule` exactly where it breaks one, which is the first and its least place. Nothing is changed.
+    /// What a text would add; `Rule` exactly where it breaks one, which is the first and its least place. Nothing is
+    /// changed.
     pub fn check(&self, alloc: Global, text: &[u8]) -> Result<Compiled, ImportFault>
         ensures sound { IfOk result (λ compiled. AreSoundBehind
             (length self.now.catalog.library.templates) compiled.templates) }
@@ -61,7 +62,8 @@ impl TemplateStore {
         Ok(count)
     }
 
-    /// An error where places of 32 bits don't tell all elements of the library apart, since nothing that large has room.
+    /// An error where places of 32 bits don't tell all elements of the library apart, since nothing that large has
+    /// room.
     fn needs_room(&self) -> Result<(), AllocError>
         ensures { OnOk result (IsSmall self.now.catalog.library) }
     {

@@ -1,4 +1,5 @@
-//! Each of the 24 rules with texts that break it: in a process, in a block, in a block of a block, and with a lower rule broken behind it.
+//! Each of the 24 rules with texts that break it: in a process, in a block, in a block of a block, and with a lower
+//! rule broken behind it.
 use flow_trials::answer;
 use flow_words::Status;
 use std::alloc::Global;
