@@ -71,7 +71,8 @@ pub trait Journal {
         ensures kept { tells → OnOk result (holds self.new (summary core.now)) }
         ensures moved { OnOk result (moved self.old self.new (summary core.now)) }
         ensures any_moment { tells → LeavesOnly moment left_since self.old self.new (StandsFor (summary core.now)) }
-        ensures stays { IfErr result (λ stop. stop ≡ NoMemory → tells → holds self.new (summary core.now)) }
+        ensures stays { IfErr result (λ stop. stop ≡ NoMemory → tells
+            → (place self.new ≡ place self.old) × holds self.new (summary core.now)) }
         ensures cause { MatchResult result (λ _. faults self.new ≡ faults self.old)
             (IsStopCause (faults self.old) (faults self.new)) };
 

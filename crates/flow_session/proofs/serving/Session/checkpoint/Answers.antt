@@ -13,7 +13,7 @@ returns-in_err-checkpoint-clause-makes g c =
     let p = err_from_is_err_and c.from_residual.result c.from_residual.ensures.1 in
     rw (p.1, p.2) (asked_moved g.J.Journal.tells g.J.Journal.holds g.J.Journal.moment g.J.Journal.left_since
     g.met.J.Journal.at_rest g.met.J.Journal.counts_now _ c.in_err-checkpoint.field-0.0 c.args.journal.now
-    c.checkpoint.new.self c.args.self.now.core (λ ts. ts ≡ []) c.in_err-checkpoint.ensures.stays
+    c.checkpoint.new.self c.args.self.now.core (λ ts. ts ≡ []) (λ none told. (c.in_err-checkpoint.ensures.stays none told).1)
     c.checkpoint.ensures.any_moment refl)
 
 pub returns-clause-makes : goal.returns-clause-makes

@@ -2,6 +2,7 @@ use Rattle.std.proofs.Common.{◌∙◌, ap, subst}
 use Rattle.std.proofs.lemmas.Result.{err_from_is_err_and}
 use Rattle.flow_disk.specs.Images.{opposite}
 use Rattle.flow_disk.proofs.Runs.{weaker}
+use Rattle.txn_log.specs.declared.log.Log.{Log}
 use Rattle.checkpoint.specs.Compacting.{IsCompacted, MayBeCompacted}
 use Rattle.flow_core.specs.Summaries.{summary}
 use Rattle.live_history.specs.Rows.{present}
@@ -66,5 +67,7 @@ returns-in_err-move_log-clause-stays g c =
     let d = g.D.Disk in
     let p = err_from_is_err_and c.from_residual-in_err-move_log.result c.from_residual-in_err-move_log.ensures.1 in
     rw (p.1, p.2) (λ none told.
-    stays_open d.seen d.images (summary c.args.core.now) c.args.self.now.log c.move_log.new.log c.args.self.now.disk c.move_log.new.disk (c.requires.open told)
-    (c.in_err-move_log.ensures.stays told (c.requires.open told).only none))
+    let stays = c.in_err-move_log.ensures.stays told (c.requires.open told).only none in (
+      ap (λ (l : Log). (l.slot, l.generation)) stays.logged,
+      stays_open d.seen d.images (summary c.args.core.now) c.args.self.now.log c.move_log.new.log c.args.self.now.disk c.move_log.new.disk (c.requires.open told) stays,
+    ))
