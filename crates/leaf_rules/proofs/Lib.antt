@@ -8,4 +8,6 @@ pub mod Counting
 pub mod Rowing
 pub mod Making
 pub mod Tabling
+pub mod Classing
+pub mod Settling
 pub mod Agreeing

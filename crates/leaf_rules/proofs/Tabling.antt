@@ -1,10 +1,14 @@
 -- The leaves of a table are those of structures.
-use Rattle.std.proofs.Common.{◌≡◌, ℕ, zero, suc, ◌<◌, List, [], ◌∷◌, map, length, Option, Some, None, refl, sym, ap, ◌∙◌, arith}
+use Rattle.std.proofs.Common.{◌≡◌, ℕ, zero, suc, ◌<◌, ◌≤◌, ⊎_elim, List, [], ◌∷◌, map, length, Option, Some, None, refl, sym, ap, ◌∙◌, arith}
 use Rattle.std.specs.Prelude.{slice_get}
 use Rattle.std.specs.Option.{option_map, option_and_then}
+use Rattle.std.proofs.lemmas.Bool.{cases_lt}
+use Rattle.std.proofs.lemmas.List.{length-map}
+use Rattle.std.proofs.lemmas.Option.{slice_get_past}
 use Rattle.flow_model.specs.declared.graphs.Leaf.{Leaf}
 use Rattle.flow_model.specs.declared.trees.StructDef.{StructDef}
 use Rattle.text_graphs.proofs.Naming.{first_below}
+use Rattle.leaf_rules.specs.Classes.{leaves_at}
 use Rattle.leaf_rules.specs.ReturnCodes.{return_code}
 use Rattle.leaf_rules.specs.Runs.{leaves_in_run, IsRun, AreLeavesMade, AreOutputRuns}
 use Rattle.leaf_rules.specs.Structures.{structure_in}
@@ -50,17 +54,18 @@ form_at (f ∷ forms) (r ∷ runs) table (suc i) run same is = form_at forms run
     tail : (a b : List Leaf) (xs ys : List (List Leaf)) → a ∷ xs ≡ b ∷ ys → xs ≡ ys
     tail a b xs ys e = cc
 
+-- what stands behind the return code
+plain_is : (form : StructureLeaves) (leaves : List Leaf) → form.coded.leaves ≡ return_code ∷ leaves → form.plain.leaves ≡ leaves
+plain_is form leaves is = tail return_code form.plain.leaves leaves (sym form.begun ∙ is)
+  where
+    tail : (c : Leaf) (xs ys : List Leaf) → c ∷ xs ≡ c ∷ ys → xs ≡ ys
+    tail c xs ys e = cc
+
 -- so a table has the leaves of each structure
 pub has_leaves : (structures : List StructDef) (runs : List Run) (table : List Leaf) (forms : List StructureLeaves) → AreLeavesMade structures runs table → map (λ f. f.coded.leaves) forms ≡ map (leaves_in_run table) runs
     → (name : List ℕ) → option_map (λ f. f.plain.leaves) (option_and_then (λ number. slice_get forms number) (structure_in structures name)) ≡ leaves_in structures name
 has_leaves structures runs table forms h same name = by (structure_in structures name) refl
   where
-    plain : (form : StructureLeaves) (leaves : List Leaf) → form.coded.leaves ≡ return_code ∷ leaves → form.plain.leaves ≡ leaves
-    plain form leaves is = tail return_code form.plain.leaves leaves (sym form.begun ∙ is)
-      where
-        tail : (c : Leaf) (xs ys : List Leaf) → c ∷ xs ≡ c ∷ ys → xs ≡ ys
-        tail c xs ys e = cc
-
     by : (o : Option ℕ) → structure_in structures name ≡ o
         → option_map (λ (f : StructureLeaves). f.plain.leaves) (option_and_then (λ number. slice_get forms number) o) ≡ option_map (leaves_of structures) (option_and_then (λ number. slice_get structures number) o)
     by None known = refl
@@ -68,4 +73,21 @@ has_leaves structures runs table forms h same name = by (structure_in structures
         let s = there_is structures number (first_below _ structures number known) in
         let made = h.right number s.0 s.1 in
         let form = form_at forms runs table number made.0 same made.1 in
-        ap (option_map (λ (f : StructureLeaves). f.plain.leaves)) form.1 ∙ ap (λ (ls : List Leaf). Some ls) (plain form.0 (leaves_of structures s.0) (form.2 ∙ made.2.whole)) ∙ ap (option_map (leaves_of structures)) (sym s.1)
+        ap (option_map (λ (f : StructureLeaves). f.plain.leaves)) form.1 ∙ ap (λ (ls : List Leaf). Some ls) (plain_is form.0 (leaves_of structures s.0) (form.2 ∙ made.2.whole)) ∙ ap (option_map (leaves_of structures)) (sym s.1)
+
+-- by number too
+pub numbered_leaves : (structures : List StructDef) (runs : List Run) (table : List Leaf) (forms : List StructureLeaves) → AreLeavesMade structures runs table → map (λ f. f.coded.leaves) forms ≡ map (leaves_in_run table) runs → (number : ℕ)
+    → leaves_at forms number ≡ option_map (leaves_of structures) (slice_get structures number)
+numbered_leaves structures runs table forms h same number = ⊎_elim there past (cases_lt number (length structures))
+  where
+    there : number < length structures → leaves_at forms number ≡ option_map (leaves_of structures) (slice_get structures number)
+    there less =
+        let s = there_is structures number less in
+        let made = h.right number s.0 s.1 in
+        let form = form_at forms runs table number made.0 same made.1 in
+        ap (option_map (λ (f : StructureLeaves). f.plain.leaves)) form.1 ∙ ap (λ (ls : List Leaf). Some ls) (plain_is form.0 (leaves_of structures s.0) (form.2 ∙ made.2.whole)) ∙ ap (option_map (leaves_of structures)) (sym s.1)
+
+    past : length structures ≤ number → leaves_at forms number ≡ option_map (leaves_of structures) (slice_get structures number)
+    past more =
+        let long : length forms ≡ length structures = sym (length-map forms (λ (f : StructureLeaves). f.coded.leaves)) ∙ ap (length {A = List Leaf}) same ∙ length-map runs (leaves_in_run table) ∙ h.long in
+        ap (option_map (λ (f : StructureLeaves). f.plain.leaves)) (slice_get_past forms number (omega arith)) ∙ sym (ap (option_map (leaves_of structures)) (slice_get_past structures number more))

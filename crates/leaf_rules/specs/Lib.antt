@@ -6,6 +6,7 @@ pub mod KindEdges
 pub mod Counts
 pub mod Ordered
 pub mod Runs
+pub mod Classes
 pub mod Tables
 pub mod ArrayCounts
 pub mod LeafUses

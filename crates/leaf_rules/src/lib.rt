@@ -3,6 +3,8 @@
 //! Knows structures and the graphs of a text; never libraries or people. Begin with [`Structures`].
 #![tactic(auto)]
 
+mod classes;
+mod container_leaves;
 mod forms;
 mod members;
 mod rows;

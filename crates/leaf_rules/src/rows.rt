@@ -106,7 +106,7 @@ impl<'a> Structures<'a> {
     }
 
     /// Whether a kind has leaves.
-    fn has_leaves(&self, runs: &[Run], kind: &'a KindTree) -> bool
+    pub(crate) fn has_leaves(&self, runs: &[Run], kind: &'a KindTree) -> bool
         ensures { result ≡ false → (leaves : Seq Leaf) (inner : Seq ℕ → Seq Leaf)
             → IsKindMade (behind self.now.definitions.items) runs.now leaves inner kind.now
             → kind_leaves inner kind.now ≡ [] }

@@ -1,6 +1,6 @@
 //! The structures of a text with their leaves, and rules 6, 7 and 8 on them.
 ghost use Rattle.std.specs.Prelude.{◌≡◌, ◌⊎◌, ℕ, ◌<◌, ◌++◌, [], map, length, false, replicate, slice_get, slice_index};
-ghost use Rattle.std.specs.Prelude.{slice_index_or, slice_set, Some, IfOk, IsTrue, OnOk};
+ghost use Rattle.std.specs.Prelude.{slice_index_or, slice_set, Some, IfOk, IsTrue, OnOk, option_copied};
 ghost use Rattle.std.specs.List.{filter_map};
 ghost use Rattle.graph_check.specs.Walks.{IsOrder};
 ghost use Rattle.text_graphs.specs.ClosedWalks.{AreClosed};
@@ -404,6 +404,13 @@ impl<'a> Structures<'a> {
         ensures { slice_get (behind self.now.definitions.items) number ≡ Some result.now }
     {
         self.definitions[number as usize]
+    }
+
+    /// The structure of a number, if there is one.
+    pub(crate) fn nth(&self, number: u32) -> Option<&'a StructDef>
+        ensures { option_copied result ≡ slice_get (behind self.now.definitions.items) number }
+    {
+        self.definitions.get(number as usize).copied()
     }
 
     /// An order in which each structure comes behind the kinds of its members.

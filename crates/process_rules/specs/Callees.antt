@@ -1,5 +1,5 @@
 -- Rules 17 and 18: the processes that activities name, and the leaves of their containers.
-use Rattle.std.specs.Prelude.{◌≡◌, ℕ, Option, Some, None, List, slice_get}
+use Rattle.std.specs.Prelude.{◌≡◌, ◌⊎◌, ℕ, Option, Some, None, List, slice_get}
 use Rattle.std.specs.Option.{option_map, option_and_then}
 use Rattle.flow_model.specs.declared.graphs.Graph.{out-Graph}
 use Rattle.flow_model.specs.declared.graphs.Leaf.{Leaf}
@@ -81,6 +81,10 @@ IsFitting leaves library processes a callee = AreAlike (leaves a.input.name)
 abbrev pub IsMisfit : Leafing → Library → List ProcessTree → ActivityTree → Option Callee → ℕ → Type 0
 IsMisfit leaves library processes a None p = ⊥
 IsMisfit leaves library processes a (Some callee) p = (IsFitting leaves library processes a callee → ⊥) × (a.place ≡ p)
+
+-- one of these places, or the one that was found before
+abbrev pub OrBefore : Option ℕ → (ℕ → Type 0) → ℕ → Type 0
+OrBefore before places p = (before ≡ Some p) ⊎ places p
 
 -- in a graph, where names lead to processes so
 abbrev pub HasMisfitBy : Calls → Leafing → Library → List ProcessTree → GraphAt → ℕ → Type 0

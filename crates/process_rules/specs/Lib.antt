@@ -2,6 +2,7 @@ pub mod Imports
 pub mod Calling
 pub mod Knowing
 pub mod Callees
+pub mod Seen
 pub mod Numbering
 pub mod Doers
 pub mod Said

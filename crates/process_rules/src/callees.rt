@@ -1,21 +1,24 @@
 //! Rules 17 and 18: the processes that activities name, and the leaves of their containers.
-ghost use Rattle.std.specs.Prelude.{◌≡◌, List, map, option_copied};
+ghost use Rattle.std.specs.Prelude.{◌≡◌, ◌<◌, ℕ, List, Some, map, option_copied, IfOk, OnOk};
 ghost use Rattle.std.specs.Bool.{Decides};
-ghost use Rattle.std.specs.Option.{option_map};
 ghost use Rattle.flow_model.specs.declared.trees.ProcessTree.{ProcessTree};
 ghost use Rattle.leaf_rules.specs.Leaves.{table_leaves};
 ghost use Rattle.process_rules.specs.Callees.{process_named, IsNoProcess, NamesNone, NamesNoProcess, called};
 ghost use Rattle.process_rules.specs.Callees.{callee_input, callee_output, IsFitting, IsMisfit, HasMisfitBy, HasMisfit};
+ghost use Rattle.process_rules.specs.Callees.{AreAlike, OrBefore};
 ghost use Rattle.process_rules.specs.Calling.{callee_meant};
 ghost use Rattle.process_rules.specs.Imports.{IsIndexed};
 ghost use Rattle.process_rules.specs.Knowing.{IsKnowing};
+ghost use Rattle.process_rules.specs.Seen.{AreMatches, AreSeen, template_inputs, template_outputs};
 ghost use Rattle.text_graphs.specs.Graphs.{graph_at};
 ghost use Rattle.text_graphs.specs.Places.{IsLeastOf, AnyAt};
 
 use crate::alike::are_alike;
 use crate::people::{Callee, Known};
-use flow_model::{ActivityTree, Leaves, NameAt, WorkTree};
+use crate::seen::{Matches, Seen, is_like_template};
+use flow_model::{ActivityTree, NameAt, WorkTree};
 use leaf_rules::LeafTable;
+use std::alloc::{AllocError, Global};
 use text_graphs::{Scope, lesser};
 
 /// The name of the process that an activity runs; None of other activities.
@@ -81,46 +84,72 @@ fn called<'a>(known: &Known<'a>, process: u32, work: &'a WorkTree) -> Option<Cal
     }
 }
 
-/// The leaves of the input of a process.
-fn callee_input<'t, 'a>(
-    known: &'t Known<'a>,
-    table: &'t LeafTable<'a>,
+/// Whether two structures of the text have the same leaves.
+fn is_like<'a>(table: &LeafTable<'a>, ours: &'a NameAt, theirs: &'a NameAt) -> bool
+    ensures { Decides result (AreAlike (table_leaves table.now ours.now.name)
+        (table_leaves table.now theirs.now.name)) }
+{
+    if table.are_alike(ours, theirs) {
+        return true;
+    }
+    are_alike(table.plain(ours), table.plain(theirs))
+}
+
+/// Whether the input of an activity is like that of a process.
+fn input_fits<'a>(
+    known: &Known<'a>,
+    table: &LeafTable<'a>,
+    matches: &mut Matches<'a>,
+    input: &'a NameAt,
     callee: Callee,
-) -> Option<&'t Leaves>
-    ensures { option_map (λ l. l.now.leaves) result
-        ≡ callee_input (table_leaves table.now) known.now.catalog.now.library
-        (map (λ p. p.now) known.now.processes.items) callee }
+) -> Result<bool, AllocError>
+    ensures kept { OnOk result (AreMatches (table_leaves table.now) (template_inputs known.now.catalog.now.library)
+        matches.old → AreMatches (table_leaves table.now) (template_inputs known.now.catalog.now.library) matches.new) }
+    ensures fits { IfOk result (λ fits. AreMatches (table_leaves table.now)
+        (template_inputs known.now.catalog.now.library) matches.old
+        → Decides fits (AreAlike (table_leaves table.now input.now.name)
+        (callee_input (table_leaves table.now) known.now.catalog.now.library
+        (map (λ p. p.now) known.now.processes.items) callee))) }
 {
     match callee {
         Callee::Text(number) => match known.process(number) {
-            None => None,
-            Some(process) => table.plain(&process.input),
+            None => Ok(false),
+            Some(process) => Ok(is_like(table, input, &process.input)),
         },
         Callee::Library(place) => match known.catalog().template(place) {
-            None => None,
-            Some(template) => Some(&template.graph.input),
+            None => Ok(false),
+            Some(template) => is_like_template(table, matches, place, input, &template.graph.input),
         },
     }
 }
 
-/// The leaves of its output.
-fn callee_output<'t, 'a>(
-    known: &'t Known<'a>,
-    table: &'t LeafTable<'a>,
+/// Whether its output is.
+fn output_fits<'a>(
+    known: &Known<'a>,
+    table: &LeafTable<'a>,
+    matches: &mut Matches<'a>,
+    output: &'a NameAt,
     callee: Callee,
-) -> Option<&'t Leaves>
-    ensures { option_map (λ l. l.now.leaves) result
-        ≡ callee_output (table_leaves table.now) known.now.catalog.now.library
-        (map (λ p. p.now) known.now.processes.items) callee }
+) -> Result<bool, AllocError>
+    ensures kept { OnOk result (AreMatches (table_leaves table.now) (template_outputs known.now.catalog.now.library)
+        matches.old
+        → AreMatches (table_leaves table.now) (template_outputs known.now.catalog.now.library) matches.new) }
+    ensures fits { IfOk result (λ fits. AreMatches (table_leaves table.now)
+        (template_outputs known.now.catalog.now.library) matches.old
+        → Decides fits (AreAlike (table_leaves table.now output.now.name)
+        (callee_output (table_leaves table.now) known.now.catalog.now.library
+        (map (λ p. p.now) known.now.processes.items) callee))) }
 {
     match callee {
         Callee::Text(number) => match known.process(number) {
-            None => None,
-            Some(process) => table.plain(&process.output),
+            None => Ok(false),
+            Some(process) => Ok(is_like(table, output, &process.output)),
         },
         Callee::Library(place) => match known.catalog().template(place) {
-            None => None,
-            Some(template) => Some(&template.graph.output),
+            None => Ok(false),
+            Some(template) => {
+                is_like_template(table, matches, place, output, &template.graph.output)
+            }
         },
     }
 }
@@ -129,77 +158,128 @@ fn callee_output<'t, 'a>(
 fn fits<'a>(
     known: &Known<'a>,
     table: &LeafTable<'a>,
+    seen: &mut Seen<'a>,
     activity: &'a ActivityTree,
     callee: Callee,
-) -> bool
-    ensures { Decides result (IsFitting (table_leaves table.now) known.now.catalog.now.library
-        (map (λ p. p.now) known.now.processes.items) activity.now callee) }
+) -> Result<bool, AllocError>
+    ensures seen { OnOk result (AreSeen (table_leaves table.now) known.now.catalog.now.library seen.old
+        → AreSeen (table_leaves table.now) known.now.catalog.now.library seen.new) }
+    ensures fits { IfOk result (λ fits. AreSeen (table_leaves table.now) known.now.catalog.now.library seen.old
+        → Decides fits (IsFitting (table_leaves table.now) known.now.catalog.now.library
+        (map (λ p. p.now) known.now.processes.items) activity.now callee)) }
 {
-    let input = table.plain(&activity.input);
-    let output = table.plain(&activity.output);
-    are_alike(input, callee_input(known, table, callee))
-        && are_alike(output, callee_output(known, table, callee))
+    if !input_fits(known, table, &mut seen.inputs, &activity.input, callee)? {
+        return Ok(false);
+    }
+    output_fits(known, table, &mut seen.outputs, &activity.output, callee)
 }
 
-/// The place of an activity whose containers aren't like those of the process that it runs.
+/// Whether a place is before the least so far, if there is one.
+fn is_lesser(place: u32, least: Option<u32>) -> bool
+    ensures { Decides result ((other : ℕ) → least ≡ Some other → place < other) }
+{
+    match least {
+        None => true,
+        Some(other) => place < other,
+    }
+}
+
+/// The least place so far, or that of an activity whose containers aren't like those of a process. Only what may
+/// change the least place is compared.
+fn misfit_of<'a>(
+    known: &Known<'a>,
+    table: &LeafTable<'a>,
+    seen: &mut Seen<'a>,
+    activity: &'a ActivityTree,
+    callee: Callee,
+    least: Option<u32>,
+) -> Result<Option<u32>, AllocError>
+    ensures seen { OnOk result (AreSeen (table_leaves table.now) known.now.catalog.now.library seen.old
+        → AreSeen (table_leaves table.now) known.now.catalog.now.library seen.new) }
+    ensures least { IfOk result (λ found. AreSeen (table_leaves table.now) known.now.catalog.now.library seen.old
+        → IsLeastOf (OrBefore least (IsMisfit (table_leaves table.now) known.now.catalog.now.library
+        (map (λ p. p.now) known.now.processes.items) activity.now (Some callee))) found) }
+{
+    if !is_lesser(activity.place, least) {
+        return Ok(least);
+    }
+    if fits(known, table, seen, activity, callee)? {
+        Ok(least)
+    } else {
+        Ok(Some(activity.place))
+    }
+}
+
+/// The same of what an activity runs, if it runs a process.
 fn misfit<'a>(
     known: &Known<'a>,
     table: &LeafTable<'a>,
+    seen: &mut Seen<'a>,
     process: u32,
     activity: &'a ActivityTree,
-) -> Option<u32>
-    ensures { IsLeastOf (IsMisfit (table_leaves table.now) known.now.catalog.now.library
+    least: Option<u32>,
+) -> Result<Option<u32>, AllocError>
+    ensures seen { OnOk result (AreSeen (table_leaves table.now) known.now.catalog.now.library seen.old
+        → AreSeen (table_leaves table.now) known.now.catalog.now.library seen.new) }
+    ensures least { IfOk result (λ found. AreSeen (table_leaves table.now) known.now.catalog.now.library seen.old
+        → IsLeastOf (OrBefore least (IsMisfit (table_leaves table.now) known.now.catalog.now.library
         (map (λ p. p.now) known.now.processes.items) activity.now
-        (called (callee_meant known.now) process activity.now.work)) result }
+        (called (callee_meant known.now) process activity.now.work))) found) }
 {
     match called(known, process, &activity.work) {
-        None => None,
-        Some(callee) => {
-            if fits(known, table, activity, callee) {
-                None
-            } else {
-                Some(activity.place)
-            }
-        }
+        None => Ok(least),
+        Some(callee) => misfit_of(known, table, seen, activity, callee, least),
     }
 }
 
-fn misfit_in_graph<'a>(known: &Known<'a>, table: &LeafTable<'a>, scope: &Scope<'a>) -> Option<u32>
-    ensures { IsLeastOf (HasMisfitBy (callee_meant known.now) (table_leaves table.now) known.now.catalog.now.library
-        (map (λ p. p.now) known.now.processes.items) (graph_at scope.now)) result }
+fn misfit_in_graph<'a>(
+    known: &Known<'a>,
+    table: &LeafTable<'a>,
+    seen: &mut Seen<'a>,
+    scope: &Scope<'a>,
+    least: Option<u32>,
+) -> Result<Option<u32>, AllocError>
+    ensures seen { OnOk result (AreSeen (table_leaves table.now) known.now.catalog.now.library seen.old
+        → AreSeen (table_leaves table.now) known.now.catalog.now.library seen.new) }
+    ensures least { IfOk result (λ found. AreSeen (table_leaves table.now) known.now.catalog.now.library seen.old
+        → IsLeastOf (OrBefore least (HasMisfitBy (callee_meant known.now) (table_leaves table.now)
+        known.now.catalog.now.library (map (λ p. p.now) known.now.processes.items) (graph_at scope.now))) found) }
 {
-    let mut least = None;
+    let mut found = least;
     for activity in &scope.activities {
-        least = lesser(least, misfit(known, table, scope.process, activity));
+        found = misfit(known, table, seen, scope.process, activity, found)?;
     }
-    least
+    Ok(found)
 }
 
 fn misfit_in_graphs<'a>(
+    alloc: Global,
     known: &Known<'a>,
     table: &LeafTable<'a>,
     scopes: &[Scope<'a>],
-) -> Option<u32>
-    ensures { IsLeastOf (AnyAt (λ s. HasMisfitBy (callee_meant known.now)
+) -> Result<Option<u32>, AllocError>
+    ensures { IfOk result (IsLeastOf (AnyAt (λ s. HasMisfitBy (callee_meant known.now)
         (table_leaves table.now) known.now.catalog.now.library (map (λ p. p.now) known.now.processes.items)
-        (graph_at s)) scopes.now) result }
+        (graph_at s)) scopes.now)) }
 {
-    let mut least = None;
+    let mut seen = Seen::new(alloc);
+    let mut found = None;
     for scope in scopes {
-        least = lesser(least, misfit_in_graph(known, table, scope));
+        found = misfit_in_graph(known, table, &mut seen, scope, found)?;
     }
-    least
+    Ok(found)
 }
 
 /// Rule 18: the leaves of a process activity's containers and of the process's differ.
 pub fn mismatched_containers<'a>(
+    alloc: Global,
     known: &Known<'a>,
     table: &LeafTable<'a>,
     scopes: &[Scope<'a>],
-) -> Option<u32>
+) -> Result<Option<u32>, AllocError>
     ensures { (processes : List ProcessTree) → IsKnowing known.now processes → IsIndexed known.now.catalog.now
-        → IsLeastOf (AnyAt (λ s. HasMisfit (table_leaves table.now) known.now.catalog.now.library processes
-        (graph_at s)) scopes.now) result }
+        → IfOk result (IsLeastOf (AnyAt (λ s. HasMisfit (table_leaves table.now) known.now.catalog.now.library processes
+        (graph_at s)) scopes.now)) }
 {
-    misfit_in_graphs(known, table, scopes)
+    misfit_in_graphs(alloc, known, table, scopes)
 }

@@ -11,6 +11,7 @@ mod doers;
 mod numbers;
 mod people;
 mod said;
+mod seen;
 mod sizes;
 
 pub use callees::{mismatched_containers, unknown_processes};

@@ -189,7 +189,7 @@ fn called_and_built<'a>(
         (λ judged. IsFirstBroken (from_callees earlier.now.library tree.now.items) (fault_in judged)) }
 {
     let known = Known::new(alloc, tree, earlier)?;
-    if let Some(fault) = first_of_callees(&known, tree, &table, scopes) {
+    if let Some(fault) = first_of_callees(alloc, &known, tree, &table, scopes)? {
         return Ok(Err(fault));
     }
     if let Some(fault) = first_of_people(alloc, &known, tree, scopes)? {

@@ -144,24 +144,25 @@ pub fn first_of_lines(
 
 /// Rules 17 and 18.
 pub fn first_of_callees<'a>(
+    alloc: Global,
     known: &Known<'a>,
     tree: &Tree,
     table: &LeafTable<'a>,
     scopes: &[Scope<'a>],
-) -> Broken
+) -> Result<Broken, AllocError>
     requires graphs { AreGraphsOf tree.now.items (graphs_in scopes.now) }
     requires leaves { All (λ s. HasContainers (leaves_in (structures_in tree.now.items)) (table_leaves table.now)
         (graph_at s)) scopes.now }
     requires knowing { IsKnowing known.now (processes_in tree.now.items) }
-    ensures { IsIndexed known.now.catalog.now → IsFirstBroken
-        (rules_on_callees known.now.catalog.now.library tree.now.items) result }
+    ensures { IsIndexed known.now.catalog.now
+        → IfOk result (IsFirstBroken (rules_on_callees known.now.catalog.now.library tree.now.items)) }
 {
     if let Some(place) = unknown_processes(known, scopes) {
-        return Some((17, place));
+        return Ok(Some((17, place)));
     }
-    match mismatched_containers(known, table, scopes) {
-        Some(place) => Some((18, place)),
-        None => None,
+    match mismatched_containers(alloc, known, table, scopes)? {
+        Some(place) => Ok(Some((18, place))),
+        None => Ok(None),
     }
 }
 

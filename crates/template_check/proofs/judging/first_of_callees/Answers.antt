@@ -5,7 +5,7 @@ use Rattle.process_rules.specs.Callees.{NamesNoProcess}
 use Rattle.text_graphs.specs.Texts.{processes_in, structures_in}
 use Rattle.template_check.proofs.Fitting.{misfits_found}
 use Rattle.template_check.proofs.InText.{in_text}
-use Rattle.template_check.proofs.Passing.{none_found}
+use Rattle.template_check.proofs.Passing.{none_found, none_is, some_found}
 use Rattle.template_check.proofs.judging.first_of_callees.Goals as goal
 
 pub returns-in-Some : goal.returns-in-Some
@@ -15,17 +15,17 @@ returns-in-Some c = λ indexed.
     let h = in_text items c.args.scopes.now c.requires.graphs (NamesNoProcess c.args.known.now.catalog.now.library (processes_in items)) (Some p) (c.in-Some.ensures (processes_in items) c.requires.knowing indexed) in
     inl (p, refl, h.0, h.1)
 
-pub returns-in-Some-mismatched_containers : goal.returns-in-Some-mismatched_containers
-returns-in-Some-mismatched_containers c = λ indexed.
+pub returns-in-Some-2 : goal.returns-in-Some-2
+returns-in-Some-2 c = λ indexed.
     let items = c.args.tree.now.items in
     let library = c.args.known.now.catalog.now.library in
     let none =
     in_text items c.args.scopes.now c.requires.graphs (NamesNoProcess library (processes_in items)) None
     (none_found _ c.unknown_processes.result c.in_default.not-Some (c.unknown_processes.ensures (processes_in items) c.requires.knowing indexed)) in
-    let p = c.in-Some-mismatched_containers.place in
+    let p = c.in-Some-2.place in
     let h =
     misfits_found items c.args.scopes.now c.requires.graphs (leaves_in (structures_in items)) (table_leaves c.args.table.now) c.requires.leaves library (Some p)
-    (c.in-Some-mismatched_containers.ensures (processes_in items) c.requires.knowing indexed) in
+    (some_found _ c.in_ok-place.field-0 p c.in-Some-2.is (c.in_ok-place.ensures (processes_in items) c.requires.knowing indexed)) in
     inr (none, inl (p, refl, h.0, h.1))
 
 pub returns-in-None : goal.returns-in-None
@@ -37,5 +37,5 @@ returns-in-None c = λ indexed.
     (none_found _ c.unknown_processes.result c.in_default.not-Some (c.unknown_processes.ensures (processes_in items) c.requires.knowing indexed)) in
     let none' =
     misfits_found items c.args.scopes.now c.requires.graphs (leaves_in (structures_in items)) (table_leaves c.args.table.now) c.requires.leaves library None
-    (c.in-None.ensures (processes_in items) c.requires.knowing indexed) in
+    (none_is _ c.in_ok-place.field-0 c.in-None.is (c.in_ok-place.ensures (processes_in items) c.requires.knowing indexed)) in
     inr (none, inr (none', refl))
