@@ -1,9 +1,9 @@
 -- The completions of a scope, by the attempts that they lead to.
-use Rattle.std.specs.Prelude.{◌≡◌, ℕ, ◌==◌, ◌&&◌, bytes_eq, if◌then◌else◌, List, [], ◌∷◌, ◌++◌}
+use Rattle.std.specs.Prelude.{◌≡◌, ℕ, ◌==◌, ◌&&◌, bytes_eq, List, [], ◌∷◌}
 use Rattle.std.specs.Borrow.{Bor}
 use Rattle.std.specs.Global.{Vec}
 use Rattle.std.specs.HashMap.{HashMap, get_by}
-use Rattle.std.specs.Option.{option_map_or}
+use Rattle.std.specs.Option.{option_map_or, option_or}
 use Rattle.flow_model.specs.declared.instances.Part.{Part}
 use Rattle.fate_eval.specs.Entries.{dated_in}
 use Rattle.fate_eval.specs.declared.accepted.Entry.{Entry}
@@ -17,9 +17,14 @@ abbrev pub at_part : {S : Type 0} → HashMap Tried (Vec Entry) S → Part → L
 at_part groups q = option_map_or (λ group. group.items)
     (get_by (λ (k : Tried). bytes_eq q.name k.0.now && (q.attempt == k.1)) groups) []
 
--- one more completion of an attempt
-abbrev pub with_entry : Tried → Entry → (Part → List Entry) → Part → List Entry
-with_entry k e before q = if bytes_eq k.0.now q.name && (k.1 == q.attempt) then before q ++ e ∷ [] else before q
+-- a completion leads to this attempt, or below it
+abbrev pub LeadsBelow : Part → Entry → Type 0
+LeadsBelow q e = (rest : List Part) × (e.parts.now ≡ q ∷ rest)
+
+-- completions of the scope came to those that the attempts had
+abbrev pub AreGathered : {S : Type 0} → HashMap Tried (Vec Entry) S → List Entry → HashMap Tried (Vec Entry) S → Type 0
+AreGathered old es new = (q : Part) (p : List Part)
+    → dated_in (at_part new q) p ≡ option_or (dated_in (at_part old q) p) (dated_in es (q ∷ p))
 
 -- each attempt has the completions of the scope that lead to it, with what is below it
 abbrev pub AreByAttempt : {S : Type 0} → HashMap Tried (Vec Entry) S → List Entry → Type 0

@@ -1,12 +1,13 @@
 //! The accepted completions, seen from a scope.
-ghost use Rattle.std.specs.Prelude.{◌≡◌, ◌∷◌, [], List, IfOk, OnOk};
+ghost use Rattle.std.specs.Prelude.{◌≡◌, ◌<◌, ◌≤◌, ◌∷◌, [], List, length, take, true, IfOk, OnOk};
+ghost use Rattle.std.specs.List.{All};
 ghost use Rattle.std.specs.Option.{option_copied, option_map, option_map_or, option_or};
 ghost use Rattle.std.specs.Global.{Vec as VecOf};
 ghost use Rattle.fate_eval.specs.declared.accepted.Entry.{Entry as EntryOf};
 ghost use Rattle.flow_model.specs.Scopes.{part};
 ghost use Rattle.flow_model.specs.declared.instances.Part.{Part as PartOf};
 ghost use Rattle.fate_eval.specs.Entries.{dated, dated_in, dated_from};
-ghost use Rattle.fate_eval.specs.Grouped.{at_part, with_entry, AreByAttempt};
+ghost use Rattle.fate_eval.specs.Grouped.{at_part, AreGathered, AreByAttempt, LeadsBelow};
 
 use flow_model::{Container, Fact, Part};
 use indexmap::IndexMap;
@@ -41,53 +42,112 @@ pub fn entries_of<'a>(alloc: Global, facts: &'a [Fact]) -> Result<Vec<Entry<'a>>
     Ok(entries)
 }
 
-/// Adds a completion to those of an attempt.
-fn add_to<'a>(
-    alloc: Global,
-    groups: &mut Groups<'a>,
-    tried: Tried<'a>,
-    entry: Entry<'a>,
-) -> Result<(), AllocError>
-    ensures { OnOk result ((q : PartOf) → at_part groups.new q
-        ≡ with_entry tried.entry entry.entry (at_part groups.old) q) }
-{
-    if let Some(group) = groups.get_mut(&tried) {
-        group.push(entry)?;
-        return Ok(());
-    }
-    let mut group = Vec::new(alloc);
-    group.push(entry)?;
-    groups.insert(tried, group)?;
-    Ok(())
-}
-
-/// Adds a completion to those of the attempt that its path leads to.
-fn add<'a>(alloc: Global, groups: &mut Groups<'a>, entry: &Entry<'a>) -> Result<(), AllocError>
-    ensures { OnOk result ((q : PartOf) (p : List PartOf)
-        → dated_in (at_part groups.new q) p ≡ option_or (dated_in (at_part groups.old q) p)
-        (dated_in (entry.now ∷ []) (q ∷ p))) }
+/// Adds what a completion has below its first step.
+fn add_below<'a>(group: &mut Vec<Entry<'a>>, entry: &Entry<'a>) -> Result<(), AllocError>
+    ensures { OnOk result ((q : PartOf) → LeadsBelow q entry.now → (p : List PartOf)
+        → dated_in group.new.items p ≡ option_or (dated_in group.old.items p) (dated_in (entry.now ∷ []) (q ∷ p))) }
 {
     match entry.parts {
         [] => Ok(()),
-        [first, rest @ ..] => {
-            let tried = (first.name.as_slice(), first.attempt);
-            let inner = Entry {
+        [_, rest @ ..] => {
+            group.push(Entry {
                 parts: rest,
                 output: entry.output,
                 after: entry.after,
-            };
-            add_to(alloc, groups, tried, inner)
+            })?;
+            Ok(())
         }
     }
 }
 
-/// The completions of a scope, by the attempts that they lead to.
+/// Adds what completions of one attempt have below their first step.
+fn extend<'a>(group: &mut Vec<Entry<'a>>, run: &[Entry<'a>]) -> Result<(), AllocError>
+    ensures { OnOk result ((q : PartOf) → All (LeadsBelow q) run.now → (p : List PartOf)
+        → dated_in group.new.items p ≡ option_or (dated_in group.old.items p) (dated_in run.now (q ∷ p))) }
+{
+    for entry in run {
+        add_below(group, entry)?;
+    }
+    Ok(())
+}
+
+/// Adds completions of one attempt to those that it has.
+fn add_run<'a>(
+    alloc: Global,
+    groups: &mut Groups<'a>,
+    part: &'a Part,
+    run: &[Entry<'a>],
+) -> Result<(), AllocError>
+    ensures { OnOk result (All (LeadsBelow part.now) run.now → AreGathered groups.old run.now groups.new) }
+{
+    let tried = (part.name.as_slice(), part.attempt);
+    if let Some(group) = groups.get_mut(&tried) {
+        extend(group, run)?;
+        return Ok(());
+    }
+    let mut group = Vec::with_capacity(alloc, run.len())?;
+    extend(&mut group, run)?;
+    groups.insert(tried, group)?;
+    Ok(())
+}
+
+/// Whether a completion leads to an attempt, or below it.
+fn leads_to(entry: &Entry<'_>, part: &Part) -> bool
+    ensures { result ≡ true → LeadsBelow part.now entry.now }
+{
+    match entry.parts {
+        [] => false,
+        [first, ..] => {
+            first.name.as_slice() == part.name.as_slice() && first.attempt == part.attempt
+        }
+    }
+}
+
+/// How many completions in front lead to an attempt.
+fn run_len(entries: &[Entry<'_>], part: &Part) -> usize
+    ensures within { result ≤ length entries.now }
+    ensures run { All (LeadsBelow part.now) (take result entries.now) }
+{
+    for (i, entry) in entries.iter().enumerate() {
+        if !leads_to(entry, part) {
+            return i;
+        }
+    }
+    entries.len()
+}
+
+/// Adds the completions in front that lead to the same attempt as the first, and answers how many they are.
+fn add_front<'a>(
+    alloc: Global,
+    groups: &mut Groups<'a>,
+    entries: &[Entry<'a>],
+) -> Result<usize, AllocError>
+    ensures within { IfOk result (λ n. n ≤ length entries.now) }
+    ensures some { 0 < length entries.now → IfOk result (λ n. 0 < n) }
+    ensures added { IfOk result (λ n. AreGathered groups.old (take n entries.now) groups.new) }
+{
+    match entries {
+        [] => Ok(0),
+        [first, behind @ ..] => match first.parts {
+            [] => Ok(1),
+            [part, ..] => {
+                let count = run_len(behind, part) + 1;
+                add_run(alloc, groups, part, &entries[..count])?;
+                Ok(count)
+            }
+        },
+    }
+}
+
+/// The completions of a scope, by the attempts that they lead to. Those of one attempt mostly come one behind the
+/// other, and it is looked up once for all of them.
 pub fn groups_of<'a>(alloc: Global, entries: &[Entry<'a>]) -> Result<Groups<'a>, AllocError>
     ensures { IfOk result (λ groups. AreByAttempt groups entries.now) }
 {
     let mut groups = IndexMap::new(alloc);
-    for entry in entries {
-        add(alloc, &mut groups, entry)?;
+    let mut done = 0;
+    while done < entries.len() {
+        done += add_front(alloc, &mut groups, &entries[done..])?;
     }
     Ok(groups)
 }

@@ -94,9 +94,9 @@ struct Scope<'a> {
     path: Path,
     input: Container,
     since: u64,
-    entries: Vec<Entry<'a>>,
+    entries: &'a [Entry<'a>],
     groups: Groups<'a>,
-    ghost grouped: { AreByAttempt groups entries.items },
+    ghost grouped: { AreByAttempt groups entries.now },
 }
 
 impl Drop for Scope<'_> {
@@ -193,12 +193,12 @@ fn program_attempt<'a>(
     attempt: u64,
     since: u64,
 ) -> Result<Attempt, AllocError>
-    ensures exact { IfOk result (λ r. (r.output ≡ output_in scope.now.entries.items
+    ensures exact { IfOk result (λ r. (r.output ≡ output_in scope.now.entries.now
         (part activity.now.name attempt ∷ [])) × (r.rows.items ≡ [])) }
     ensures timely { IfOk result (λ r. IsTimelyProgram
-        (dated_in scope.now.entries.items (part activity.now.name attempt ∷ [])) since r.output r.after r.ready.items) }
+        (dated_in scope.now.entries.now (part activity.now.name attempt ∷ [])) since r.output r.after r.ready.items) }
     ensures whole { IfOk result (λ r. IsWholeProgram
-        (dated_in scope.now.entries.items (part activity.now.name attempt ∷ [])) since r.output r.after r.ready.items) }
+        (dated_in scope.now.entries.now (part activity.now.name attempt ∷ [])) since r.output r.after r.ready.items) }
 {
     let name = activity.name.as_slice();
     match completion(entries_at(&scope.groups, name, attempt)) {
@@ -237,16 +237,16 @@ fn scope_attempt<'a>(
     ensures exact { Laid root.now.library.now.templates depth graph.now
         → IfOk result (λ r. (r.output ≡ option_map with_code
         (output_of_scope root.now.library.now.templates (depth + 1)
-        (at (part activity.now.name attempt) (known_in root.now.most scope.now.entries.items)) graph.now input.now))
+        (at (part activity.now.name attempt) (known_in root.now.most scope.now.entries.now)) graph.now input.now))
         × (r.rows.items ≡ rows_in root.now.library.now.templates depth
-        (at (part activity.now.name attempt) (known_in root.now.most scope.now.entries.items)) graph.now input.now
+        (at (part activity.now.name attempt) (known_in root.now.most scope.now.entries.now)) graph.now input.now
         (path_below scope.now.path (part activity.now.name attempt)))) }
     ensures timely { Laid root.now.library.now.templates depth graph.now
-        → IfOk result (λ r. IsTimelyScope root.now.library.now.templates depth root.now.most scope.now.entries.items
+        → IfOk result (λ r. IsTimelyScope root.now.library.now.templates depth root.now.most scope.now.entries.now
         scope.now.path (part activity.now.name attempt) graph.now input.now since r.output r.after r.ready.items) }
     ensures whole { Laid root.now.library.now.templates depth graph.now
         → Well root.now.library.now.templates depth graph.now
-        → IfOk result (λ r. IsWholeScope root.now.library.now.templates depth root.now.most scope.now.entries.items
+        → IfOk result (λ r. IsWholeScope root.now.library.now.templates depth root.now.most scope.now.entries.now
         scope.now.path (part activity.now.name attempt) graph.now input.now since r.output r.after r.ready.items) }
 {
     let found = entries_at(&scope.groups, activity.name.as_slice(), attempt);
@@ -255,7 +255,7 @@ fn scope_attempt<'a>(
         path: path_of(root.alloc, &scope.path, activity, attempt)?,
         input: input.copy(root.alloc)?,
         since,
-        entries: Vec::from_slice(root.alloc, found)?,
+        entries: found,
         groups: groups_of(root.alloc, found)?,
     };
     let Passed {
@@ -285,15 +285,15 @@ fn nested_attempt<'a>(
 ) -> Result<Attempt, AllocError>
     ensures exact { OfInside root.now.library.now.templates (LaidBelow root.now.library.now.templates depth)
         (Some activity.now) → IfOk result (λ r. IsScopeAttempt root.now.library.now.templates depth
-        (known_in root.now.most scope.now.entries.items) scope.now.path activity.now attempt input.now r.output
+        (known_in root.now.most scope.now.entries.now) scope.now.path activity.now attempt input.now r.output
         r.rows.items) }
     ensures timely { OfInside root.now.library.now.templates (LaidBelow root.now.library.now.templates depth)
         (Some activity.now) → IfOk result (λ r. IsTimelyAttempt root.now.library.now.templates depth root.now.most
-        scope.now.entries.items scope.now.path activity.now attempt input.now since r.output r.after r.ready.items) }
+        scope.now.entries.now scope.now.path activity.now attempt input.now since r.output r.after r.ready.items) }
     ensures whole { IsNested activity.now.work → OfInside root.now.library.now.templates
         (LaidBelow root.now.library.now.templates depth) (Some activity.now)
         → OfInside root.now.library.now.templates (WellBelow root.now.library.now.templates depth) (Some activity.now)
-        → IfOk result (λ r. IsWholeAttempt root.now.library.now.templates depth root.now.most scope.now.entries.items
+        → IfOk result (λ r. IsWholeAttempt root.now.library.now.templates depth root.now.most scope.now.entries.now
         scope.now.path activity.now attempt input.now since r.output r.after r.ready.items) }
 {
     match graph_of(root.library, &activity.work) {
@@ -329,15 +329,15 @@ fn attempt_of<'a>(
 ) -> Result<Attempt, AllocError>
     ensures exact { OfInside root.now.library.now.templates (LaidBelow root.now.library.now.templates depth)
         (Some activity.now) → IfOk result (λ r. IsAttempt root.now.library.now.templates depth
-        (known_in root.now.most scope.now.entries.items) scope.now.path activity.now attempt input.now r.output
+        (known_in root.now.most scope.now.entries.now) scope.now.path activity.now attempt input.now r.output
         r.rows.items) }
     ensures timely { OfInside root.now.library.now.templates (LaidBelow root.now.library.now.templates depth)
         (Some activity.now) → IfOk result (λ r. IsTimelyAttempt root.now.library.now.templates depth root.now.most
-        scope.now.entries.items scope.now.path activity.now attempt input.now since r.output r.after r.ready.items) }
+        scope.now.entries.now scope.now.path activity.now attempt input.now since r.output r.after r.ready.items) }
     ensures whole { OfInside root.now.library.now.templates (LaidBelow root.now.library.now.templates depth)
         (Some activity.now) → OfInside root.now.library.now.templates (WellBelow root.now.library.now.templates depth)
         (Some activity.now) → IfOk result (λ r. IsWholeAttempt root.now.library.now.templates depth root.now.most
-        scope.now.entries.items scope.now.path activity.now attempt input.now since r.output r.after r.ready.items) }
+        scope.now.entries.now scope.now.path activity.now attempt input.now since r.output r.after r.ready.items) }
 {
     match &activity.work {
         Work::Program(_) => { program_attempt(root.alloc, scope, activity, attempt, since) }
@@ -385,16 +385,16 @@ fn last_attempt<'a>(
 ) -> Result<Attempts, AllocError>
     ensures exact { OfInside root.now.library.now.templates (LaidBelow root.now.library.now.templates depth)
         (Some activity.now) → IfOk result (λ r. IsLast root.now.library.now.templates depth
-        (known_in root.now.most scope.now.entries.items) scope.now.path activity.now
+        (known_in root.now.most scope.now.entries.now) scope.now.path activity.now
         (root.now.most + 1) input.now before.rows.items r.fate r.end r.rows.items) }
     ensures timely { OfInside root.now.library.now.templates (LaidBelow root.now.library.now.templates depth)
         (Some activity.now) → IfOk result (λ r. IsTimelyLast root.now.library.now.templates depth root.now.most
-        scope.now.entries.items scope.now.path activity.now
+        scope.now.entries.now scope.now.path activity.now
         (root.now.most + 1) input.now since before.ready.items r.end r.ready.items) }
     ensures whole { OfInside root.now.library.now.templates (LaidBelow root.now.library.now.templates depth)
         (Some activity.now) → OfInside root.now.library.now.templates (WellBelow root.now.library.now.templates depth)
         (Some activity.now) → IfOk result (λ r. IsWholeLast root.now.library.now.templates depth root.now.most
-        scope.now.entries.items scope.now.path activity.now
+        scope.now.entries.now scope.now.path activity.now
         (root.now.most + 1) input.now since before.ready.items r.ready.items) }
 {
     let number = root.most + 1;
@@ -434,16 +434,16 @@ fn attempts_from<'a>(
     ensures exact { IsLooping scope.now.graph.now → OfInside root.now.library.now.templates
         (LaidBelow root.now.library.now.templates depth) (Some activity.now)
         → IfOk result (λ r. AreAttempts root.now.library.now.templates depth
-        (known_in root.now.most scope.now.entries.items) scope.now.graph.now scope.now.path place activity.now base.now
+        (known_in root.now.most scope.now.entries.now) scope.now.graph.now scope.now.path place activity.now base.now
         r.fate r.end r.rows.items) }
     ensures timely { IsLooping scope.now.graph.now
         → OfInside root.now.library.now.templates (LaidBelow root.now.library.now.templates depth) (Some activity.now)
-        → IfOk result (λ r. AreTimely root.now.library.now.templates depth root.now.most scope.now.entries.items
+        → IfOk result (λ r. AreTimely root.now.library.now.templates depth root.now.most scope.now.entries.now
         scope.now.graph.now scope.now.path place activity.now base.now since r.end r.after r.ready.items) }
     ensures whole { IsLooping scope.now.graph.now → OfInside root.now.library.now.templates
         (LaidBelow root.now.library.now.templates depth) (Some activity.now)
         → OfInside root.now.library.now.templates (WellBelow root.now.library.now.templates depth) (Some activity.now)
-        → IfOk result (λ r. AreWhole root.now.library.now.templates depth root.now.most scope.now.entries.items
+        → IfOk result (λ r. AreWhole root.now.library.now.templates depth root.now.most scope.now.entries.now
         scope.now.graph.now scope.now.path place activity.now base.now since r.end r.after r.ready.items) }
 {
     let alloc = root.alloc;
@@ -508,17 +508,17 @@ fn open_activity<'a>(
     ensures exact { IsLaid scope.now.graph.now → OfInside root.now.library.now.templates
         (LaidBelow root.now.library.now.templates depth) (Some activity.now)
         → IfOk result (λ r. IsOpen root.now.library.now.templates depth
-        (known_in root.now.most scope.now.entries.items) scope.now.graph.now scope.now.input scope.now.path
+        (known_in root.now.most scope.now.entries.now) scope.now.graph.now scope.now.input scope.now.path
         (ends_of ends.now) place activity.now r.fate r.end r.rows.items) }
     ensures timely { IsLaid scope.now.graph.now → OfInside root.now.library.now.templates
         (LaidBelow root.now.library.now.templates depth) (Some activity.now)
-        → IfOk result (λ r. IsTimelyOpen root.now.library.now.templates depth root.now.most scope.now.entries.items
+        → IfOk result (λ r. IsTimelyOpen root.now.library.now.templates depth root.now.most scope.now.entries.now
         scope.now.graph.now scope.now.input scope.now.path ends.now afters.now place activity.now since r.end r.after
         r.ready.items) }
     ensures whole { IsLaid scope.now.graph.now → OfInside root.now.library.now.templates
         (LaidBelow root.now.library.now.templates depth) (Some activity.now)
         → OfInside root.now.library.now.templates (WellBelow root.now.library.now.templates depth) (Some activity.now)
-        → IfOk result (λ r. IsWholeOpen root.now.library.now.templates depth root.now.most scope.now.entries.items
+        → IfOk result (λ r. IsWholeOpen root.now.library.now.templates depth root.now.most scope.now.entries.now
         scope.now.graph.now scope.now.input scope.now.path ends.now afters.now place activity.now since r.end r.after
         r.ready.items) }
 {
@@ -579,17 +579,17 @@ fn activity<'a>(
     ensures exact { IsLaid scope.now.graph.now → OfInside root.now.library.now.templates
         (LaidBelow root.now.library.now.templates depth) (Some activity.now)
         → IfOk result (λ f. IsFound root.now.library.now.templates depth
-        (known_in root.now.most scope.now.entries.items) scope.now.graph.now scope.now.input scope.now.path
+        (known_in root.now.most scope.now.entries.now) scope.now.graph.now scope.now.input scope.now.path
         (ends_of ends.now) place (Some activity.now) f.end f.rows.items) }
     ensures timely { IsLaid scope.now.graph.now → OfInside root.now.library.now.templates
         (LaidBelow root.now.library.now.templates depth) (Some activity.now)
-        → IfOk result (λ f. IsTimelyFound root.now.library.now.templates depth root.now.most scope.now.entries.items
+        → IfOk result (λ f. IsTimelyFound root.now.library.now.templates depth root.now.most scope.now.entries.now
         scope.now.graph.now scope.now.input scope.now.path scope.now.since ends.now afters.now place
         (Some activity.now) f.end f.after f.ready.items) }
     ensures whole { IsLaid scope.now.graph.now → OfInside root.now.library.now.templates
         (LaidBelow root.now.library.now.templates depth) (Some activity.now)
         → OfInside root.now.library.now.templates (WellBelow root.now.library.now.templates depth) (Some activity.now)
-        → IfOk result (λ f. IsWholeFound root.now.library.now.templates depth root.now.most scope.now.entries.items
+        → IfOk result (λ f. IsWholeFound root.now.library.now.templates depth root.now.most scope.now.entries.now
         scope.now.graph.now scope.now.input scope.now.path scope.now.since ends.now afters.now place
         (Some activity.now) f.end f.after f.ready.items) }
 {
@@ -624,15 +624,15 @@ fn found_at<'a>(
 ) -> Result<Found, AllocError>
     ensures exact { Laid root.now.library.now.templates depth scope.now.graph.now
         → IfOk result (λ f. IsFound root.now.library.now.templates depth
-        (known_in root.now.most scope.now.entries.items) scope.now.graph.now scope.now.input scope.now.path
+        (known_in root.now.most scope.now.entries.now) scope.now.graph.now scope.now.input scope.now.path
         (ends_of ends.now) place (slice_get (out-Graph scope.now.graph.now).activities place) f.end f.rows.items) }
     ensures timely { Laid root.now.library.now.templates depth scope.now.graph.now
-        → IfOk result (λ f. IsTimelyFound root.now.library.now.templates depth root.now.most scope.now.entries.items
+        → IfOk result (λ f. IsTimelyFound root.now.library.now.templates depth root.now.most scope.now.entries.now
         scope.now.graph.now scope.now.input scope.now.path scope.now.since ends.now afters.now place
         (slice_get (out-Graph scope.now.graph.now).activities place) f.end f.after f.ready.items) }
     ensures whole { Laid root.now.library.now.templates depth scope.now.graph.now
         → Well root.now.library.now.templates depth scope.now.graph.now
-        → IfOk result (λ f. IsWholeFound root.now.library.now.templates depth root.now.most scope.now.entries.items
+        → IfOk result (λ f. IsWholeFound root.now.library.now.templates depth root.now.most scope.now.entries.now
         scope.now.graph.now scope.now.input scope.now.path scope.now.since ends.now afters.now place
         (slice_get (out-Graph scope.now.graph.now).activities place) f.end f.after f.ready.items) }
 {
@@ -702,14 +702,14 @@ fn complete_output(
 fn pass<'a>(root: &Root<'a>, depth: u32, scope: &Scope<'a>) -> Result<Passed, AllocError>
     ensures exact { Laid root.now.library.now.templates depth scope.now.graph.now
         → IfOk result (λ r. IsPassed root.now.library.now.templates depth
-        (known_in root.now.most scope.now.entries.items) scope.now.graph.now scope.now.input scope.now.path r.output
+        (known_in root.now.most scope.now.entries.now) scope.now.graph.now scope.now.input scope.now.path r.output
         r.rows.items) }
     ensures timely { Laid root.now.library.now.templates depth scope.now.graph.now
-        → IfOk result (λ r. IsTimelyPass root.now.library.now.templates depth root.now.most scope.now.entries.items
+        → IfOk result (λ r. IsTimelyPass root.now.library.now.templates depth root.now.most scope.now.entries.now
         scope.now.graph.now scope.now.input scope.now.path scope.now.since r.output r.after r.ready.items) }
     ensures whole { Laid root.now.library.now.templates depth scope.now.graph.now
         → Well root.now.library.now.templates depth scope.now.graph.now
-        → IfOk result (λ r. IsWholePass root.now.library.now.templates depth root.now.most scope.now.entries.items
+        → IfOk result (λ r. IsWholePass root.now.library.now.templates depth root.now.most scope.now.entries.now
         scope.now.graph.now scope.now.input scope.now.path scope.now.since r.output r.after r.ready.items) }
 {
     let alloc = root.alloc;
@@ -736,6 +736,40 @@ fn pass<'a>(root: &Root<'a>, depth: u32, scope: &Scope<'a>) -> Result<Passed, Al
         after: complete_after(&afters, scope.since),
         ready,
     })
+}
+
+/// The pass over the scope of a root.
+fn root_pass<'a>(
+    root: &Root<'a>,
+    depth: u32,
+    graph: &'a Graph,
+    number: u64,
+    input: &Container,
+    entries: &'a [Entry<'a>],
+) -> Result<Passed, AllocError>
+    ensures exact { Laid root.now.library.now.templates depth graph.now
+        → IfOk result (λ r. IsPassed root.now.library.now.templates depth (known_in root.now.most entries.now) graph.now
+        input.now (record { root = number; parts = [] }) r.output r.rows.items) }
+    ensures timely { Laid root.now.library.now.templates depth graph.now
+        → IfOk result (λ r. IsTimelyPass root.now.library.now.templates depth root.now.most entries.now graph.now
+        input.now (record { root = number; parts = [] }) 0 r.output r.after r.ready.items) }
+    ensures whole { Laid root.now.library.now.templates depth graph.now
+        → Well root.now.library.now.templates depth graph.now
+        → IfOk result (λ r. IsWholePass root.now.library.now.templates depth root.now.most entries.now graph.now
+        input.now (record { root = number; parts = [] }) 0 r.output r.after r.ready.items) }
+{
+    let scope = Scope {
+        graph,
+        path: Path {
+            root: number,
+            parts: List::new(root.alloc),
+        },
+        input: input.copy(root.alloc)?,
+        since: 0,
+        entries,
+        groups: groups_of(root.alloc, entries)?,
+    };
+    pass(root, depth, &scope)
 }
 
 /// Marks the completion of a number.
@@ -797,19 +831,7 @@ fn root_fates(
         facts.now) }
 {
     let entries = entries_of(alloc, facts)?;
-    let groups = groups_of(alloc, &entries)?;
-    let scope = Scope {
-        graph,
-        path: Path {
-            root,
-            parts: List::new(alloc),
-        },
-        input: input.copy(alloc)?,
-        since: 0,
-        entries,
-        groups,
-    };
-    let root = Root {
+    let shared = Root {
         alloc,
         library,
         most: facts.len() as u64,
@@ -819,7 +841,7 @@ fn root_fates(
         output,
         after: _,
         ready,
-    } = pass(&root, depth, &scope)?;
+    } = root_pass(&shared, depth, graph, root, input, &entries)?;
     let marks = marked(alloc, &ready, facts.len())?;
     match first_unmarked(&marks) {
         Some(number) => Err(FateFault::NotReady(number)),

@@ -5,3 +5,4 @@ pub mod Gathering
 pub mod Limits
 pub mod Counting
 pub mod Writing
+pub mod Spelling

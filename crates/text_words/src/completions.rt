@@ -8,7 +8,7 @@ ghost use Rattle.text_words.specs.Completions.{SaysIt, SaysLine, SaysBehind, IsR
 
 use crate::counted::Counted;
 use crate::input::Numbered;
-use crate::paths::written_item;
+use crate::paths::{Recent, written_item};
 use blocks_subprocs::graph_of;
 use command_lang::{CommandFault, read_completion};
 use containers::{fresh, settings_of, with_settings};
@@ -37,6 +37,7 @@ pub struct Read {
     pub lines: Vec<u64>,
     /// The number of the first line that can't be accepted, and why.
     pub fault: Option<(u64, LineFault)>,
+    recent: Recent,
 }
 
 /// The activity of this name.
@@ -89,12 +90,17 @@ fn named_item(alloc: Global, counted: &Counted, name: &Name) -> Result<Path, All
 }
 
 /// The item that a line completes; None where it is none of root 1.
-fn item_of(alloc: Global, counted: &Counted, target: &Target) -> Result<Option<Path>, AllocError>
+fn item_of(
+    alloc: Global,
+    counted: &Counted,
+    recent: &mut Recent,
+    target: &Target,
+) -> Result<Option<Path>, AllocError>
     ensures { IfOk result (NamesItem counted.now.facts.items target.now) }
 {
     match target {
         Target::Activity(name) => Ok(Some(named_item(alloc, counted, name)?)),
-        Target::Item(token) => written_item(alloc, token.as_slice()),
+        Target::Item(token) => written_item(alloc, recent, token.as_slice()),
     }
 }
 
@@ -106,6 +112,7 @@ impl Read {
             counted: Counted::new(alloc),
             lines: Vec::new(alloc),
             fault: None,
+            recent: Recent::new(alloc),
         }
     }
 
@@ -187,7 +194,7 @@ impl Read {
         ensures { OnOk result (SaysIt library.now.templates graph.now line completion.now (said self.old)
             (said self.new)) }
     {
-        let item = item_of(alloc, &self.counted, &completion.target)?;
+        let item = item_of(alloc, &self.counted, &mut self.recent, &completion.target)?;
         self.add_item(alloc, library, graph, line, item, &completion.outcome)
     }
 

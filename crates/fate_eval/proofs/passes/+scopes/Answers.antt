@@ -124,7 +124,7 @@ open_activity-returns-clause-whole t c = λ laid inside well.
 
 pub scope_attempt-returns-clause-whole : goal.scope_attempt-returns-clause-whole
 scope_attempt-returns-clause-whole t c = λ laid well.
-    scope_whole _ _ _ _ _ _ (part c.args.activity.now.name c.args.attempt) _ _ _ _ _ _ _ (λ p. ap (λ es. dated_in es p) (c.in_ok-from_slice.ensures.items ∙ c.entries_at-found.ensures ∙ ap (λ n. at_part c.args.scope.now.groups (part n c.args.attempt)) c.as_slice.ensures) ∙ c.args.scope.now.grouped (part c.args.activity.now.name c.args.attempt) p) c.in_ok-with_code_of.ensures
+    scope_whole _ _ _ _ _ _ (part c.args.activity.now.name c.args.attempt) _ _ _ _ _ _ _ (λ p. ap (λ es. dated_in es p) (c.entries_at-found.ensures ∙ ap (λ n. at_part c.args.scope.now.groups (part n c.args.attempt)) c.as_slice.ensures) ∙ c.args.scope.now.grouped (part c.args.activity.now.name c.args.attempt) p) c.in_ok-with_code_of.ensures
     (rw (c.in_ok-copy.ensures, c.in_ok-path_of.ensures) at (c.in_ok-rows.ensures.whole laid well))
 
 pub pass-returns-clause-whole : goal.pass-returns-clause-whole
@@ -220,20 +220,20 @@ pass-loop-place-preserved t c = record {
       let less = rw c.as_slice-place-items.ensures at c.loop-place-test.true in
       let is = rw (c.deref.ensures.value, c.as_slice-place-items.ensures) at (c.in_ok-end.ensures.exact laid) in
       rw (c.put.ensures, c.put-in-loop-place-2.ensures, c.as_slice-place-items.ensures)
-      (passes_more c.args.root.now.library.now.templates c.args.depth c.args.root.now.most (output_in c.args.scope.now.entries.items) c.args.scope.now.graph.now c.args.scope.now.input c.args.scope.now.path
+      (passes_more c.args.root.now.library.now.templates c.args.depth c.args.root.now.most (output_in c.args.scope.now.entries.now) c.args.scope.now.graph.now c.args.scope.now.input c.args.scope.now.path
       (laid_here _ _ _ laid) (λ r. r.items) c.loop-place.place-index c.loop-place.ends.items c.loop-place.rows.items _ _ less (c.loop-place.invariant.exact laid) is);
   timely = λ laid.
       let less = rw c.as_slice-place-items.ensures at c.loop-place-test.true in
       let is = rw (c.deref.ensures.value, c.deref-in-loop-place.ensures.value, c.as_slice-place-items.ensures) at (c.in_ok-end.ensures.timely laid) in
       rw (c.put.ensures, c.put-in-loop-place.ensures, c.in_ok-append.ensures.items, c.as_slice-place-items.ensures)
-      (in_pass_more c.args.root.now.library.now.templates c.args.depth c.args.root.now.most c.args.scope.now.entries.items c.args.scope.now.graph.now c.args.scope.now.input c.args.scope.now.path
+      (in_pass_more c.args.root.now.library.now.templates c.args.depth c.args.root.now.most c.args.scope.now.entries.now c.args.scope.now.graph.now c.args.scope.now.input c.args.scope.now.path
       c.args.scope.now.since c.loop-place.place-index c.loop-place.ends.items c.loop-place.afters.items c.loop-place.ready.items _ _ _ (laid_here _ _ _ laid) less (c.loop-place.invariant.timely laid) is);
   whole = λ laid well.
       let less = rw c.as_slice-place-items.ensures at c.loop-place-test.true in
       let is = rw (c.deref.ensures.value, c.deref-in-loop-place.ensures.value, c.as_slice-place-items.ensures) at (c.in_ok-end.ensures.whole laid well) in
       let passes = c.loop-place.invariant.timely laid in
       rw (c.put.ensures, c.put-in-loop-place.ensures, c.in_ok-append.ensures.items, c.as_slice-place-items.ensures)
-      (told_to_more c.args.root.now.library.now.templates c.args.depth c.args.root.now.most c.args.scope.now.entries.items c.args.scope.now.graph.now c.args.scope.now.input c.args.scope.now.path
+      (told_to_more c.args.root.now.library.now.templates c.args.depth c.args.root.now.most c.args.scope.now.entries.now c.args.scope.now.graph.now c.args.scope.now.input c.args.scope.now.path
       (laid_here _ _ _ laid) (well_wired _ _ _ well) c.args.scope.now.since c.loop-place.place-index less c.loop-place.ends.items c.loop-place.afters.items c.loop-place.ready.items (c.loop-place.invariant.whole laid well) _ _ _ passes.long passes.as_long is);
 }
 
@@ -242,7 +242,7 @@ pass-returns-clause-exact t c = λ laid.
     let passes = c.loop-place.invariant.exact laid in
     let last : c.loop-place.place-index ≡ length (out-Graph c.args.scope.now.graph.now).wiring.order = omega (arith, ap length c.as_slice-place-items.ensures) in
     let here = laid_here _ _ _ laid in
-    let all = passes_all c.args.root.now.library.now.templates c.args.depth c.args.root.now.most (output_in c.args.scope.now.entries.items) c.args.scope.now.graph.now c.args.scope.now.input c.args.scope.now.path
+    let all = passes_all c.args.root.now.library.now.templates c.args.depth c.args.root.now.most (output_in c.args.scope.now.entries.now) c.args.scope.now.graph.now c.args.scope.now.input c.args.scope.now.path
     here (λ r. r.items) c.loop-place.ends.items c.loop-place.rows.items (rw last at passes) in
     record {
       given = (rw c.deref-2.ensures.value at (c.in_ok-complete_output.ensures here.sinking)) passes.long ∙ ap (output_by c.args.scope.now.graph.now c.args.scope.now.input) all.0;
@@ -259,14 +259,14 @@ pass-returns-clause-timely t c = λ laid.
 pub scope_attempt-returns-clause-exact : goal.scope_attempt-returns-clause-exact
 scope_attempt-returns-clause-exact t c = λ laid.
     let passed = c.in_ok-rows.ensures.exact laid in
-    let seen = seen_below c.args.root.now.most c.args.scope.now.entries.items _ (part c.args.activity.now.name c.args.attempt) (λ p. ap (λ es. dated_in es p) (c.in_ok-from_slice.ensures.items ∙ c.entries_at-found.ensures ∙ ap (λ n. at_part c.args.scope.now.groups (part n c.args.attempt)) c.as_slice.ensures) ∙ c.args.scope.now.grouped (part c.args.activity.now.name c.args.attempt) p) in
+    let seen = seen_below c.args.root.now.most c.args.scope.now.entries.now _ (part c.args.activity.now.name c.args.attempt) (λ p. ap (λ es. dated_in es p) (c.entries_at-found.ensures ∙ ap (λ n. at_part c.args.scope.now.groups (part n c.args.attempt)) c.as_slice.ensures) ∙ c.args.scope.now.grouped (part c.args.activity.now.name c.args.attempt) p) in
     let given = rw c.in_ok-copy.ensures at passed.given in
     rw (add-one, seen)
     (c.in_ok-with_code_of.ensures ∙ ap (option_map with_return_code) given, rw (c.in_ok-copy.ensures, c.in_ok-path_of.ensures) at passed.shown)
 
 pub scope_attempt-returns-clause-timely : goal.scope_attempt-returns-clause-timely
 scope_attempt-returns-clause-timely t c = λ laid.
-    scope_timely _ _ _ _ _ _ (part c.args.activity.now.name c.args.attempt) _ _ _ _ _ _ _ (λ p. ap (λ es. dated_in es p) (c.in_ok-from_slice.ensures.items ∙ c.entries_at-found.ensures ∙ ap (λ n. at_part c.args.scope.now.groups (part n c.args.attempt)) c.as_slice.ensures) ∙ c.args.scope.now.grouped (part c.args.activity.now.name c.args.attempt) p) c.in_ok-with_code_of.ensures
+    scope_timely _ _ _ _ _ _ (part c.args.activity.now.name c.args.attempt) _ _ _ _ _ _ _ (λ p. ap (λ es. dated_in es p) (c.entries_at-found.ensures ∙ ap (λ n. at_part c.args.scope.now.groups (part n c.args.attempt)) c.as_slice.ensures) ∙ c.args.scope.now.grouped (part c.args.activity.now.name c.args.attempt) p) c.in_ok-with_code_of.ensures
     (rw (c.in_ok-copy.ensures, c.in_ok-path_of.ensures) at (c.in_ok-rows.ensures.timely laid))
 
 pub attempt_of-returns-in-Program-clause-timely : goal.attempt_of-returns-in-Program-clause-timely

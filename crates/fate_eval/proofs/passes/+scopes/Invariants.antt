@@ -42,20 +42,20 @@ decreases-nested_attempt l = 9 * l.depth + 1
 abbrev pub invariant-attempts_from-loop-number : goal.invariant-attempts_from-loop-number
 invariant-attempts_from-loop-number l = record {
   exact : IsLooping l.scope.graph.now → OfInside l.root.library.now.templates (LaidBelow l.root.library.now.templates l.depth) (Some l.activity)
-      → Goes l.root.library.now.templates l.depth (known_in l.root.most l.scope.entries.items) l.scope.graph.now l.scope.path l.place l.activity l.base l.number l.input l.rows.items;
+      → Goes l.root.library.now.templates l.depth (known_in l.root.most l.scope.entries.now) l.scope.graph.now l.scope.path l.place l.activity l.base l.number l.input l.rows.items;
   timely : IsLooping l.scope.graph.now → OfInside l.root.library.now.templates (LaidBelow l.root.library.now.templates l.depth) (Some l.activity)
-      → InTurn l.root.library.now.templates l.depth l.root.most l.scope.entries.items l.scope.graph.now l.scope.path l.place l.activity l.base l.since l.after l.number l.input l.ready.items;
+      → InTurn l.root.library.now.templates l.depth l.root.most l.scope.entries.now l.scope.graph.now l.scope.path l.place l.activity l.base l.since l.after l.number l.input l.ready.items;
   whole : IsLooping l.scope.graph.now → OfInside l.root.library.now.templates (LaidBelow l.root.library.now.templates l.depth) (Some l.activity)
       → OfInside l.root.library.now.templates (WellBelow l.root.library.now.templates l.depth) (Some l.activity)
-      → IsTold l.root.library.now.templates l.depth l.root.most l.scope.entries.items l.scope.graph.now l.scope.path l.place l.activity l.base l.since l.after l.number l.input l.ready.items;
+      → IsTold l.root.library.now.templates l.depth l.root.most l.scope.entries.now l.scope.graph.now l.scope.path l.place l.activity l.base l.since l.after l.number l.input l.ready.items;
 }
 
 abbrev pub invariant-pass-loop-place : goal.invariant-pass-loop-place
 invariant-pass-loop-place l = record {
   exact : Laid l.root.library.now.templates l.depth l.scope.graph.now
-      → Passes l.root.library.now.templates l.depth l.root.most (output_in l.scope.entries.items) l.scope.graph.now l.scope.input l.scope.path (λ r. r.items) l.place-index l.ends.items l.rows.items;
+      → Passes l.root.library.now.templates l.depth l.root.most (output_in l.scope.entries.now) l.scope.graph.now l.scope.input l.scope.path (λ r. r.items) l.place-index l.ends.items l.rows.items;
   timely : Laid l.root.library.now.templates l.depth l.scope.graph.now
-      → InPass l.root.library.now.templates l.depth l.root.most l.scope.entries.items l.scope.graph.now l.scope.input l.scope.path l.scope.since l.ends.items l.afters.items l.ready.items;
+      → InPass l.root.library.now.templates l.depth l.root.most l.scope.entries.now l.scope.graph.now l.scope.input l.scope.path l.scope.since l.ends.items l.afters.items l.ready.items;
   whole : Laid l.root.library.now.templates l.depth l.scope.graph.now → Well l.root.library.now.templates l.depth l.scope.graph.now
-      → IsToldTo l.root.library.now.templates l.depth l.root.most l.scope.entries.items l.scope.graph.now l.scope.input l.scope.path l.scope.since l.place-index l.ends.items l.afters.items l.ready.items;
+      → IsToldTo l.root.library.now.templates l.depth l.root.most l.scope.entries.now l.scope.graph.now l.scope.input l.scope.path l.scope.since l.place-index l.ends.items l.afters.items l.ready.items;
 }
