@@ -4,12 +4,13 @@ use Rattle.std.proofs.lemmas.List.{append-nil, take_at}
 use Rattle.std.proofs.lemmas.List.Elements.{All-append, All-nil}
 use Rattle.std.specs.List.{All}
 use Rattle.std.specs.Int.{w32, to_be_bytes}
-use Rattle.txn_log.specs.Batches.{AreRecords, payloads_in, payloads_listed}
+use Rattle.txn_log.specs.Batches.{AreRecords, payloads_in}
 use Rattle.txn_log.specs.Records.{IsPayload, open_records, reach}
 use Rattle.flow_disk.specs.declared.disk.Slot.{Slot}
 use Rattle.flow_disk.specs.Images.{Image, bytes_in}
 use Rattle.txn_log.specs.Steps.{record_bytes, IsGoodTo}
 use Rattle.txn_log.specs.Stored.{Ends, Good, slot_state}
+use Rattle.txn_log.specs.Walks.{payloads_listed}
 use Rattle.txn_log.specs.declared.header.Header.{Header}
 use Rattle.txn_log.proofs.Records.{Spells, Nothing, One, spells-append, listed-closed}
 use Rattle.txn_log.proofs.Slots.{length_is, good_parts}

@@ -18,3 +18,4 @@ pub mod StoreStates
 pub mod Outlines
 pub mod Appended
 pub mod Openings
+pub mod Walks

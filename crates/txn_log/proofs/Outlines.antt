@@ -4,7 +4,6 @@ use Rattle.flow_disk.specs.declared.disk.Slot.{Slot}
 use Rattle.flow_disk.specs.declared.disk.Slot.TheVariants.{A, B}
 use Rattle.flow_disk.specs.Images.{Image, bytes_in, opposite}
 use Rattle.txn_log.specs.Causes.{IsCause, IsOutside}
-use Rattle.txn_log.specs.Records.{payloads_of}
 use Rattle.txn_log.specs.declared.header.Header.{Header}
 use Rattle.txn_log.specs.declared.judged.Body.{Body}
 use Rattle.txn_log.specs.declared.outline.Outline.{Outline}
@@ -146,11 +145,14 @@ inside_cause T before now (DamagedPlace slot place) never same = same
 inside_cause T before now StoreFault never same = absurd (never refl)
 inside_cause T before now NoMemory never same = same
 
--- where a slot is good, only memory is wanting
-pub stop_outside : (r : Result Body LogStop) (tells good : Type 0) → IfErr r (λ stop. good → stop ≡ NoMemory) → (tells → good) → IfErr r (λ stop. tells → IsOutside stop)
-stop_outside (Ok body) tells good is known = tt
-stop_outside (Err stop) tells good is known = λ told. subst IsOutside (sym (is (known told))) tt
+-- where a slot is good, what is said of others can't come
+pub never_outside : (r : Result Body LogStop) (tells good : Type 0) → IfErr r (λ stop. good → ⊥) → (tells → good)
+    → IfErr r (λ stop. tells → IsOutside stop)
+never_outside (Ok body) tells good is known = tt
+never_outside (Err stop) tells good is known = λ told. absurd (is (known told))
 
-pub body_told : (r : Result Body LogStop) (tells : Type 0) (s t : SlotState) → (tells → t ≡ s) → IfOk r (λ body. s ≡ Good body.header (payloads_of body.records) body.end) → IfOk r (λ body. tells → t ≡ Good body.header (payloads_of body.records) body.end)
+pub body_told : (r : Result Body LogStop) (tells : Type 0) (s t : SlotState) → (tells → t ≡ s)
+    → IfOk r (λ body. s ≡ Good body.header body.records body.end)
+    → IfOk r (λ body. tells → t ≡ Good body.header body.records body.end)
 body_told (Ok body) tells s t same is = λ told. same told ∙ is
 body_told (Err stop) tells s t same is = tt

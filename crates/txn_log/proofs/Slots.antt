@@ -23,6 +23,14 @@ passed false true None h (Ends rs f) header ps e is =
     let end : f ≡ e = cc in
     (ap (λ (l : List (List ℕ)). Ends l f) list ∙ ap (Ends ps) end, λ qs i. ap (λ (k : Header). Good k qs i) head)
 
+-- the records of a good slot are listed behind its header
+pub good_listed : (bytes : List ℕ) (header : Header) (ps : List (List ℕ)) (e : ℕ) → slot_state bytes ≡ Good header ps e
+    → listed 0 42 (drop 42 bytes) ≡ Ends ps e
+good_listed bytes header ps e is =
+    (passed (is_unmade (take 42 bytes)) (has_magic (take 42 bytes))
+    (header_fault (length (take 42 bytes)) (header_of (take 42 bytes))) (header_of (take 42 bytes))
+    (listed 0 42 (drop 42 bytes)) header ps e is).0
+
 -- the parts of a good slot: its header, its records, its closed gate and what stands behind it
 pub record GoodParts (bytes : List ℕ) (header : Header) (ps : List (List ℕ)) (end : ℕ) : Type 0 where
   pub head : List ℕ

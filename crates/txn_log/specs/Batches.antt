@@ -2,12 +2,8 @@
 use Rattle.std.specs.Prelude.{◌≡◌, ℕ, List, [], ◌∷◌, ◌++◌, length}
 use Rattle.std.specs.List.{All}
 use Rattle.txn_log.specs.Records.{IsPayload, open_records}
-use Rattle.txn_log.specs.Stored.{Listed, Ends, Breaks, listed}
-
--- the payloads that are listed; none where a list breaks
-abbrev pub payloads_listed : Listed → List (List ℕ)
-payloads_listed (Ends payloads end) = payloads
-payloads_listed (Breaks place) = []
+use Rattle.txn_log.specs.Stored.{listed}
+use Rattle.txn_log.specs.Walks.{payloads_listed}
 
 -- the payloads of records that are listed in bytes, where a closed gate stands behind these
 unfoldable pub payloads_in : List ℕ → List (List ℕ)

@@ -1,10 +1,10 @@
 pub mod Stored
 pub mod Records
 pub mod Batches
-pub mod Judging
 pub mod Outlines
 pub mod Stores
 pub mod Causes
 pub mod Opening
 pub mod Steps
 pub mod Standing
+pub mod Walks

@@ -8,7 +8,6 @@ use Rattle.txn_log.specs.declared.header.Header.{Header}
 use Rattle.txn_log.specs.declared.opening.Opened.{Opened}
 use Rattle.txn_log.specs.declared.stops.LogStop.{LogStop}
 use Rattle.txn_log.specs.declared.stops.LogStop.TheVariants.{Unmade, Made, Foreign, Damaged, StoreFault, NoMemory}
-use Rattle.txn_log.specs.Records.{payloads_of, places_of, gates}
 use Rattle.txn_log.specs.Stores.{StoreState, NoStore, ForeignIn, DamagedIn, Counts, store_of}
 
 -- why a store isn't opened, by its slots alone
@@ -35,7 +34,7 @@ IsChoice (Err stop) state = IsVerdict stop state
 -- the slot that counts, with the header and the payloads of its body
 abbrev pub IsChosen : Chosen → StoreState → Type 0
 IsChosen chosen state =
-    state ≡ Counts chosen.slot chosen.body.header (payloads_of chosen.body.records) chosen.body.end
+    state ≡ Counts chosen.slot chosen.body.header chosen.body.records chosen.body.end
 
 -- why opening stopped: the verdict, or a cause outside of the store
 abbrev pub IsRefusal : LogStop → StoreState → Type 0
@@ -75,11 +74,10 @@ MayBeMade queues limit old image = (image ≡ old) ⊎ ((store_of old ≡ NoStor
 -- the slot that counts is the log's, with the header and the payloads that are handed out
 abbrev pub IsOpened : Image → Opened → Type 0
 IsOpened image opened =
-    store_of image ≡ Counts opened.log.slot opened.header (payloads_of opened.records) opened.log.end
+    store_of image ≡ Counts opened.log.slot opened.header opened.records opened.log.end
 
--- the log has the generation of the header and the number of the records, and each record the place of its gate
+-- the log has the generation of the header and the number of the records
 pub record HasRecords (opened : Opened) : Type 0 where
   pub generation : opened.log.generation ≡ opened.header.generation
   pub count : opened.log.records ≡ length opened.records
   pub alive : opened.log.failed ≡ false
-  pub places : places_of opened.records ≡ gates 42 (payloads_of opened.records)

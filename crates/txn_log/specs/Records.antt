@@ -1,20 +1,6 @@
--- Records as the code keeps them: their payloads, and the places of their gates.
-use Rattle.std.specs.Prelude.{ℕ, ◌+◌, ◌<◌, ◌≤◌, List, [], ◌∷◌, ◌++◌, length, map}
+-- Records as bytes, and the places of their gates.
+use Rattle.std.specs.Prelude.{ℕ, ◌+◌, ◌<◌, ◌≤◌, List, [], ◌∷◌, ◌++◌, length}
 use Rattle.std.specs.Int.{w32, to_be_bytes}
-use Rattle.txn_log.specs.declared.judged.Record.{Record}
-
--- the payloads of records, in order
-abbrev pub payloads_of : List Record → List (List ℕ)
-payloads_of records = map (λ r. r.payload) records
-
--- the places of records, in order
-abbrev pub places_of : List Record → List ℕ
-places_of records = map (λ r. r.place) records
-
--- the places of the gates of records with these payloads, from a place on
-abbrev pub gates : ℕ → List (List ℕ) → List ℕ
-gates place [] = []
-gates place (payload ∷ payloads) = place ∷ gates (place + 5 + length payload) payloads
 
 -- the place behind records with these payloads, from a place on
 abbrev pub reach : ℕ → List (List ℕ) → ℕ

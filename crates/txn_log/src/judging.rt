@@ -1,14 +1,11 @@
 //! What the bytes of a slot are: of no store, of another, damaged, or a header with records.
-ghost use Rattle.std.specs.Prelude.{◌≡◌, ℕ, ◌+◌, ◌<◌, ◌≤◌, ◌^◌, List, [], ◌∷◌, ◌++◌, length, take, drop, slice_index, ◌==◌, if◌then◌else◌, IfOk, OnOk, None, true, false};
-ghost use Rattle.txn_log.specs.Judging.{IsPlaced, listed_of, state_in};
+ghost use Rattle.std.specs.Prelude.{◌≡◌, ◌<◌, ◌≤◌, ◌^◌, length, take, drop, slice_index, ◌==◌, if◌then◌else◌, None};
 ghost use Rattle.txn_log.specs.Outlines.{outline_of};
-ghost use Rattle.txn_log.specs.Stored.{has_magic as magic_test, header_fault as fault_of, header_of as spelled_header, is_field as field_test, is_unmade as unmade_test, is_whole, length_at, listed, with_header, number_at as spelled_number, slot_state};
+ghost use Rattle.txn_log.specs.Stored.{has_magic as magic_test, header_fault as fault_of, header_of as spelled_header, is_field as field_test, is_unmade as unmade_test, listed, with_header, number_at as spelled_number, slot_state};
 
 use crate::header::Header;
-use crate::judged::{Body, Found, Judged, Record};
 use crate::outline::{Frame, Outline};
-use flow_model::{Bytes, List};
-use std::alloc::{AllocError, Global};
+use crate::slot_records::whole_len;
 
 #[tactic(auto, unfolding(crate::specs::Stored::is_unmade))]
 fn is_unmade(head: &[u8]) -> bool
@@ -101,61 +98,6 @@ fn header_fault(size: usize, header: &Header) -> Option<u64>
     }
 }
 
-/// The length that stands in the first four bytes.
-fn len_at(rest: &[u8]) -> usize
-    requires { 4 ≤ length rest.now }
-    ensures { result ≡ length_at rest.now }
-{
-    u32::from_be_bytes([rest[0], rest[1], rest[2], rest[3]]) as usize
-}
-
-/// The length of the whole record behind a gate, or 0.
-fn whole_len(rest: &[u8]) -> usize
-    ensures some { 0 < result → (is_whole rest.now ≡ true) × (result ≡ length_at rest.now)
-        × (4 + result < length rest.now) }
-    ensures none { result ≡ 0 → is_whole rest.now ≡ false }
-    ensures most { result ≤ 2097152 }
-{
-    if rest.len() < 4 {
-        return 0;
-    }
-    let size = len_at(rest);
-    if size > 2_097_152 {
-        return 0;
-    }
-    if size >= rest.len() - 4 {
-        return 0;
-    }
-    size
-}
-
-/// The records from byte 42 on, in a list with room for so many.
-fn list(alloc: Global, bytes: &[u8], room: usize) -> Result<Found, AllocError>
-    requires { length bytes.now < 2 ^ 63 }
-    ensures listed { IfOk result (λ found. listed_of found ≡ listed 0 42 (drop 42 bytes.now)) }
-    ensures placed { IfOk result IsPlaced }
-{
-    let mut records = Vec::with_capacity(alloc, room)?;
-    let mut at = 42;
-    'gates: while at < bytes.len() {
-        if bytes[at] != 1 {
-            return Ok(Found::Ends(records, at as u64));
-        }
-        let len = whole_len(&bytes[at + 1..]);
-        if len == 0 {
-            return Ok(Found::Breaks(at as u64));
-        }
-        let payload = Bytes::new(alloc, &bytes[at + 5..at + 5 + len])?;
-        let record = Record {
-            place: at as u64,
-            payload,
-        };
-        records.push(record)?;
-        at += 5 + len;
-    }
-    Ok(Found::Breaks(at as u64))
-}
-
 /// The outline of a slot with this header, by the gates of its records.
 fn outline_with(header: Header, bytes: &[u8]) -> Outline
     requires { length bytes.now < 2 ^ 63 }
@@ -181,16 +123,6 @@ fn outline_with(header: Header, bytes: &[u8]) -> Outline
     Outline::Damaged(at as u64)
 }
 
-/// The number of the records of a slot with this header; 0 where no gate ends them.
-fn record_count(header: Header, bytes: &[u8]) -> usize
-    requires { length bytes.now < 2 ^ 63 }
-{
-    match outline_with(header, bytes) {
-        Outline::Good(frame) => frame.records as usize,
-        _ => 0,
-    }
-}
-
 /// The first 42 bytes.
 fn head_of(bytes: &[u8]) -> &[u8]
     ensures { result.now ≡ take 42 bytes.now }
@@ -200,41 +132,6 @@ fn head_of(bytes: &[u8]) -> &[u8]
     } else {
         &bytes[..42]
     }
-}
-
-/// The judgement of a slot with this header by what is listed.
-fn judged_of(header: Header, found: Found) -> Judged
-    requires { IsPlaced found }
-    ensures { state_in result ≡ with_header None header (listed_of found) }
-{
-    match found {
-        Found::Ends(records, end) => Judged::Good(Body {
-            header,
-            records: List::from_vec(records),
-            end,
-        }),
-        Found::Breaks(place) => Judged::Damaged(place),
-    }
-}
-
-/// The judgement of a slot by its bytes. The records are counted first, so that their list has no room to spare.
-pub fn judge(alloc: Global, bytes: &[u8]) -> Result<Judged, AllocError>
-    requires { length bytes.now < 2 ^ 63 }
-    ensures { IfOk result (λ judged. state_in judged ≡ slot_state bytes.now) }
-{
-    let head = head_of(bytes);
-    if is_unmade(head) {
-        return Ok(Judged::Unmade);
-    }
-    if !has_magic(head) {
-        return Ok(Judged::Foreign);
-    }
-    let header = header_of(head);
-    if let Some(place) = header_fault(head.len(), &header) {
-        return Ok(Judged::Damaged(place));
-    }
-    let found = list(alloc, bytes, record_count(header, bytes))?;
-    Ok(judged_of(header, found))
 }
 
 /// The judgement of a slot by its bytes, without its records. Takes no memory.

@@ -21,6 +21,7 @@ mod log;
 mod opening;
 mod outline;
 mod reading;
+mod slot_records;
 mod steps;
 mod stops;
 #[cfg(test)]
@@ -28,8 +29,8 @@ mod tests;
 
 pub use batch::Batch;
 pub use header::{Header, header_bytes};
-pub use judged::Record;
 pub use log::Log;
 pub use opening::Opened;
+pub use slot_records::{Record, RecordsLeft, SlotRecords};
 pub use steps::{MAX_PAYLOAD, open_body, other_slot, shut};
 pub use stops::{LogStop, StoreFault};

@@ -6,7 +6,6 @@ ghost use Rattle.flow_disk.specs.Moments.{LeavesOnly, Only, Within};
 ghost use Rattle.txn_log.specs.Causes.{IsCause, IsOutside, UnlessFault};
 ghost use Rattle.txn_log.specs.Opening.{HasRecords, IsChosen, IsMakeRefusal, IsOpened, IsRefusal, IsStanding, MayBeMade, MayBeNew, first_header};
 ghost use Rattle.txn_log.specs.Outlines.{outline_of};
-ghost use Rattle.txn_log.specs.Records.{payloads_of};
 ghost use Rattle.txn_log.specs.Standing.{IsAt, StandsOn};
 ghost use Rattle.txn_log.specs.Steps.{Stands, StandsOrUnmade};
 ghost use Rattle.txn_log.specs.Stored.{Good, InRange, IsGoodState, Unmade, slot_state};
@@ -16,15 +15,15 @@ ghost use Rattle.txn_log.specs.declared.stops.LogStop.TheVariants.{NoMemory, Sto
 use crate::choosing::choose_by;
 use crate::chosen::Chosen;
 use crate::header::Header;
-use crate::judged::{Body, Judged, Record};
-use crate::judging::{judge, open_generation, outline};
+use crate::judged::Body;
+use crate::judging::{open_generation, outline};
 use crate::log::Log;
 use crate::outline::Outline;
 use crate::reading::read_slot;
+use crate::slot_records::SlotRecords;
 use crate::steps::{fill, other_slot, shut};
 use crate::stops::LogStop;
 use flow_disk::{Disk, Failed, Slot};
-use flow_model::List;
 use std::alloc::Global;
 
 /// A store that is opened: its log, the header of the slot that counts, and its records in order.
@@ -32,7 +31,7 @@ use std::alloc::Global;
 pub struct Opened {
     pub log: Log,
     pub header: Header,
-    pub records: List<Record>,
+    pub records: SlotRecords,
 }
 
 /// How the front of a slot ranks: by its generation where its gate is open, else last.
@@ -76,18 +75,21 @@ fn outline_slot<D: Disk>(alloc: Global, disk: &mut D, slot: Slot) -> Result<Outl
 
 /// What stands in a slot that is good by its bytes. Of a disk that doesn't tell, they may have
 /// changed since it was judged.
-fn body_of(alloc: Global, slot: Slot, bytes: &[u8]) -> Result<Body, LogStop>
-    requires { length bytes.now < 2 ^ 63 }
-    ensures outside { IfErr result (λ stop. IsGoodState (slot_state bytes.now) → stop ≡ NoMemory) }
+fn body_of(slot: Slot, bytes: Vec<u8>) -> Result<Body, LogStop>
+    requires { length bytes.items < 2 ^ 63 }
+    ensures good { IfErr result (λ stop. IsGoodState (slot_state bytes.items) → ⊥) }
     ensures inside { IfErr result (λ stop. stop ≡ StoreFault → ⊥) }
-    ensures body { IfOk result (λ body. slot_state bytes.now
-        ≡ Good body.header (payloads_of body.records) body.end) }
+    ensures body { IfOk result (λ body. slot_state bytes.items ≡ Good body.header body.records body.end) }
 {
-    match judge(alloc, bytes)? {
-        Judged::Good(body) => Ok(body),
-        Judged::Damaged(place) => Err(LogStop::Damaged(slot, place)),
-        Judged::Foreign => Err(LogStop::Foreign(slot)),
-        Judged::Unmade => Err(LogStop::Unmade),
+    match outline(&bytes) {
+        Outline::Good(frame) => Ok(Body {
+            header: frame.header,
+            records: SlotRecords::new(bytes, frame.records as usize),
+            end: frame.end,
+        }),
+        Outline::Damaged(place) => Err(LogStop::Damaged(slot, place)),
+        Outline::Foreign => Err(LogStop::Foreign(slot)),
+        Outline::Unmade => Err(LogStop::Unmade),
     }
 }
 
@@ -111,18 +113,18 @@ fn body_in<D: Disk>(
     requires good { D.tells → IsGoodState (slot_state (bytes_in (D.seen disk.old) slot)) }
     ensures outside { IfErr result (λ stop. D.tells → IsOutside stop) }
     ensures body { IfOk result (λ body. D.tells → slot_state (bytes_in (D.seen disk.old) slot)
-        ≡ Good body.header (payloads_of body.records) body.end) }
+        ≡ Good body.header body.records body.end) }
     ensures seen { D.seen disk.new ≡ D.seen disk.old }
     ensures crash { Within (D.images disk.old) (D.images disk.new) }
     ensures any_moment { LeavesOnly D.moment D.left_since disk.old disk.new (D.images disk.old) }
     ensures cause { IsCause (D.faults disk.old) (D.faults disk.new) result }
 {
     if is_same(slot, read) {
-        return body_of(alloc, slot, &bytes);
+        return body_of(slot, bytes);
     }
     drop(bytes);
     let again = read_slot(alloc, disk, slot)?;
-    body_of(alloc, slot, &again)
+    body_of(slot, again)
 }
 
 /// The slot that counts, as read: both are judged before any record is kept.

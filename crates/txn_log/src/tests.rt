@@ -51,11 +51,11 @@ fn a_store_byte_by_byte(rt: HostRuntime) -> Result<(), Fail> {
     assert_eq!(rt; disk.starved(), 0);
     let opened = Log::reopen(alloc, &mut disk)?;
     assert_eq!(rt; opened.records.len(), 1);
-    assert_eq!(rt; opened.records.as_slice()[0].place, 42);
-    assert_eq!(rt;
-        opened.records.as_slice()[0].payload.as_slice(),
-        CLOCK.as_slice()
-    );
+    let Some(record) = opened.records.walk().next() else {
+        return Err(Fail::new("no record"));
+    };
+    assert_eq!(rt; record.place, 42);
+    assert_eq!(rt; record.payload, CLOCK.as_slice());
     assert_eq!(rt; opened.header.limit, 1_000_000);
     Ok(())
 }
@@ -65,14 +65,14 @@ fn a_stop_at_each_call_of_an_append(rt: HostRuntime) -> Result<(), Fail> {
     let alloc = rt.alloc();
     let mut made = with_a(&rt, &MADE)?;
     let opened = Log::reopen(alloc, &mut made)?;
-    assert!(rt; opened.records.is_empty());
+    assert_eq!(rt; opened.records.len(), 0);
     let reopening = made.calls();
     for stop in 1..8_u64 {
         for choice in [0, 1, 215, 221] {
             let from = reopening.saturating_add(stop);
             let mut disk = MemDisk::stopping(alloc, &MADE, &[], from)?;
             let opened = Log::reopen(alloc, &mut disk)?;
-            assert!(rt; opened.records.is_empty());
+            assert_eq!(rt; opened.records.len(), 0);
             let mut log = opened.log;
             assert_eq!(rt; log.append(&mut disk, &CLOCK).is_ok(), stop > 6);
             let mut left = disk.crash(choice)?;
@@ -149,7 +149,7 @@ fn left_of_two(rt: &HostRuntime, stop: u64, choice: u64) -> Result<(usize, bool)
 fn a_stop_at_each_call_of_a_batch(rt: HostRuntime) -> Result<(), Fail> {
     let mut made = with_a(&rt, &MADE)?;
     let opened = Log::reopen(rt.alloc(), &mut made)?;
-    assert!(rt; opened.records.is_empty());
+    assert_eq!(rt; opened.records.len(), 0);
     let reopening = made.calls();
     for stop in 1..7_u64 {
         for choice in [0, 1, 215, 221] {

@@ -6,7 +6,6 @@ use Rattle.flow_disk.specs.Images.{Image, bytes_in}
 use Rattle.txn_log.specs.declared.chosen.Chosen.{Chosen}
 use Rattle.txn_log.specs.Opening.{slot_in}
 use Rattle.txn_log.specs.Outlines.{outline_of}
-use Rattle.txn_log.specs.Records.{payloads_of}
 use Rattle.txn_log.specs.Stored.{slot_state}
 use Rattle.txn_log.specs.Stores.{store_of}
 use Rattle.txn_log.proofs.Openings.{outside_refused}
@@ -42,7 +41,7 @@ returns-clause-chosen g c told =
     let d = g.D.Disk in
     let here = c.outline.ensures ∙ ap (λ (l : List ℕ). outline_of (slot_state l)) (c.deref.ensures.value ∙ (c.in_ok-bytes.ensures.bytes told ∙ ap (λ (i : Image). bytes_in i c.in_ok-last.last) (c.outline_slot.ensures.seen ∙ c.likely.ensures.seen))) in
     let beside = c.in_ok-beside.ensures.outline told ∙ (ap (λ (i : Image). outline_of (slot_state (bytes_in i c.other_slot.result))) c.likely.ensures.seen ∙ ap (λ (s : Slot). outline_of (slot_state (bytes_in (d.seen c.args.disk.now) s))) c.other_slot.ensures) in
-    counts_body c.in_ok-slot.slot (d.seen c.args.disk.now) c.in_ok-body.body.header (payloads_of c.in_ok-body.body.records) c.in_ok-body.body.end (c.in_ok-slot.ensures.choice (d.seen c.args.disk.now) here beside)
+    counts_body c.in_ok-slot.slot (d.seen c.args.disk.now) c.in_ok-body.body.header c.in_ok-body.body.records c.in_ok-body.body.end (c.in_ok-slot.ensures.choice (d.seen c.args.disk.now) here beside)
     (ap (λ (i : Image). slot_state (bytes_in i c.in_ok-slot.slot)) (sym (c.read_slot.ensures.seen ∙ (c.outline_slot.ensures.seen ∙ c.likely.ensures.seen))) ∙ c.in_ok-body.ensures.body told)
 
 pub returns-in_err-body-clause-refused : goal.returns-in_err-body-clause-refused
