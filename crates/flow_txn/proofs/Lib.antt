@@ -6,3 +6,4 @@ pub mod FieldFormats
 pub mod KindFormats
 pub mod Loop
 pub mod Sizes
+pub mod Elementwise

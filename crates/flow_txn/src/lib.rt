@@ -6,10 +6,12 @@
 
 mod faults;
 mod fields;
+mod fitting;
 mod reading;
 mod writing;
 
 pub use faults::RecordFault;
+pub use fitting::fits;
 pub use reading::decode;
 pub use writing::encode;
 
