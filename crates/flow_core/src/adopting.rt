@@ -413,6 +413,8 @@ impl Core {
         ensures keys { OnOk result (KeysAfter self.old t self.new) }
         ensures kept_number { OnOk result (self.new.kept_number
             ≡ last_number self.old.kept number self.old.kept_number) }
+        ensures kept_root { OnOk result (self.new.kept_root
+            ≡ last_kept self.old.kept (record { number = number; transaction = t }) self.old.kept_root) }
         ensures exact { OnOk result (IsExact self.old t self.new) }
     {
         if !self.admits(number, &t)? {

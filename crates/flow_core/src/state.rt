@@ -64,6 +64,7 @@ impl Core {
           live = [];
         }) }
         ensures kept { IfOk result (λ core. core.kept ≡ transactions) }
+        ensures none_taken { IfOk result (λ core. (core.kept_number ≡ 0) × (core.kept_root ≡ 0)) }
         ensures blank { IfOk result IsBlank }
     {
         Ok(Core {

@@ -8,7 +8,7 @@ use Rattle.flow_core.specs.Judgements.{IsVerdict}
 use Rattle.flow_core.specs.Keys.{KeysAfter}
 use Rattle.flow_core.specs.Refusals.{IsInOrder}
 use Rattle.flow_core.specs.Shelving.{IsExact}
-use Rattle.flow_core.specs.Summaries.{summary, next, taken_up, last_number}
+use Rattle.flow_core.specs.Summaries.{summary, next, taken_up, last_kept, last_number}
 use Rattle.flow_core.specs.declared.judging.Verdict.TheVariants.{Do}
 use Rattle.flow_core.specs.declared.state.Core.{Core}
 use Rattle.flow_model.specs.declared.commands.Command.{Command}
@@ -35,6 +35,7 @@ pub record Adopted (c : Core) (number : ℕ) (t : Transaction) (c' : Core) : Typ
   pub drives : Drives c t c'
   pub taken : summary c' ≡ taken_up c.kept (record { number = number; transaction = t }) (summary c)
   pub kept_number : c'.kept_number ≡ last_number c.kept number c.kept_number
+  pub kept_root : c'.kept_root ≡ last_kept c.kept (record { number = number; transaction = t }) c.kept_root
   pub clock : c'.clock ≡ clock_after t c.clock
   pub store : StoreAfter t c.store.catalog c'.store.catalog
   pub keys : KeysAfter c t c'

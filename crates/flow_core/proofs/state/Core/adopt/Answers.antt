@@ -38,6 +38,10 @@ returns-clause-counts c =
     (ap (λ (n : ℕ × ℕ × ℕ × Summary). n.2) taken ∙ c.count.ensures.kept_root)
     (c.in_ok-admits.ensures.follows c.if-not-branch.false) (c.in_ok-admits.ensures.free c.if-not-branch.false)
 
+pub returns-clause-kept_root : goal.returns-clause-kept_root
+returns-clause-kept_root c =
+    ap (λ (n : ℕ × ℕ × ℕ × Summary). n.2) c.in_ok-apply_as.ensures.applied ∙ c.count.ensures.kept_root
+
 pub returns-clause-exact : goal.returns-clause-exact
 returns-clause-exact c =
     let before = c.args.self.now in
