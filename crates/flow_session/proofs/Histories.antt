@@ -3,6 +3,7 @@ use Rattle.std.proofs.Common.{◌≡◌, inl, inr, ⊎_elim, ℕ, ◌+◌, ◌�
 use Rattle.std.specs.List.{All}
 use Rattle.flow_model.specs.declared.transactions.Numbered.{Numbered}
 use Rattle.std.proofs.lemmas.List.{map-append}
+use Rattle.std.proofs.lemmas.List.Elements.{All-append, All-cons, All-nil, All-weaker}
 use Rattle.flow_disk.specs.declared.disk.Slot.{Slot}
 use Rattle.flow_disk.specs.Images.{Image}
 use Rattle.flow_model.specs.declared.transactions.Transaction.{Transaction}
@@ -11,18 +12,28 @@ use Rattle.txn_log.specs.Records.{reach}
 use Rattle.txn_log.specs.Standing.{HasRecord, MayHaveRecord, HasRecords, MayHaveRecords}
 use Rattle.txn_log.specs.Stores.{Counts, store_of, with_record, with_records}
 use Rattle.checkpoint.specs.Compacting.{IsCompacted, MayBeCompacted}
+use Rattle.flow_txn.specs.Ranges.{IsInRange}
 use Rattle.flow_txn.specs.Records.{record_bytes}
 use Rattle.flow_core.specs.Summaries.{Summary, next, taken_up, all_taken_up}
-use Rattle.flow_session.specs.Histories.{StandsFor, IsHeaderOf, IsLive, payloads, payloads_behind, under, after}
+use Rattle.flow_session.specs.Histories.{AreInRange, AreInRangeBehind, StandsFor, IsHeaderOf, IsLive, payloads, payloads_behind, under, after}
 use Rattle.flow_session.specs.Serving.{WithOrWithout, AllOrNone}
 use Rattle.flow_session.proofs.Summaries.{live_with, all_append, all_behind, taken_next, all_kept}
 
 pub same : (s : Summary) (old new : Image) → store_of new ≡ store_of old → StandsFor s old → StandsFor s new
-same s old new is stands = record { slot = stands.slot; header = stands.header; records = stands.records; end = stands.end; counts = is ∙ stands.counts; comes_to = stands.comes_to; later = stands.later; live = stands.live }
+same s old new is stands = record { slot = stands.slot; header = stands.header; records = stands.records; end = stands.end; counts = is ∙ stands.counts; comes_to = stands.comes_to; fits = stands.fits; later = stands.later; live = stands.live }
+
+-- one numbered transaction more is in range
+pub fits_more : (records : List Numbered) (n : Numbered) → AreInRange records → IsInRange n.number n.transaction
+    → AreInRange (records ++ n ∷ [])
+fits_more records n fits in_range =
+    All-append (λ (m : Numbered). IsInRange m.number m.transaction) records (n ∷ []) fits
+    (All-cons (λ (m : Numbered). IsInRange m.number m.transaction) n [] in_range
+    (All-nil (λ (m : Numbered). IsInRange m.number m.transaction)))
 
 -- the record of the next transaction is there
-pub one_more : (s : Summary) (t : Transaction) (old new : Image) → StandsFor s old → HasRecord (record_bytes (s.transactions + 1) t) old new → StandsFor (next t s) new
-one_more s t old new stands has = record {
+pub one_more : (s : Summary) (t : Transaction) (old new : Image) → StandsFor s old → IsInRange (s.transactions + 1) t
+    → HasRecord (record_bytes (s.transactions + 1) t) old new → StandsFor (next t s) new
+one_more s t old new stands in_range has = record {
   slot = stands.slot;
   header = stands.header;
   records = stands.records ++ record { number = s.transactions + 1; transaction = t } ∷ [];
@@ -33,12 +44,15 @@ one_more s t old new stands has = record {
   comes_to = all_append stands.header.transactions stands.records (record { number = s.transactions + 1; transaction = t }) (under stands.header)
       ∙ ap (λ x. taken_up stands.header.transactions (record { number = s.transactions + 1; transaction = t }) x) stands.comes_to
       ∙ taken_next stands.header.transactions s t stands.later;
+  fits = fits_more stands.records (record { number = s.transactions + 1; transaction = t }) stands.fits in_range;
   later = omega (arith, stands.later);
-  live = live_with s (s.transactions + 1) (s.transactions + 1) t (omega arith) (omega arith) stands.live;
+  live = live_with s (s.transactions + 1) (s.transactions + 1) t (omega arith) (omega arith) in_range stands.live;
 }
 
-pub with_or_without : (s : Summary) (t : Transaction) (old new : Image) → StandsFor s old → MayHaveRecord (record_bytes (s.transactions + 1) t) old new → WithOrWithout t s new
-with_or_without s t old new stands may = ⊎_elim (λ is. inl (same s old new is stands)) (λ has. inr (one_more s t old new stands has)) may
+pub with_or_without : (s : Summary) (t : Transaction) (old new : Image) → StandsFor s old → IsInRange (s.transactions + 1) t
+    → MayHaveRecord (record_bytes (s.transactions + 1) t) old new → WithOrWithout t s new
+with_or_without s t old new stands in_range may =
+    ⊎_elim (λ is. inl (same s old new is stands)) (λ has. inr (one_more s t old new stands in_range has)) may
 
 -- ---- several transactions
 
@@ -62,13 +76,24 @@ pub after_counts : (s : Summary) (ts : List Transaction) → (after s ts).transa
 after_counts s [] = omega arith
 after_counts s (t ∷ ts) = after_counts (next t s) ts ∙ omega arith
 
-after_live : (s : Summary) (ts : List Transaction) → All (IsLive s) s.live → All (IsLive (after s ts)) (after s ts).live
-after_live s [] all = all
-after_live s (t ∷ ts) all = after_live (next t s) ts (live_with s (s.transactions + 1) (s.transactions + 1) t (omega arith) (omega arith) all)
+after_live : (s : Summary) (ts : List Transaction) → AreInRangeBehind s.transactions ts → All (IsLive s) s.live
+    → All (IsLive (after s ts)) (after s ts).live
+after_live s [] fits all = all
+after_live s (t ∷ ts) fits all =
+    after_live (next t s) ts fits.1
+    (live_with s (s.transactions + 1) (s.transactions + 1) t (omega arith) (omega arith) fits.0 all)
+
+numbered_fits : (k : ℕ) (ts : List Transaction) → AreInRangeBehind k ts → AreInRange (numbered k ts)
+numbered_fits k [] fits = All-nil (λ (m : Numbered). IsInRange m.number m.transaction)
+numbered_fits k (t ∷ ts) fits =
+    All-cons (λ (m : Numbered). IsInRange m.number m.transaction) (record { number = k + 1; transaction = t })
+    (numbered (k + 1) ts) fits.0 (numbered_fits (k + 1) ts fits.1)
 
 -- the records of the next transactions are there
-pub all_more : (s : Summary) (ts : List Transaction) (old new : Image) → StandsFor s old → HasRecords (payloads_behind s.transactions ts) old new → StandsFor (after s ts) new
-all_more s ts old new stands has =
+pub all_more : (s : Summary) (ts : List Transaction) (old new : Image) → StandsFor s old
+    → AreInRangeBehind s.transactions ts → HasRecords (payloads_behind s.transactions ts) old new
+    → StandsFor (after s ts) new
+all_more s ts old new stands fits has =
     record {
       slot = stands.slot;
       header = stands.header;
@@ -81,12 +106,17 @@ all_more s ts old new stands has =
       comes_to = all_behind stands.header.transactions stands.records (numbered s.transactions ts) (under stands.header)
           ∙ ap (all_taken_up stands.header.transactions (numbered s.transactions ts)) stands.comes_to
           ∙ numbered_taken stands.header.transactions s ts stands.later;
+      fits = All-append (λ (m : Numbered). IsInRange m.number m.transaction) stands.records
+          (numbered s.transactions ts) stands.fits (numbered_fits s.transactions ts fits);
       later = omega (arith, stands.later, after_counts s ts);
-      live = after_live s ts stands.live;
+      live = after_live s ts fits stands.live;
     }
 
-pub all_or_none : (s : Summary) (ts : List Transaction) (old new : Image) → StandsFor s old → MayHaveRecords (payloads_behind s.transactions ts) old new → AllOrNone ts s new
-all_or_none s ts old new stands may = ⊎_elim (λ is. inl (same s old new is stands)) (λ has. inr (all_more s ts old new stands has)) may
+pub all_or_none : (s : Summary) (ts : List Transaction) (old new : Image) → StandsFor s old
+    → AreInRangeBehind s.transactions ts → MayHaveRecords (payloads_behind s.transactions ts) old new
+    → AllOrNone ts s new
+all_or_none s ts old new stands fits may =
+    ⊎_elim (λ is. inl (same s old new is stands)) (λ has. inr (all_more s ts old new stands fits has)) may
 
 -- there is no payload only where there is no transaction
 pub none_behind : (k : ℕ) (ts : List Transaction) → payloads_behind k ts ≡ [] → ts ≡ []
@@ -102,6 +132,8 @@ compacted s slot header old new stands says is = record {
   end = reach 42 (payloads s.live);
   counts = is;
   comes_to = rw (says.queues, says.limit, says.transactions, says.roots) (all_kept s stands.live);
+  fits = All-weaker (IsLive s) (λ (n : Numbered). IsInRange n.number n.transaction) (λ n is. is.in_range) s.live
+      stands.live;
   later = omega (arith, says.transactions);
   live = stands.live;
 }

@@ -9,6 +9,7 @@ use Rattle.txn_log.specs.declared.header.Header.{Header}
 use Rattle.txn_log.specs.declared.log.Log.{Log}
 use Rattle.txn_log.specs.Stores.{Counts, store_of}
 use Rattle.flow_disk.specs.declared.disk.Slot.{Slot}
+use Rattle.flow_txn.specs.Ranges.{IsInRange}
 use Rattle.flow_txn.specs.Records.{record_bytes}
 use Rattle.flow_disk.specs.Images.{Image}
 use Rattle.flow_disk.specs.Moments.{LeavesOnly}
@@ -17,6 +18,7 @@ use Rattle.flow_session.specs.Histories.{StandsFor, IsLive, under}
 use Rattle.checkpoint.specs.Compacting.{StaysPut}
 use Rattle.txn_log.specs.Standing.{StandsOn}
 use Rattle.flow_session.specs.Keeping.{Brings, IsOpen}
+use Rattle.flow_session.proofs.Histories.{fits_more}
 use Rattle.flow_session.proofs.Summaries.{live_with, all_append}
 
 -- nothing was done
@@ -42,6 +44,7 @@ stays_open seen images s log log' disk disk' is stays = record {
     end = is.holds.end;
     counts = stays.same ∙ is.holds.counts;
     comes_to = is.holds.comes_to;
+    fits = is.holds.fits;
     later = is.holds.later;
     live = is.holds.live;
   };
@@ -49,20 +52,31 @@ stays_open seen images s log log' disk disk' is stays = record {
 
 -- no record yet
 pub brings_none : (h : Header) → Brings h [] (under h)
-brings_none h = record { records = []; spelled = refl; comes_to = refl; later = omega arith; live = All-nil (IsLive (under h)) }
+brings_none h = record {
+  records = [];
+  spelled = refl;
+  comes_to = refl;
+  fits = All-nil (λ (n : Numbered). IsInRange n.number n.transaction);
+  later = omega arith;
+  live = All-nil (IsLive (under h));
+}
 
-taken_facts : (kept : ℕ) (s : Summary) (n : Numbered) → kept ≤ s.transactions → All (IsLive s) s.live → Follows kept s n → (kept ≤ (taken_up kept n s).transactions) × All (IsLive (taken_up kept n s)) (taken_up kept n s).live
-taken_facts kept s n le all (inl f) = rw (le-leb n.number kept f.0) (le, live_with s s.transactions n.number n.transaction (omega arith) (omega (arith, f.0, f.1)) all)
-taken_facts kept s n le all (inr f) = rw (lt-leb n.number kept f.0) (omega (arith, f.0), live_with s n.number n.number n.transaction (omega (arith, f.1)) (omega arith) all)
+taken_facts : (kept : ℕ) (s : Summary) (n : Numbered) → kept ≤ s.transactions → IsInRange n.number n.transaction
+    → All (IsLive s) s.live → Follows kept s n → (kept ≤ (taken_up kept n s).transactions) × All (IsLive (taken_up kept n s)) (taken_up kept n s).live
+taken_facts kept s n le fit all (inl f) = rw (le-leb n.number kept f.0) (le, live_with s s.transactions n.number n.transaction (omega arith) (omega (arith, f.0, f.1)) fit all)
+taken_facts kept s n le fit all (inr f) = rw (lt-leb n.number kept f.0) (omega (arith, f.0), live_with s n.number n.number n.transaction (omega (arith, f.1)) (omega arith) fit all)
 
 -- one record more
-pub brings_more : (h : Header) (bytes : List (List ℕ)) (payload : List ℕ) (s s' : Summary) (n : Numbered) → Brings h bytes s → record_bytes n.number n.transaction ≡ payload → Follows h.transactions s n → s' ≡ taken_up h.transactions n s → Brings h (bytes ++ payload ∷ []) s'
-brings_more h bytes payload s s' n b spelled follows is =
-    let facts = taken_facts h.transactions s n b.later b.live follows in
+pub brings_more : (h : Header) (bytes : List (List ℕ)) (payload : List ℕ) (s s' : Summary) (n : Numbered) → Brings h bytes s
+    → record_bytes n.number n.transaction ≡ payload → IsInRange n.number n.transaction → Follows h.transactions s n
+    → s' ≡ taken_up h.transactions n s → Brings h (bytes ++ payload ∷ []) s'
+brings_more h bytes payload s s' n b spelled fit follows is =
+    let facts = taken_facts h.transactions s n b.later fit b.live follows in
     subst (Brings h (bytes ++ payload ∷ [])) (sym is) (record {
       records = b.records ++ n ∷ [];
       spelled = map-append (λ m. record_bytes m.number m.transaction) b.records (n ∷ []) ∙ ap (λ xs. xs ++ record_bytes n.number n.transaction ∷ []) b.spelled ∙ ap (λ x. bytes ++ x ∷ []) spelled;
       comes_to = all_append h.transactions b.records n (under h) ∙ ap (taken_up h.transactions n) b.comes_to;
+      fits = fits_more b.records n b.fits fit;
       later = facts.0;
       live = facts.1;
     })
@@ -76,6 +90,7 @@ stands_for slot h bytes end image s counts b = record {
   end = end;
   counts = counts ∙ ap (λ ps. Counts slot h ps end) (sym b.spelled);
   comes_to = b.comes_to;
+  fits = b.fits;
   later = b.later;
   live = b.live;
 }

@@ -7,7 +7,6 @@ use Rattle.flow_model.specs.declared.transactions.Numbered.{Numbered}
 use Rattle.txn_log.specs.declared.header.Header.{Header}
 use Rattle.txn_log.specs.declared.opening.Opened.{Opened}
 use Rattle.txn_log.specs.Opening.{IsOpened}
-use Rattle.txn_log.specs.Records.{payloads_of}
 use Rattle.txn_log.specs.Stored.{Listed, Ends, Breaks, SlotState, Unmade, Foreign, Damaged, Good, header_fault, header_of, is_field, is_unmade, has_magic, listed, state_of, slot_state}
 use Rattle.txn_log.specs.Stores.{Counts, newer, judged_store, store_of}
 use Rattle.flow_core.specs.Summaries.{Summary, taken_up, all_taken_up}
@@ -85,7 +84,7 @@ pub opened_has_queue : (image : Image) (opened : Opened) (s : Summary) → IsOpe
 opened_has_queue image opened s is comes =
     let h = opened.header in
     let same : s.queues ≡ h.queues = sym (ap (λ (x : Summary). x.queues) comes.comes_to) ∙ taken_queues h.transactions comes.records (under h) in
-    subst (λ (n : ℕ). 1 ≤ n) (sym same) (has_queue image opened.log.slot h (payloads_of opened.records) opened.log.end is)
+    subst (λ (n : ℕ). 1 ≤ n) (sym same) (has_queue image opened.log.slot h opened.records opened.log.end is)
 
 -- what a store stands for has a queue
 pub stands_queue : (image : Image) (s : Summary) → StandsFor s image → 1 ≤ s.queues

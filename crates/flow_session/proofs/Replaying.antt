@@ -21,7 +21,6 @@ use Rattle.machine_verdicts.proofs.Keyed.{adopted_keyed, admitted_free, blank_ke
 use Rattle.machine_verdicts.specs.Keyed.{AreKeyed}
 use Rattle.recover_queue.specs.Queues.{is_quiet}
 use Rattle.txn_log.specs.Opening.{IsOpened}
-use Rattle.txn_log.specs.Records.{payloads_of}
 use Rattle.txn_log.specs.Stores.{Counts}
 use Rattle.txn_log.specs.declared.opening.Opened.{Opened}
 use Rattle.worklist_laws.proofs.OpenAsked.{admitted_asks}
@@ -125,16 +124,16 @@ all_replayed c _ _ (OneRecord {payloads = bytes} {payload} {c'} {c''} admits one
 -- ---- a store that is opened
 
 pub replays : (image : Image) (opened : Opened) (c : Core) → IsOpened image opened
-    → LeadsTo opened.header (payloads_of opened.records) c → Replays image c
+    → LeadsTo opened.header opened.records c → Replays image c
 replays image opened c is leads =
     let h = opened.header in
     let first = leads.0 in
     let begins = leads.1 in
     let some_ : 1 ≤ h.queues =
-    has_queue image opened.log.slot h (payloads_of opened.records) opened.log.end is in
+    has_queue image opened.log.slot h opened.records opened.log.end is in
     let right : IsRightCore first =
     (begun_right first (under h) begins.blank begins.kept begins.counts some_).0 in
-    let all = all_replayed first (payloads_of opened.records) c leads.2 right (blank_keyed first begins.blank) in
+    let all = all_replayed first opened.records c leads.2 right (blank_keyed first begins.blank) in
     record {
       slot = opened.log.slot;
       header = h;

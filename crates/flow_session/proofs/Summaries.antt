@@ -6,6 +6,7 @@ use Rattle.std.proofs.lemmas.Bool.{lt-leb, le-leb}
 use Rattle.flow_model.specs.declared.transactions.Transaction.{Transaction}
 use Rattle.flow_model.specs.declared.transactions.Numbered.{Numbered}
 use Rattle.flow_core.specs.Summaries.{Summary, next, deleted, started, roots_by, live_by, with_transaction, taken_up, all_taken_up, is_root, root_about}
+use Rattle.flow_txn.specs.Ranges.{IsInRange}
 use Rattle.flow_session.specs.Histories.{IsLive}
 
 roots_rise : (t : Option ℕ) (roots : ℕ) → roots_by t roots ≡ roots_by t (roots_by t roots)
@@ -20,23 +21,30 @@ roots_stay (Some r) (Some q) roots is = omega (arith, is)
 -- a live transaction is live after one more
 stays_live : (s : Summary) (transactions number : ℕ) (t : Transaction) (n : Numbered) → s.transactions ≤ transactions → IsLive s n → IsLive (with_transaction transactions number t s) n
 stays_live s transactions number t n le is = record {
+  in_range = is.in_range;
   number = omega (arith, le, is.number);
   no_delete = is.no_delete;
   root = roots_stay (started n.transaction) (started t) s.roots is.root;
 }
 
 -- so is the new one, where it is no Delete
-new_live : (s : Summary) (transactions number : ℕ) (t : Transaction) → number ≤ transactions → deleted t ≡ None → IsLive (with_transaction transactions number t s) (record { number = number; transaction = t })
-new_live s transactions number t le no_delete = record { number = le; no_delete = no_delete; root = sym (roots_rise (started t) s.roots) }
+new_live : (s : Summary) (transactions number : ℕ) (t : Transaction) → number ≤ transactions → IsInRange number t
+    → deleted t ≡ None → IsLive (with_transaction transactions number t s) (record { number = number; transaction = t })
+new_live s transactions number t le in_range no_delete = record {
+  in_range = in_range;
+  number = le;
+  no_delete = no_delete;
+  root = sym (roots_rise (started t) s.roots);
+}
 
-by : (s : Summary) (transactions number : ℕ) (t : Transaction) (d : Option ℕ) → deleted t ≡ d → number ≤ transactions → All (IsLive (with_transaction transactions number t s)) s.live → All (IsLive (with_transaction transactions number t s)) (live_by d number t s.live)
-by s transactions number t None is le old = All-append (IsLive (with_transaction transactions number t s)) s.live _ old (All-cons (IsLive (with_transaction transactions number t s)) (record { number = number; transaction = t }) [] (new_live s transactions number t le is) (All-nil (IsLive (with_transaction transactions number t s))))
-by s transactions number t (Some root) is le old = All-filter (λ n. not (is_root root (root_about n.transaction))) (IsLive (with_transaction transactions number t s)) s.live old
+by : (s : Summary) (transactions number : ℕ) (t : Transaction) (d : Option ℕ) → deleted t ≡ d → number ≤ transactions → IsInRange number t → All (IsLive (with_transaction transactions number t s)) s.live → All (IsLive (with_transaction transactions number t s)) (live_by d number t s.live)
+by s transactions number t None is le in_range old = All-append (IsLive (with_transaction transactions number t s)) s.live _ old (All-cons (IsLive (with_transaction transactions number t s)) (record { number = number; transaction = t }) [] (new_live s transactions number t le in_range is) (All-nil (IsLive (with_transaction transactions number t s))))
+by s transactions number t (Some root) is le in_range old = All-filter (λ n. not (is_root root (root_about n.transaction))) (IsLive (with_transaction transactions number t s)) s.live old
 
 -- all that is live after one more transaction
-pub live_with : (s : Summary) (transactions number : ℕ) (t : Transaction) → s.transactions ≤ transactions → number ≤ transactions → All (IsLive s) s.live → All (IsLive (with_transaction transactions number t s)) (with_transaction transactions number t s).live
-live_with s transactions number t le under all =
-    by s transactions number t (deleted t) refl under (All-weaker (IsLive s) (IsLive (with_transaction transactions number t s)) (λ n is. stays_live s transactions number t n le is) s.live all)
+pub live_with : (s : Summary) (transactions number : ℕ) (t : Transaction) → s.transactions ≤ transactions → number ≤ transactions → IsInRange number t → All (IsLive s) s.live → All (IsLive (with_transaction transactions number t s)) (with_transaction transactions number t s).live
+live_with s transactions number t le under in_range all =
+    by s transactions number t (deleted t) refl under in_range (All-weaker (IsLive s) (IsLive (with_transaction transactions number t s)) (λ n is. stays_live s transactions number t n le is) s.live all)
 
 pub all_append : (kept : ℕ) (ns : List Numbered) (n : Numbered) (s : Summary) → all_taken_up kept (ns ++ n ∷ []) s ≡ taken_up kept n (all_taken_up kept ns s)
 all_append kept [] n s = refl

@@ -25,6 +25,7 @@ pub record Begins (h : Header) (c : Core) : Type 0 where
   pub blank : IsBlank c
   pub counts : summary c ≡ under h
   pub kept : c.kept ≡ h.transactions
+  pub none_taken : (c.kept_number ≡ 0) × (c.kept_root ≡ 0)
 
 -- a payload is the record of a transaction in range that is admitted, and adopted under its number
 pub record AdmitsOne (old : Core) (payload : List ℕ) (new : Core) : Type 0 where
@@ -47,6 +48,15 @@ pub data Admits (c : Core) : List (List ℕ) → Core → Type 0 where
 -- a slot with this header and these payloads leads to a state: each record is admitted
 abbrev pub LeadsTo : Header → List (List ℕ) → Core → Type 0
 LeadsTo h payloads c = (first : Core) × Begins h first × Admits first payloads c
+
+-- an image is opened to a state of the engine: its slot that counts leads there
+pub record IsOpenedTo (image : Image) (c : Core) : Type 0 where
+  pub slot : Slot
+  pub header : Header
+  pub payloads : List (List ℕ)
+  pub end : ℕ
+  pub counts : store_of image ≡ Counts slot header payloads end
+  pub leads : LeadsTo header payloads c
 
 -- ---- a record that isn't
 

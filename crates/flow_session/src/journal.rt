@@ -5,6 +5,7 @@ ghost use Rattle.flow_disk.specs.declared.disk.Slot.{Slot};
 ghost use Rattle.flow_disk.specs.declared.disk.Slot.TheVariants.{A};
 ghost use Rattle.flow_disk.specs.Moments.{LeavesOnly};
 ghost use Rattle.flow_model.specs.declared.transactions.Transaction.{Transaction as TransactionOf};
+ghost use Rattle.flow_txn.specs.Ranges.{IsInRange};
 ghost use Rattle.flow_txn.specs.Records.{record_bytes};
 ghost use Rattle.flow_core.specs.Summaries.{Summary, summary, next};
 ghost use Rattle.flow_session.specs.Histories.{StandsFor};
@@ -43,9 +44,11 @@ pub trait Journal {
     ghost moved: { Self → Self → Summary → Type 0 };
 
     /// The payload of a transaction under a number; a journal that keeps nothing needs none. `NoMemory` comes
-    /// where there is no memory.
+    /// where there is no memory, and where the transaction is out of the range of records, to which no session of the
+    /// program comes: what couldn't be read back isn't kept.
     fn payload(&self, number: u64, t: &Transaction) -> Result<Vec<u8>, Stop>
         ensures spelled { IfOk result (λ bytes. tells → bytes.items ≡ record_bytes number t.now) }
+        ensures range { IfOk result (λ bytes. tells → IsInRange number t.now) }
         ensures silent { IfErr result (λ stop. stop ≡ NoMemory) };
 
     /// Keeps a payload: that of the next transaction. `StoreFault` comes where its count of faults rose, so that it
@@ -54,9 +57,10 @@ pub trait Journal {
     fn keep(&mut self, payload: &[u8]) -> Result<(), Stop>
         requires open { tells → (s : Summary) × holds self.old s }
         ensures kept { (s : Summary) (t : TransactionOf) → tells → holds self.old s
-            → payload.now ≡ record_bytes (s.transactions + 1) t → OnOk result (holds self.new (next t s)) }
+            → payload.now ≡ record_bytes (s.transactions + 1) t → IsInRange (s.transactions + 1) t
+            → OnOk result (holds self.new (next t s)) }
         ensures any_moment { (s : Summary) (t : TransactionOf) → tells → holds self.old s
-            → payload.now ≡ record_bytes (s.transactions + 1) t
+            → payload.now ≡ record_bytes (s.transactions + 1) t → IsInRange (s.transactions + 1) t
             → LeavesOnly moment left_since self.old self.new (WithOrWithout t s) }
         ensures place { place self.new ≡ place self.old }
         ensures undone { IfErr result (λ stop. stop ≡ NoMemory → self.new ≡ self.old) }

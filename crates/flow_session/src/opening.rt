@@ -2,15 +2,15 @@
 ghost use Rattle.std.specs.Prelude.{None, ◌≡◌, ◌≤◌, ℕ, IfErr, IfOk, MatchResult, OnOk};
 ghost use Rattle.flow_disk.specs.Moments.{LeavesOnly};
 ghost use Rattle.flow_model.specs.declared.transactions.Numbered.{Numbered as NumberedOf};
+ghost use Rattle.flow_txn.specs.Ranges.{IsInRange};
 ghost use Rattle.flow_txn.specs.Records.{record_bytes};
 ghost use Rattle.txn_log.specs.Opening.{IsOpened};
-ghost use Rattle.txn_log.specs.Records.{gates, payloads_of, places_of};
 ghost use Rattle.worklist_laws.specs.Shelved.{IsRightAndListed};
 ghost use Rattle.flow_core.specs.Refusals.{IsInOrder};
 ghost use Rattle.flow_core.specs.Summaries.{summary, taken_up, Follows};
 ghost use Rattle.flow_session.specs.Inputs.{unended};
 ghost use Rattle.flow_session.specs.Keeping.{IsOpen, ComesTo};
-ghost use Rattle.flow_session.specs.Refusing.{AdmitsOne, LeadsTo, IsUnopened, StopsAt, StopsIn};
+ghost use Rattle.flow_session.specs.Refusing.{AdmitsOne, IsOpenedTo, IsUnopened, LeadsTo, StopsAt, StopsIn};
 ghost use Rattle.flow_session.specs.Replaying.{Replays};
 ghost use Rattle.flow_session.specs.Stopping.{IsOpenCause};
 
@@ -31,7 +31,7 @@ fn adopt(
     payload: &[u8],
 ) -> Result<(), LogStop>
     ensures taken { OnOk result ((n : NumberedOf) × (record_bytes n.number n.transaction ≡ payload.now)
-        × Follows core.old.kept (summary core.old) n
+        × IsInRange n.number n.transaction × Follows core.old.kept (summary core.old) n
         × (summary core.new ≡ taken_up core.old.kept n (summary core.old))) }
     ensures kept { OnOk result (core.new.kept ≡ core.old.kept) }
     ensures right { IsRightAndListed core.old → OnOk result (IsRightAndListed core.new) }
@@ -56,11 +56,10 @@ fn adopt(
 
 /// The state that the records of an opened store give.
 fn state_of(alloc: Global, opened: &Opened) -> Result<Core, LogStop>
-    requires places { places_of opened.now.records ≡ gates 42 (payloads_of opened.now.records) }
     ensures comes { IfOk result (λ core. ComesTo opened.now (summary core)) }
     ensures right { IfOk result (λ core. 1 ≤ (summary core).queues → IsRightAndListed core) }
-    ensures admitted { IfOk result (LeadsTo opened.now.header (payloads_of opened.now.records)) }
-    ensures refused { IfErr result (StopsIn opened.now.log.slot opened.now.header (payloads_of opened.now.records)) }
+    ensures admitted { IfOk result (LeadsTo opened.now.header opened.now.records) }
+    ensures refused { IfErr result (StopsIn opened.now.log.slot opened.now.header opened.now.records) }
     ensures silent { IfErr result (λ stop. (count : ℕ) → IsOpenCause count count stop) }
 {
     let header = &opened.header;
@@ -71,9 +70,15 @@ fn state_of(alloc: Global, opened: &Opened) -> Result<Core, LogStop>
         header.transactions,
         header.roots,
     )?;
-    for record in opened.records.as_slice() {
-        let payload = record.payload.as_slice();
-        adopt(alloc, &mut core, opened.log.slot(), record.place, payload)?;
+    let mut records = opened.records.walk();
+    while let Some(record) = records.next() {
+        adopt(
+            alloc,
+            &mut core,
+            opened.log.slot(),
+            record.place,
+            record.payload,
+        )?;
     }
     Ok(core)
 }
@@ -89,8 +94,9 @@ pub fn open<D: Disk>(alloc: Global, disk: &mut D) -> Result<(Core, Opened), LogS
     ensures right { IfOk result (λ r. 1 ≤ (summary r.0).queues → IsRightAndListed r.0) }
     ensures opened { IfOk result (λ r. D.tells → IsOpened (D.seen disk.new) r.1) }
     ensures comes { IfOk result (λ r. ComesTo r.1 (summary r.0)) }
-    ensures admitted { IfOk result (λ r. LeadsTo r.1.header (payloads_of r.1.records) r.0) }
+    ensures admitted { IfOk result (λ r. LeadsTo r.1.header r.1.records r.0) }
     ensures state { IfOk result (λ r. D.tells → Replays (D.seen disk.old) r.0) }
+    ensures reached { IfOk result (λ r. D.tells → IsOpenedTo (D.seen disk.old) r.0) }
     ensures refused { IfErr result (λ stop. D.tells → IsUnopened (D.seen disk.old) stop) }
     ensures seen { OnOk result (D.seen disk.new ≡ D.seen disk.old) }
     ensures any_moment { LeavesOnly D.moment D.left_since disk.old disk.new (D.images disk.old) }
@@ -108,6 +114,7 @@ pub fn reopen<D: Disk>(alloc: Global, disk: &mut D) -> Result<(Session, Log), Lo
     ensures right { IfOk result (λ r. 1 ≤ (summary r.0.core).queues → IsRightAndListed r.0.core) }
     ensures outside { IfOk result (λ r. unended r.0 ≡ None) }
     ensures state { IfOk result (λ r. D.tells → Replays (D.seen disk.old) r.0.core) }
+    ensures reached { IfOk result (λ r. D.tells → IsOpenedTo (D.seen disk.old) r.0.core) }
     ensures refused { IfErr result (λ stop. D.tells → IsUnopened (D.seen disk.old) stop) }
     ensures seen { OnOk result (D.seen disk.new ≡ D.seen disk.old) }
     ensures any_moment { LeavesOnly D.moment D.left_since disk.old disk.new (D.images disk.old) }

@@ -11,7 +11,7 @@ ghost use Rattle.flow_core.specs.Summaries.{Summary, summary};
 ghost use Rattle.flow_model.specs.declared.transactions.Transaction.{Transaction as TransactionOf};
 ghost use Rattle.live_history.specs.Rows.{present};
 ghost use Rattle.flow_session.specs.Checkpoints.{IsCheckpointed};
-ghost use Rattle.flow_session.specs.Histories.{payloads as payloads_of, payloads_behind, after, IsHeaderOf};
+ghost use Rattle.flow_session.specs.Histories.{AreInRangeBehind, IsHeaderOf, after, payloads as payloads_of, payloads_behind};
 ghost use Rattle.flow_session.specs.Keeping.{IsOpen, rests};
 ghost use Rattle.flow_session.specs.Serving.{AllOrNone};
 ghost use Rattle.flow_session.specs.Stopping.{IsStopCause};
@@ -24,7 +24,7 @@ use checkpoint::{MoveStop, compact};
 use flow_core::Core;
 use flow_disk::Disk;
 use flow_model::{Numbered, Transaction};
-use flow_txn::encode;
+use flow_txn::{encode, fits};
 use std::alloc::Global;
 use txn_log::{Batch, Header, Log};
 
@@ -95,9 +95,11 @@ impl<D: Disk + Drop> Stored<D> {
         requires open { D.tells → (s : Summary) × IsOpen D.seen D.images self.old.log self.old.disk s }
         ensures kept { (s : Summary) (ts : List TransactionOf) → D.tells
             → IsOpen D.seen D.images self.old.log self.old.disk s → batch.now ≡ payloads_behind s.transactions ts
+            → AreInRangeBehind s.transactions ts
             → OnOk result (IsOpen D.seen D.images self.new.log self.new.disk (after s ts)) }
         ensures any_moment { (s : Summary) (ts : List TransactionOf) → D.tells
             → IsOpen D.seen D.images self.old.log self.old.disk s → batch.now ≡ payloads_behind s.transactions ts
+            → AreInRangeBehind s.transactions ts
             → LeavesOnly D.moment D.left_since self.old.disk self.new.disk (AllOrNone ts s) }
         ensures place { (self.new.log.slot ≡ self.old.log.slot)
             × (self.new.log.generation ≡ self.old.log.generation) }
@@ -231,6 +233,9 @@ impl<D: Disk + Drop> Journal for Stored<D> {
         (D.only_now journal.disk c left) };
 
     fn payload(&self, number: u64, t: &Transaction) -> Result<Vec<u8>, Stop> {
+        if !fits(number, t) {
+            return Err(Stop::NoMemory);
+        }
         Ok(encode(self.alloc, number, t)?)
     }
 

@@ -33,6 +33,7 @@ stands_new queues limit image counts = record {
   end = 42;
   counts = counts;
   comes_to = refl;
+  fits = All-nil _;
   later = omega arith;
   live = All-nil (IsLive (empty_history queues limit));
 }

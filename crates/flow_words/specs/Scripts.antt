@@ -22,6 +22,7 @@ use Rattle.flow_session.specs.Inputs.{Given, Line, Long, End, unended}
 use Rattle.flow_session.specs.Checkpoints.{IsCheckpointed}
 use Rattle.flow_session.specs.Keeping.{IsOpen}
 use Rattle.flow_session.specs.Leading.{LeadsBy, MakesAsked}
+use Rattle.flow_session.specs.Refusing.{IsOpenedTo}
 use Rattle.flow_session.specs.Replaying.{Replays}
 use Rattle.text_words.specs.Limits.{IsWithinLimit, IsBeyondLimit}
 use Rattle.flow_session.specs.declared.store.Stored.{Stored}
@@ -157,13 +158,15 @@ pub record ServesOver {D : Type 0} (c : Channels) (f : Files D) (s : Session) (l
   pub given_back : f.new ≡ journal'.disk
 
 -- A store is opened, which leaves what was there, and a session over its state serves the script. The state is the one
--- to which the records of the store lead by the steps of the machine, and the replies are those of the machine.
+-- that was reached by the records of the store, and to which they lead by the steps of the machine; and the replies are
+-- those of the machine.
 pub record ServesStoreScript {D : Type 0} (c : Channels) (f : Files D) (ended : Result (Unit {0}) Status) : Type 0 where
   pub s : Session
   pub log : Log
   pub opened : D
   pub keeps : Only (f.disk.seen f.old) (f.disk.images f.old) → KeepsFiles (files f.disk f.old opened)
   pub stood : f.disk.tells → StandsFor (summary s.core) (f.disk.seen f.old)
+  pub reached : f.disk.tells → IsOpenedTo (f.disk.seen f.old) s.core
   pub state : f.disk.tells → Replays (f.disk.seen f.old) s.core
   pub outside : unended s ≡ None
   pub whole : f.disk.tells → IsWhole s.core

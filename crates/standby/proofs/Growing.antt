@@ -1,12 +1,9 @@
 -- How a stream grows behind what a sink held.
-use Rattle.std.proofs.Common.{◌≡◌, ◌∙◌, ◌++◌, ◌∷◌, ◌+◌, suc, Result, Ok, Err, IfErr, OnOk, ◌<◌, ◌≤◌, [], ℕ, List, Option, length, take, drop, get_or, refl, ap, sym, subst, append_assoc, append-nil, drop-cons, add-one, take-append-drop}
-use Rattle.std.proofs.Math.ListN.{drop_of_length-le}
+use Rattle.std.proofs.Common.{◌≡◌, ◌∙◌, ◌++◌, ◌∷◌, ◌+◌, suc, Result, Ok, Err, IfErr, OnOk, ◌<◌, ◌≤◌, [], ℕ, List, Option, take, drop, refl, ap, sym, subst, append_assoc, append-nil, take-append-drop}
 use Rattle.std.proofs.KnownBytes.{Appends-nil, Appends-trans}
 use Rattle.std.specs.Io.KnownBytes.{Appends}
 use Rattle.std.specs.List.{flat_map}
-use Rattle.txn_log.specs.declared.judged.Record.{Record}
 use Rattle.txn_log.specs.declared.opening.Opened.{Opened}
-use Rattle.txn_log.specs.Records.{payloads_of}
 use Rattle.standby.specs.declared.stops.ShipStop.{ShipStop}
 use Rattle.standby.specs.declared.stops.ShipStop.TheVariants.{Store, Gone, Ahead, WriteFault, NoMemory}
 use Rattle.standby.specs.Endings.{PutEnd, ShipEnd}
@@ -70,18 +67,11 @@ cut_off old mid new piece left text a b = record {
   appended = Appends-trans old mid new a.put b.put a.appended b.appended;
 }
 
--- the frames of records from a place on: the one there, and those behind it
-pub next_frame : (records : List Record) (i : ℕ) (r : Record) (payload : List ℕ) → i < length records → r ≡ get_or records i r → payload ≡ r.payload → frames_bytes (payloads_of (drop i records)) ≡ frame_bytes payload ++ frames_bytes (payloads_of (drop (i + 1) records))
-next_frame records i r payload lt is e =
-    ap (λ (rs : List Record). frames_bytes (payloads_of rs)) (drop-cons records i r lt)
-    ∙ ap (λ (one : Record). frames_bytes (payloads_of (one ∷ drop (suc i) records))) (sym is)
-    ∙ append_assoc (frame_bytes r.payload) (flat_map frame_bytes (payloads_of (drop (suc i) records))) end_bytes
-    ∙ ap (λ (k : ℕ). frame_bytes r.payload ++ frames_bytes (payloads_of (drop k records))) (sym (add-one i))
-    ∙ ap (λ (p : List ℕ). frame_bytes p ++ frames_bytes (payloads_of (drop (i + 1) records))) (sym e)
-
--- behind the last record there is the end
-pub no_frame : (records : List Record) (i : ℕ) → length records ≤ i → frames_bytes (payloads_of (drop i records)) ≡ end_bytes
-no_frame records i le = ap (λ (rs : List Record). frames_bytes (payloads_of rs)) (drop_of_length-le records le)
+-- the frames of the payloads that are left: the first, and those behind it
+pub next_frame : (payload : List ℕ) (before behind : List (List ℕ)) → before ≡ payload ∷ behind
+    → frames_bytes before ≡ frame_bytes payload ++ frames_bytes behind
+next_frame payload before behind is =
+    ap frames_bytes is ∙ append_assoc (frame_bytes payload) (flat_map frame_bytes behind) end_bytes
 
 -- all that was left, where it went well
 pub ended_so : {T E : Type 0} (r : Result T E) (old mid new : Option (List ℕ)) (piece left text : List ℕ) → IsUnderWay old mid piece left text → OnOk r (Appends mid new (piece ++ left)) → OnOk r (Appends old new text)

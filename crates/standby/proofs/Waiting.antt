@@ -4,8 +4,9 @@ use Rattle.flow_core.specs.Admitting.{IsAdmitted}
 use Rattle.flow_core.specs.Summaries.{Summary, summary}
 use Rattle.flow_core.specs.declared.state.Core.{Core}
 use Rattle.flow_model.specs.declared.transactions.Transaction.{Transaction}
+use Rattle.flow_txn.specs.Ranges.{IsInRange}
 use Rattle.flow_txn.specs.Records.{record_bytes}
-use Rattle.flow_session.specs.Histories.{after, payloads_behind}
+use Rattle.flow_session.specs.Histories.{AreInRangeBehind, after, payloads_behind}
 use Rattle.flow_session.specs.Leading.{LeadsBy}
 use Rattle.flow_session.proofs.Histories.{after_counts}
 use Rattle.flow_session.proofs.Leading.{leads_none, leads_more}
@@ -18,13 +19,16 @@ use Rattle.standby.specs.declared.stops.FollowStop.TheVariants.{Store, Frame, Cu
 -- ---- a batch
 
 pub waits_none : (c : Core) (batch : List (List ℕ)) → Waits c batch c batch
-waits_none c batch = record { transactions = []; leads = leads_none c; put = sym (append-nil batch) }
+waits_none c batch = record { transactions = []; leads = leads_none c; fits = tt; put = sym (append-nil batch) }
 
 -- the record of the next transaction is put behind the others
-pub waits_one : (c c' : Core) (number : ℕ) (t : Transaction) (payload : List ℕ) (old new : List (List ℕ)) → number ≡ c.number + 1 → record_bytes number t ≡ payload → LeadsBy c (t ∷ []) c' → new ≡ old ++ payload ∷ [] → Waits c old c' new
-waits_one c c' number t payload old new is spelled leads put = record {
+pub waits_one : (c c' : Core) (number : ℕ) (t : Transaction) (payload : List ℕ) (old new : List (List ℕ)) → number ≡ c.number + 1
+    → record_bytes number t ≡ payload → IsInRange number t → LeadsBy c (t ∷ []) c' → new ≡ old ++ payload ∷ []
+    → Waits c old c' new
+waits_one c c' number t payload old new is spelled fit leads put = record {
   transactions = t ∷ [];
   leads = leads;
+  fits = (subst (λ (n : ℕ). IsInRange n t) is fit, tt);
   put = put ∙ ap (λ (p : List ℕ). old ++ p ∷ []) (sym spelled ∙ ap (λ (n : ℕ). record_bytes n t) is);
 }
 
@@ -35,12 +39,23 @@ behind_append k (t ∷ ts) us =
     ap (λ (ps : List (List ℕ)). record_bytes (k + 1) t ∷ ps)
     (behind_append (k + 1) ts us ∙ ap (λ (n : ℕ). payloads_behind (k + 1) ts ++ payloads_behind n us) same)
 
+fits_append : (k : ℕ) (ts us : List Transaction) → AreInRangeBehind k ts → AreInRangeBehind (k + length ts) us
+    → AreInRangeBehind k (ts ++ us)
+fits_append k [] us first second =
+    let same : k + 0 ≡ k = omega arith in
+    subst (λ (n : ℕ). AreInRangeBehind n us) same second
+fits_append k (t ∷ ts) us first second =
+    let same : k + suc (length ts) ≡ k + 1 + length ts = omega arith in
+    (first.0, fits_append (k + 1) ts us first.1 (subst (λ (n : ℕ). AreInRangeBehind n us) same second))
+
 pub waits_more : (c d e : Core) (old mid new : List (List ℕ)) → Waits c old d mid → Waits d mid e new → Waits c old e new
 waits_more c d e old mid new first second =
     let counted : d.number ≡ c.number + length first.transactions = ap (λ (s : Summary). s.transactions) first.leads.came ∙ after_counts (summary c) first.transactions in
     record {
       transactions = first.transactions ++ second.transactions;
       leads = leads_more c d e first.transactions second.transactions first.leads second.leads;
+      fits = fits_append c.number first.transactions second.transactions first.fits
+          (subst (λ (n : ℕ). AreInRangeBehind n second.transactions) counted second.fits);
       put = second.put
           ∙ (ap (λ (ps : List (List ℕ)). ps ++ payloads_behind d.number second.transactions) first.put
           ∙ (append_assoc old (payloads_behind c.number first.transactions) (payloads_behind d.number second.transactions)
@@ -53,10 +68,13 @@ pub waits_behind : {T E : Type 0} (r : Result T E) (c d e : Core) (old mid new :
 waits_behind (Ok x) c d e old mid new first second = waits_more c d e old mid new first second
 waits_behind (Err x) c d e old mid new first second = (second.0, waits_more c d second.0 old mid new first second.1)
 
--- what waits where there was nothing before: the payloads of the next transactions, which lead to the state where the call succeeds
-pub waits_all : {T E : Type 0} (r : Result T E) (c e : Core) (new : List (List ℕ)) → WaitsBehind c [] e new r → (ts : List Transaction) × (new ≡ payloads_behind c.number ts) × OnOk r (LeadsBy c ts e)
-waits_all (Ok x) c e new waits = (waits.transactions, waits.put, waits.leads)
-waits_all (Err x) c e new waits = (waits.1.transactions, waits.1.put, tt)
+-- what waits where there was nothing before: the payloads of the next transactions, in range, which lead to the state
+-- where the call succeeds
+pub waits_all : {T E : Type 0} (r : Result T E) (c e : Core) (new : List (List ℕ)) → WaitsBehind c [] e new r
+    → (ts : List Transaction) × (new ≡ payloads_behind c.number ts) × OnOk r (LeadsBy c ts e)
+    × AreInRangeBehind c.number ts
+waits_all (Ok x) c e new waits = (waits.transactions, waits.put, waits.leads, waits.fits)
+waits_all (Err x) c e new waits = (waits.1.transactions, waits.1.put, tt, waits.1.fits)
 
 -- nothing waits, so nothing was adopted
 pub waits_nothing : (c e : Core) (new : List (List ℕ)) → new ≡ [] → Waits c [] e new → LeadsBy c [] e

@@ -4,7 +4,6 @@ use Rattle.std.specs.Io.KnownBytes.{Appends, Keeps}
 use Rattle.flow_disk.specs.Images.{Image}
 use Rattle.txn_log.specs.declared.opening.Opened.{Opened}
 use Rattle.txn_log.specs.Opening.{IsOpened}
-use Rattle.txn_log.specs.Records.{payloads_of}
 use Rattle.flow_core.specs.Summaries.{Summary}
 use Rattle.flow_session.specs.Keeping.{ComesTo}
 use Rattle.txn_log.specs.declared.stops.LogStop.{LogStop}
@@ -21,7 +20,7 @@ last count xs = drop (length xs - count) xs
 abbrev pub shipped : Opened → ℕ → ℕ → List ℕ
 shipped opened number from =
     stream_bytes (record { queues = opened.header.queues; limit = opened.header.limit; from = from })
-    (payloads_of (last (number - from) opened.records))
+    (last (number - from) opened.records)
 
 -- all transactions above a number are records of the opened store, which has this number of transactions
 abbrev pub HasFrom : Opened → ℕ → ℕ → Type 0

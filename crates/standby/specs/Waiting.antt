@@ -2,17 +2,18 @@
 use Rattle.std.specs.Prelude.{◌≡◌, ℕ, ◌+◌, List, ◌++◌, Option, Result, MatchResult}
 use Rattle.flow_core.specs.declared.state.Core.{Core}
 use Rattle.flow_model.specs.declared.transactions.Transaction.{Transaction}
-use Rattle.flow_session.specs.Histories.{payloads_behind}
+use Rattle.flow_session.specs.Histories.{AreInRangeBehind, payloads_behind}
 use Rattle.flow_session.specs.Leading.{LeadsBy}
 use Rattle.standby.specs.Readers.{Reader}
 use Rattle.standby.specs.Stages.{Reaches, TakesPayload, stage}
 use Rattle.standby.specs.declared.stops.FollowStop.{FollowStop}
 use Rattle.standby.specs.declared.stops.FollowStop.TheVariants.{Store, NoMemory}
 
--- transactions lead from a state to another, and their payloads stand in a batch behind those that were there
+-- transactions in range lead from a state to another, and their payloads stand in a batch behind those that were there
 pub record Waits (c : Core) (old : List (List ℕ)) (c' : Core) (new : List (List ℕ)) : Type 0 where
   pub transactions : List Transaction
   pub leads : LeadsBy c transactions c'
+  pub fits : AreInRangeBehind c.number transactions
   pub put : new ≡ old ++ payloads_behind c.number transactions
 
 -- a call leaves transactions waiting for the state after it, where it succeeds; else for some state

@@ -4,6 +4,7 @@ ghost use Rattle.std.specs.Prelude.{MatchResult, OnErr, OnOk};
 ghost use Rattle.std.specs.Io.KnownBytes.{Keeps};
 ghost use Rattle.flow_disk.specs.Images.{Image};
 ghost use Rattle.flow_disk.specs.Moments.{Only};
+ghost use Rattle.flow_txn.specs.Ranges.{IsInRange};
 ghost use Rattle.flow_txn.specs.Records.{record_bytes};
 ghost use Rattle.txn_log.specs.Records.{IsPayload};
 ghost use Rattle.flow_model.specs.declared.transactions.Transaction.{Transaction as TransactionOf};
@@ -141,6 +142,7 @@ impl<D: Disk + Drop> Standby<D> {
     ) -> Result<(), FollowStop>
         requires allowed { IsPayload payload.now }
         requires spelled { record_bytes numbered.number numbered.transaction ≡ payload.now }
+        requires range { IsInRange numbered.number numbered.transaction }
         requires room { self.old.taken < 2 ^ 64 - 1 }
         ensures journal { self.new.journal ≡ self.old.journal }
         ensures waits { WaitsBehind self.old.core batch.old self.new.core batch.new result }

@@ -2,7 +2,6 @@
 ghost use Rattle.std.specs.Prelude.{◌≡◌, ◌++◌, ◌⊎◌, ℕ, List, IfErr, MatchResult, OnOk};
 ghost use Rattle.std.specs.Io.KnownBytes.{Appends, Keeps};
 ghost use Rattle.flow_disk.specs.Moments.{Only};
-ghost use Rattle.txn_log.specs.Records.{payloads_of};
 ghost use Rattle.flow_session.specs.Runs.{KeepsStore};
 ghost use Rattle.standby.specs.Endings.{PutEnd, ShipEnd, ShipDiskEnd};
 ghost use Rattle.standby.specs.Streams.{frame_bytes, end_bytes, stream_bytes, PutsPart, IsUnderWay};
@@ -15,7 +14,7 @@ use flow_disk::Disk;
 use flow_io::{Sink, put_all};
 use flow_session::open;
 use std::alloc::Global;
-use txn_log::{Opened, Record};
+use txn_log::{Opened, RecordsLeft, SlotRecords};
 
 /// The number of bytes that are put at once, and at most one frame more.
 const BLOCK: usize = 65536;
@@ -63,24 +62,24 @@ fn put_end<K: Sink>(out: &mut K, piece: &mut Vec<u8>) -> Result<(), ShipStop>
     put(out, piece)
 }
 
-/// Puts a stream of these records.
+/// Puts a stream of the records that are left of a walk.
 fn put_stream<K: Sink>(
     alloc: Global,
     out: &mut K,
     front: Front,
-    records: &[Record],
+    mut records: RecordsLeft<'_>,
 ) -> Result<(), ShipStop>
     ensures cause { MatchResult result (λ _. K.faults out.new ≡ K.faults out.old)
         (PutEnd (K.faults out.old) (K.faults out.new)) }
     ensures whole { OnOk result (Appends (K.held out.old) (K.held out.new)
-        (stream_bytes front (payloads_of records.now))) }
+        (stream_bytes front records.entry.left)) }
     ensures part { IfErr result (λ _. PutsPart (K.held out.old) (K.held out.new)
-        (stream_bytes front (payloads_of records.now))) }
+        (stream_bytes front records.entry.left)) }
 {
     let mut piece = Vec::new(alloc);
     write_front(&mut piece, front)?;
-    'records: for record in records {
-        match put_frame(out, &mut piece, record.payload.as_slice()) {
+    while let Some(record) = records.next() {
+        match put_frame(out, &mut piece, record.payload) {
             Ok(()) => {}
             Err(stop) => return Err(stop),
         }
@@ -89,11 +88,13 @@ fn put_stream<K: Sink>(
 }
 
 /// The last `count` records; all where there are fewer.
-fn last_of(records: &[Record], count: u64) -> &[Record]
-    ensures { result.now ≡ last count records.now }
+fn last_of(records: &SlotRecords, count: u64) -> RecordsLeft<'_>
+    ensures { result.left ≡ last count records.now }
 {
     let count = usize::try_from(count).unwrap_or(usize::MAX);
-    &records[records.len().saturating_sub(count)..]
+    let mut left = records.walk();
+    left.skip(records.len().saturating_sub(count));
+    left
 }
 
 /// Puts the transactions of an opened store above a number, and answers how many they are; `number` is that of the
@@ -121,7 +122,7 @@ fn ship_opened<K: Sink>(
         from,
     };
     // Behind the transactions of the header each record is the next transaction.
-    match put_stream(alloc, out, front, last_of(opened.records.as_slice(), count)) {
+    match put_stream(alloc, out, front, last_of(&opened.records, count)) {
         Ok(()) => Ok(count),
         Err(stop) => Err(stop),
     }

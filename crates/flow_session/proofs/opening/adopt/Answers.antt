@@ -24,6 +24,7 @@ returns-in-Ok-adopt-clause-admitted c = λ order. record {
     drives = c.in-Ok-adopt.ensures.drives;
     taken = c.in-Ok-adopt.ensures.taken;
     kept_number = c.in-Ok-adopt.ensures.kept_number;
+    kept_root = c.in-Ok-adopt.ensures.kept_root;
     clock = c.in-Ok-adopt.ensures.clock;
     store = c.in-Ok-adopt.ensures.store;
     keys = c.in-Ok-adopt.ensures.keys;

@@ -25,3 +25,14 @@ returns-clause-state g c told =
     replays (g.D.Disk.seen c.args.disk.now) c.in_ok-opened.opened c.in_ok-core.core
     (subst (λ (image : Image). IsOpened image c.in_ok-opened.opened) c.in_ok-opened.ensures.seen
     (c.in_ok-opened.ensures.opened told)) c.in_ok-core.ensures.admitted
+
+pub returns-clause-reached : goal.returns-clause-reached
+returns-clause-reached g c told = record {
+  slot = c.in_ok-opened.opened.log.slot;
+  header = c.in_ok-opened.opened.header;
+  payloads = c.in_ok-opened.opened.records;
+  end = c.in_ok-opened.opened.log.end;
+  counts = subst (λ (image : Image). IsOpened image c.in_ok-opened.opened) c.in_ok-opened.ensures.seen
+      (c.in_ok-opened.ensures.opened told);
+  leads = c.in_ok-core.ensures.admitted;
+}

@@ -1,12 +1,9 @@
-use Rattle.std.proofs.Common.{◌≡◌, ◌∙◌, ◌+◌, ◌++◌, ◌∷◌, [], ap, subst, sym, take, rules}
-use Rattle.std.proofs.lemmas.List.{take_more, take_all, map-append}
-use Rattle.txn_log.specs.declared.judged.Record.{Record}
-use Rattle.txn_log.specs.Records.{payloads_of}
+use Rattle.std.proofs.Common.{◌≡◌, ◌∙◌, ◌++◌, ◌∷◌, [], List, ℕ, ap, subst, sym, refl, arith, length, rules}
 use Rattle.flow_core.specs.Summaries.{Summary, summary}
 use Rattle.flow_session.specs.Keeping.{Brings}
-use Rattle.flow_session.specs.Refusing.{AdmitsOne, NoRecord, LeadsTo}
+use Rattle.flow_session.specs.Refusing.{NoRecord, LeadsTo}
 use Rattle.flow_session.proofs.Keeping.{brings_more}
-use Rattle.flow_session.proofs.Refusing.{leads_more, stops_in}
+use Rattle.flow_session.proofs.Refusing.{leads_more, passed_all, passed_one, stops_in}
 use Rattle.flow_session.proofs.Rights.{begun_right}
 use Rattle.std.proofs.lemmas.Result.{err_from_is_err_and}
 use Rattle.flow_session.proofs.opening.state_of.Goals as goal
@@ -14,22 +11,21 @@ use Rattle.flow_session.proofs.opening.state_of.Goals as goal
 pub loop-record-preserved : goal.loop-record-preserved
 loop-record-preserved c =
     let i = c.loop-record.invariant in
-    let front = take c.loop-record.record-index c.args.opened.now.records in
+    let h = c.args.opened.now.header in
+    let payload = c.in-Some.record.payload.now in
+    let next = c.in-Some.ensures in
     let taken = c.in_ok-adopt.ensures.taken in
-    let one : take (c.loop-record.record-index + 1) c.args.opened.now.records ≡ take c.loop-record.record-index c.args.opened.now.records ++ c.record-item.result ∷ [] =
-    take_more c.args.opened.now.records c.loop-record.record-index c.record-item.result (rw c.as_slice-record-items.ensures at c.loop-record-test.true) ∙ ap (λ (r : Record). take c.loop-record.record-index c.args.opened.now.records ++ r ∷ []) (sym (rw c.as_slice-record-items.ensures at c.record-item.is)) in
-    let more : payloads_of (take (c.loop-record.record-index + 1) c.args.opened.now.records) ≡ payloads_of (take c.loop-record.record-index c.args.opened.now.records) ++ c.record-item.result.payload ∷ [] =
-    ap payloads_of one ∙ map-append (λ (r : Record). r.payload) (take c.loop-record.record-index c.args.opened.now.records) (c.record-item.result ∷ []) in
     record {
-      brings = subst (λ bytes. Brings c.args.opened.now.header bytes (summary c.adopt.new.core)) (sym more)
-          (brings_more c.args.opened.now.header (payloads_of (take c.loop-record.record-index c.args.opened.now.records)) c.record-item.result.payload (summary c.loop-record.core) (summary c.adopt.new.core) taken.0
-          i.brings (taken.1 ∙ c.as_slice-payload.ensures) (rw i.kept at taken.2) (rw i.kept at taken.3));
+      front = i.front ++ payload ∷ [];
+      passed = passed_one c.args.opened.now.records i.front c.in-Some.record.payload.now c.loop-record.records
+          c.next.new.self i.passed next.1 next.2;
+      brings = brings_more h i.front payload (summary c.loop-record.core) (summary c.adopt.new.core) taken.0
+          i.brings taken.1 taken.2 (rw i.kept at taken.3) (rw i.kept at taken.4);
       kept = c.in_ok-adopt.ensures.kept ∙ i.kept;
-      queues = ap (λ (s : Summary). s.queues) taken.3 ∙ i.queues;
+      queues = ap (λ (s : Summary). s.queues) taken.4 ∙ i.queues;
       order = (c.in_ok-adopt.ensures.admitted i.order).adopted.drives.indexed i.order;
-      leads = subst (λ bytes. LeadsTo c.args.opened.now.header bytes c.adopt.new.core) (sym more)
-          (leads_more c.args.opened.now.header (payloads_of (take c.loop-record.record-index c.args.opened.now.records)) c.record-item.result.payload c.loop-record.core c.adopt.new.core i.leads
-          (subst (λ bytes. AdmitsOne c.loop-record.core bytes c.adopt.new.core) c.as_slice-payload.ensures (c.in_ok-adopt.ensures.admitted i.order)));
+      leads = leads_more h i.front payload c.loop-record.core c.adopt.new.core i.leads
+          (c.in_ok-adopt.ensures.admitted i.order);
       right = λ some_. c.in_ok-adopt.ensures.right (i.right some_);
     }
 
@@ -37,11 +33,22 @@ pub loop-record-init : goal.loop-record-init
 loop-record-init c =
     let begins = c.in_ok-core.ensures.begins in
     record {
+      front = [];
+      passed = record { split = sym c.walk-records.ensures.1; gate = c.walk-records.ensures.0 };
       brings = search rules;
       kept = c.in_ok-core.ensures.kept;
       queues = ap (λ (s : Summary). s.queues) begins;
       order = c.in_ok-core.ensures.blank.indexed;
-      leads = (c.in_ok-core.core, record { blank = c.in_ok-core.ensures.blank; counts = begins; kept = c.in_ok-core.ensures.kept }, NoRecord);
+      leads = (
+        c.in_ok-core.core,
+        record {
+          blank = c.in_ok-core.ensures.blank;
+          counts = begins;
+          kept = c.in_ok-core.ensures.kept;
+          none_taken = c.in_ok-core.ensures.none_taken;
+        },
+        NoRecord,
+      );
       right = λ some_. begun_right c.in_ok-core.core _ c.in_ok-core.ensures.blank c.in_ok-core.ensures.kept begins some_;
     }
 
@@ -55,9 +62,17 @@ returns-in_err-adopt-clause-refused c =
     let p = err_from_is_err_and c.from_residual-in_err-adopt.result c.from_residual-in_err-adopt.ensures.1 in
     let i = c.loop-record.invariant in
     let stop = c.in_err-adopt.field-0.0 in
-    let here = rw (c.slot.ensures, c.as_slice-payload.ensures) at (c.in_err-adopt.ensures.refused i.order) in
-    rw (p.1, p.2) (stops_in c.args.opened.now.log.slot c.args.opened.now.header c.args.opened.now.records c.loop-record.record-index c.record-item.result c.loop-record.core stop (rw c.as_slice-record-items.ensures at c.record-item.is) (rw c.as_slice-record-items.ensures at c.loop-record-test.true) c.requires.places i.leads here)
+    let here = rw (c.slot.ensures, c.in-Some.ensures.0) at (c.in_err-adopt.ensures.refused i.order) in
+    rw (p.1, p.2) (stops_in c.args.opened.now.log.slot c.args.opened.now.header c.args.opened.now.records i.front c.in-Some.record.payload.now c.loop-record.records c.next.new.self c.loop-record.core stop i.passed c.in-Some.ensures.1 i.leads here)
 
 pub returns-clause-admitted : goal.returns-clause-admitted
 returns-clause-admitted c =
-    subst (λ records. LeadsTo c.args.opened.now.header (payloads_of records) c.loop-record.core) (take_all c.loop-record.record-index c.args.opened.now.records (rw c.as_slice-record-items.ensures at c.loop-record-test.false)) c.loop-record.invariant.leads
+    let i = c.loop-record.invariant in
+    subst (λ records. LeadsTo c.args.opened.now.header records c.loop-record.core)
+    (sym (passed_all c.args.opened.now.records i.front c.loop-record.records i.passed c.in_default.ensures.0)) i.leads
+
+pub returns-clause-comes : goal.returns-clause-comes
+returns-clause-comes c =
+    let i = c.loop-record.invariant in
+    subst (λ records. Brings c.args.opened.now.header records (summary c.loop-record.core))
+    (sym (passed_all c.args.opened.now.records i.front c.loop-record.records i.passed c.in_default.ensures.0)) i.brings

@@ -1,4 +1,5 @@
-use Rattle.std.proofs.Common.{◌∙◌, ◌+◌, ap}
+use Rattle.std.proofs.Common.{◌∙◌, ◌+◌, ℕ, ap, subst}
+use Rattle.flow_txn.specs.Ranges.{IsInRange}
 use Rattle.flow_txn.specs.Records.{record_bytes}
 use Rattle.flow_core.proofs.Moved.{front_of}
 use Rattle.flow_core.specs.Summaries.{Summary, summary}
@@ -11,12 +12,15 @@ use Rattle.flow_session.proofs.serving.Session.make.Goals as goal
 pub returns-clause-kept : goal.returns-clause-kept
 returns-clause-kept g c told =
     let spelled = c.deref.ensures.value ∙ c.in_ok-payload.ensures.spelled told ∙ ap (λ n. record_bytes n c.args.t) c.next_number.ensures in
-    rw c.in_ok-applied.ensures.next (c.keep.ensures.kept (summary c.args.self.now.core) c.args.t told (c.requires.open told) spelled)
+    let fit = subst (λ (n : ℕ). IsInRange n c.args.t) c.next_number.ensures (c.in_ok-payload.ensures.range told) in
+    rw c.in_ok-applied.ensures.next
+    (c.keep.ensures.kept (summary c.args.self.now.core) c.args.t told (c.requires.open told) spelled fit)
 
 pub returns-clause-any_moment : goal.returns-clause-any_moment
 returns-clause-any_moment g c told =
     let spelled = c.deref.ensures.value ∙ c.in_ok-payload.ensures.spelled told ∙ ap (λ n. record_bytes n c.args.t) c.next_number.ensures in
-    c.keep.ensures.any_moment (summary c.args.self.now.core) c.args.t told (c.requires.open told) spelled
+    let fit = subst (λ (n : ℕ). IsInRange n c.args.t) c.next_number.ensures (c.in_ok-payload.ensures.range told) in
+    c.keep.ensures.any_moment (summary c.args.self.now.core) c.args.t told (c.requires.open told) spelled fit
 
 pub returns-clause-applied : goal.returns-clause-applied
 returns-clause-applied g c =

@@ -9,35 +9,35 @@ use Rattle.flow_session.proofs.Keeping.{nothing_done}
 use Rattle.flow_session.proofs.store.Stored.keep_all.Goals as goal
 
 pub returns-then-is_empty-clause-kept : goal.returns-then-is_empty-clause-kept
-returns-then-is_empty-clause-kept g c s ts told is spelled =
+returns-then-is_empty-clause-kept g c s ts told is spelled fits =
     let d = g.D.Disk in
     let empty : c.args.batch.now ≡ [] = search rules in
     subst (λ us. IsOpen d.seen d.images c.args.self.now.log c.args.self.now.disk (after s us)) (sym (none_behind s.transactions ts (sym spelled ∙ empty))) is
 
 pub returns-then-is_empty-clause-any_moment : goal.returns-then-is_empty-clause-any_moment
-returns-then-is_empty-clause-any_moment g c s ts told is spelled =
+returns-then-is_empty-clause-any_moment g c s ts told is spelled fits =
     let d = g.D.Disk in
     nothing_done d.moment d.left_since c.args.self.now.disk (AllOrNone ts s)
     (λ image left. inl (rests d.seen d.images c.args.self.now.log c.args.self.now.disk s image is (g.met.D.Disk.only_now c.args.self.now.disk image left)))
 
 pub returns-in_err-append_all-clause-any_moment : goal.returns-in_err-append_all-clause-any_moment
-returns-in_err-append_all-clause-any_moment g c s ts told is spelled =
+returns-in_err-append_all-clause-any_moment g c s ts told is spelled fits =
     let d = g.D.Disk in
     weaker d.moment d.left_since d.images c.args.self.now.disk c.append_all.new.disk (MayHaveRecords c.args.batch.now (d.seen c.args.self.now.disk)) (AllOrNone ts s) (c.append_all.ensures.any_moment told is.only)
-    (λ image may. all_or_none s ts (d.seen c.args.self.now.disk) image is.holds (subst (λ ps. MayHaveRecords ps (d.seen c.args.self.now.disk) image) spelled may))
+    (λ image may. all_or_none s ts (d.seen c.args.self.now.disk) image is.holds fits (subst (λ ps. MayHaveRecords ps (d.seen c.args.self.now.disk) image) spelled may))
 
 pub returns-clause-any_moment : goal.returns-clause-any_moment
-returns-clause-any_moment g c s ts told is spelled =
+returns-clause-any_moment g c s ts told is spelled fits =
     let d = g.D.Disk in
     weaker d.moment d.left_since d.images c.args.self.now.disk c.append_all.new.disk (MayHaveRecords c.args.batch.now (d.seen c.args.self.now.disk)) (AllOrNone ts s) (c.append_all.ensures.any_moment told is.only)
-    (λ image may. all_or_none s ts (d.seen c.args.self.now.disk) image is.holds (subst (λ ps. MayHaveRecords ps (d.seen c.args.self.now.disk) image) spelled may))
+    (λ image may. all_or_none s ts (d.seen c.args.self.now.disk) image is.holds fits (subst (λ ps. MayHaveRecords ps (d.seen c.args.self.now.disk) image) spelled may))
 
 pub returns-clause-kept : goal.returns-clause-kept
-returns-clause-kept g c s ts told is spelled =
+returns-clause-kept g c s ts told is spelled fits =
     let d = g.D.Disk in
     record {
       alive = c.in_ok-append_all.ensures.alive;
       stands = c.in_ok-append_all.ensures.stands told;
       only = c.in_ok-append_all.ensures.durable;
-      holds = all_more s ts (d.seen c.args.self.now.disk) (d.seen c.append_all.new.disk) is.holds (subst (λ ps. HasRecords ps (d.seen c.args.self.now.disk) (d.seen c.append_all.new.disk)) spelled (c.in_ok-append_all.ensures.added told));
+      holds = all_more s ts (d.seen c.args.self.now.disk) (d.seen c.append_all.new.disk) is.holds fits (subst (λ ps. HasRecords ps (d.seen c.args.self.now.disk) (d.seen c.append_all.new.disk)) spelled (c.in_ok-append_all.ensures.added told));
     }

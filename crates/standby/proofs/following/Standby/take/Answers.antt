@@ -56,7 +56,7 @@ leads g c =
 pub returns-clause-waits : goal.returns-clause-waits
 returns-clause-waits g c =
     let here = (goal.at.returns-clause-waits g c).In-Ok in
-    waits_one c.args.self.now.core c.adopt.new.self c.args.numbered.number c.args.numbered.transaction c.args.payload.now c.args.batch.now c.push.new.self (next_here g here).0 c.requires.spelled (leads g here) c.in-Ok-push.ensures
+    waits_one c.args.self.now.core c.adopt.new.self c.args.numbered.number c.args.numbered.transaction c.args.payload.now c.args.batch.now c.push.new.self (next_here g here).0 c.requires.spelled c.requires.range (leads g here) c.in-Ok-push.ensures
 
 pub returns-clause-takes : goal.returns-clause-takes
 returns-clause-takes g c right =

@@ -1,7 +1,7 @@
 use Rattle.std.proofs.Common.{◌≡◌, ◌∙◌, ◌+◌, ◌≤◌, Bool, true, false, ℕ, List, [], OnOk, sym, subst, rules}
 use Rattle.flow_model.specs.declared.transactions.Transaction.{Transaction}
 use Rattle.flow_core.specs.Summaries.{Summary, summary}
-use Rattle.flow_session.specs.Histories.{payloads_behind}
+use Rattle.flow_session.specs.Histories.{AreInRangeBehind, payloads_behind}
 use Rattle.flow_session.specs.Keeping.{IsOpen}
 use Rattle.flow_session.specs.Leading.{LeadsBy}
 use Rattle.flow_session.proofs.Calls.{makes_all}
@@ -36,6 +36,7 @@ first g c = subst (λ (batch : List (List ℕ)). Waits c.args.self.now.core batc
 -- transactions wait that lead to the state at the end
 waiting : (g : given.Over) (c : goal.After-gather-end g) → Waits c.args.self.now.core [] c.take_payload.new.self.core c.take_payload.new.batch
     → (ts : List Transaction) × (c.gather-end.new.batch ≡ payloads_behind c.args.self.now.core.number ts) × OnOk c.gather-end.result (LeadsBy c.args.self.now.core ts c.gather-end.new.self.core)
+    × AreInRangeBehind c.args.self.now.core.number ts
 waiting g c first =
     waits_all c.gather-end.result c.args.self.now.core c.gather-end.new.self.core c.gather-end.new.batch
     (waits_behind c.gather-end.result c.args.self.now.core c.take_payload.new.self.core c.gather-end.new.self.core [] c.take_payload.new.batch c.gather-end.new.batch first c.gather-end.ensures.waits)
@@ -80,7 +81,7 @@ returns-in-Ok-keep_all-clause-kept g c =
     let kept = rw (same g here.After-gather-end) at c.in-Ok-keep_all.ensures.kept in
     kept_on c.gather-end.result core c.gather-end.new.self.core w.0
     (λ s. d.tells → IsOpen d.seen d.images c.keep_all.new.self.log c.keep_all.new.self.disk s)
-    (λ told. kept (summary core) w.0 told (c.requires.open told) w.1) w.2
+    (λ told. kept (summary core) w.0 told (c.requires.open told) w.1 w.3) w.2
 
 pub returns-in-Ok-keep_all-clause-makes : goal.returns-in-Ok-keep_all-clause-makes
 returns-in-Ok-keep_all-clause-makes g c =
@@ -90,7 +91,7 @@ returns-in-Ok-keep_all-clause-makes g c =
     let w = waiting g here.After-gather-end (first g here.In-Ok) in
     let leaves = rw (same g here.After-gather-end) at c.keep_all.ensures.any_moment in
     makes_all d.tells d.moment d.left_since c.args.self.now.journal.disk c.keep_all.new.self.disk s w.0 _
-    (λ told. leaves s w.0 told (c.requires.open told) w.1) w.2
+    (λ told. leaves s w.0 told (c.requires.open told) w.1 w.3) w.2
 
 pub returns-in-Ok-keep_all-clause-takes : goal.returns-in-Ok-keep_all-clause-takes
 returns-in-Ok-keep_all-clause-takes g c right =
@@ -111,7 +112,7 @@ returns-clause-makes g c =
     let w = waiting g here.After-gather-end (first g here.In-Ok) in
     let leaves = rw (same g here.After-gather-end) at c.keep_all.ensures.any_moment in
     makes_all d.tells d.moment d.left_since c.args.self.now.journal.disk c.keep_all.new.self.disk s w.0 _
-    (λ told. leaves s w.0 told (c.requires.open told) w.1) tt
+    (λ told. leaves s w.0 told (c.requires.open told) w.1 w.3) tt
 
 pub returns-clause-cause : goal.returns-clause-cause
 returns-clause-cause g c source =
