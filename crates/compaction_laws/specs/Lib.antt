@@ -1,0 +1,4 @@
+pub mod Compact
+pub mod Checkpoints
+pub mod Resuming
+pub mod Crashes
