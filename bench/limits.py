@@ -343,6 +343,22 @@ def calls_of_deep():
     return filled("".join(head), unit, "END 'P'\n")
 
 
+def misfits_of_deep():
+    """A call in each of 16 blocks inside one another, whose containers differ from those of the process in the last of
+    512 leaves alone, each as many members deep as the text has room for."""
+    count, levels = scaled(10_800), 16
+    head = []
+    for title, last in (("V", "LONG"), ("W", "STRING")):
+        head += [f"STRUCTURE '{title}0' 'n' : LONG (511) ; 'z' : {last} ; END '{title}0'\n"]
+        head += [f"STRUCTURE '{title}{i}' 'm' : '{title}{i - 1}' ; END '{title}{i}'\n" for i in range(1, count)]
+    ours, theirs = f"V{count - 1}", f"W{count - 1}"
+    head += [f"PROCESS 'Q' ('{theirs}','{theirs}')\n{activity('A', container=theirs)}END 'Q'\n"]
+    head += [f"PROCESS 'P' ('{ours}','{ours}')\n"]
+    head += [f"BLOCK 'B{k}' ('{ours}','{ours}')\n" for k in range(levels)]
+    call = lambda k: f"PROCESS_ACTIVITY 'C{k}' ('{ours}','{ours}') PROCESS 'Q' END 'C{k}'\nEND 'B{k}'\n"
+    return "".join(head) + "".join(call(k) for k in reversed(range(levels))) + "END 'P'\n"
+
+
 def attributes():
     rest = "WHEN ALL CONNECTORS TRUE START MANUAL EXPIRES 1 DONE_BY ROLE 'clerk' "
     return in_process(lambda i: activity(f"A{i}", rest))
@@ -473,7 +489,8 @@ class Row:
 TEXTS = [structures, members, structure_chain, structure_chain_used, structure_fan, structure_wide, persons, roles,
          comments, comment, blanks, activities, processes, connector_chain, connectors, cycles, otherwises, performers,
          first_performers, data_chain, data_far, walks, data_maps, data_map, conditions, long_conditions, nested_conditions,
-         blocks, flat_blocks, calls, calls_of_wide, calls_of_alike, calls_of_deep, attributes, texts]
+         blocks, flat_blocks, calls, calls_of_wide, calls_of_alike, calls_of_deep, misfits_of_deep, attributes,
+         texts]
 FATES = [fate_attempts, fate_items, fate_blocks, fate_inner, fate_wide, fate_refused]
 SERVED = ["try", "LIMIT", "10000000"]
 
