@@ -1,5 +1,5 @@
 -- Where a line is refused: at the first token with which its tokens begin no command.
-use Rattle.std.specs.Prelude.{◌≡◌, ◌≢◌, ℕ, ◌==◌, nat_le, Bool, ◌||◌, ◌&&◌, Some}
+use Rattle.std.specs.Prelude.{◌≢◌, ℕ, ◌==◌, nat_le, Bool, ◌||◌, ◌&&◌, Some}
 use Rattle.flow_table.specs.declared.keyword.TheConstants as keyword
 use Rattle.flow_model.specs.declared.commands.Command.{Command}
 use Rattle.flow_model.specs.declared.commands.Completion.{Completion}

@@ -1,5 +1,5 @@
 -- The completions that count of a run are those that the live transactions of its root tell.
-use Rattle.std.proofs.Common.{◌≡◌, ℕ, Bool, true, false, List, [], ◌∷◌, Some, length, refl, ap, sym, ◌∙◌}
+use Rattle.std.proofs.Common.{◌≡◌, ℕ, Bool, true, false, List, [], ◌∷◌, Some, length, refl, ap, ◌∙◌}
 use Rattle.flow_core.specs.Answers.{instance_of}
 use Rattle.flow_core.specs.Facts.{accepted}
 use Rattle.flow_core.specs.declared.state.Core.{Core}

@@ -1,17 +1,16 @@
 -- A transaction that may be meets what the proofs ask of it, and so each state to which transactions lead is right.
-use Rattle.std.proofs.Common.{◌≡◌, ℕ, zero, suc, ◌-◌, ◌<◌, ◌≤◌, false, List, [], ◌∷◌, ◌++◌, drop, length, Option, Some, None, refl, ap, sym, subst, ◌∙◌, arith}
+use Rattle.std.proofs.Common.{◌≡◌, ℕ, zero, suc, ◌-◌, ◌<◌, ◌≤◌, false, List, [], drop, length, Option, Some, None, refl, ap, sym, subst, ◌∙◌, arith}
 use Rattle.std.proofs.lemmas.List.{length-set}
 use Rattle.std.proofs.lemmas.Option.{none-some}
-use Rattle.std.specs.Prelude.{slice_get}
 use Rattle.activity_states.specs.States.{fate_of}
 use Rattle.containers.specs.Settings.{filled}
 use Rattle.fate_laws.specs.WellFormed.{Well}
 use Rattle.view_laws.specs.NextEvents.{Aimed}
 use Rattle.flow_core.proofs.Putting.{put_length}
-use Rattle.flow_core.specs.Allowing.{IsFree, IsAllowed, IsBlank}
+use Rattle.flow_core.specs.Allowing.{IsAllowed, IsBlank}
 use Rattle.flow_core.specs.Allowing.{IsOpen as IsOpenItem}
 use Rattle.flow_core.specs.Answers.{instance_of}
-use Rattle.flow_core.specs.Driving.{templates, queue_now, put_in, taken_by, LibraryAfter, IfLive, BecomesCompleted, item_of, Drives}
+use Rattle.flow_core.specs.Driving.{templates, queue_now, taken_by, LibraryAfter, IfLive, BecomesCompleted, item_of, Drives}
 use Rattle.flow_core.specs.Facts.{start_settings}
 use Rattle.flow_core.specs.Summaries.{live_after}
 use Rattle.flow_core.specs.Verdicts.{IsFront}
@@ -43,7 +42,7 @@ use Rattle.template_check.proofs.Calling.{sound_none}
 use Rattle.template_check.proofs.Together.{well_together, aimed_together}
 use Rattle.template_check.specs.Built.{AreSound}
 use Rattle.view_laws.specs.Runs.{Event}
-use Rattle.core_laws.proofs.Asked.{IsOpen, IsNew, AreOf, IsAsked, MayBe}
+use Rattle.core_laws.proofs.Asked.{IsOpen, AreOf, IsAsked, MayBe}
 use Rattle.core_laws.proofs.Counted.{stays_counted}
 use Rattle.core_laws.proofs.ServedTogether.{all_there, template_there, served_together}
 use Rattle.core_laws.proofs.Standing.{front_of_root, none_stand}

@@ -1,5 +1,5 @@
 -- The output of a root that is done.
-use Rattle.std.proofs.Common.{◌≡◌, ◌==◌, ◌&&◌, ◌+◌, ◌≤◌, ℕ, zero, suc, Bool, true, false, Some, List, [], length, refl, arith, subst, sym, ◌∙◌}
+use Rattle.std.proofs.Common.{◌≡◌, ◌==◌, ◌&&◌, ◌+◌, ℕ, zero, suc, Bool, true, false, Some, List, [], length, refl, arith, subst, sym, ◌∙◌}
 use Rattle.std.proofs.lemmas.Bool.{and_parts}
 use Rattle.fate_laws.proofs.Stays.{output_kept, unsettled_past}
 use Rattle.flow_core.specs.Answers.{mode_now}

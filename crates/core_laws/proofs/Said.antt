@@ -11,7 +11,7 @@ use Rattle.containers.specs.Settings.{filled}
 use Rattle.flow_core.specs.Allowing.{IsFree, CountsRoot, IsAllowed}
 use Rattle.flow_core.specs.Allowing.{IsOpen as IsOpenItem}
 use Rattle.flow_core.specs.Answers.{instance_of}
-use Rattle.flow_core.specs.Driving.{templates, graph_now, activity_named, entry_in, IfLive, BecomesCompleted, item_of, ChangesRoot, Drives}
+use Rattle.flow_core.specs.Driving.{templates, graph_now, activity_named, entry_in, IfLive, BecomesCompleted, item_of, Drives}
 use Rattle.flow_core.specs.Facts.{activity_on, activity_now, fact_by, fact_of, fact_about, settings_in, start_settings}
 use Rattle.flow_core.specs.Summaries.{root_about, is_root, started, without_root, live_after}
 use Rattle.flow_core.specs.declared.state.Core.{Core}

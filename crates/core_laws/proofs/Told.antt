@@ -7,11 +7,10 @@ use Rattle.std.specs.List.{filter, filter_map}
 use Rattle.flow_core.specs.Allowing.{IsFree, CountsRoot, IsAllowed}
 use Rattle.flow_core.specs.Allowing.{IsOpen as IsOpenItem}
 use Rattle.flow_core.specs.Answers.{instance_of}
-use Rattle.flow_core.specs.Driving.{templates, IfLive, BecomesCompleted, item_of, ChangesRoot, Drives}
+use Rattle.flow_core.specs.Driving.{templates, IfLive, item_of, Drives}
 use Rattle.flow_core.specs.Facts.{fact_about}
 use Rattle.flow_core.specs.Summaries.{root_about, is_root, without_root, live_after}
 use Rattle.flow_core.specs.declared.state.Core.{Core}
-use Rattle.flow_model.specs.declared.graphs.Template.{Template}
 use Rattle.flow_model.specs.declared.instances.Message.{Message}
 use Rattle.flow_model.specs.declared.instances.Path.{Path}
 use Rattle.flow_model.specs.declared.transactions.Numbered.{Numbered}
@@ -19,7 +18,6 @@ use Rattle.flow_model.specs.declared.transactions.Setting.{Setting}
 use Rattle.flow_model.specs.declared.transactions.Transaction.{Transaction}
 use Rattle.flow_model.specs.declared.transactions.Transaction.TheVariants.{Import, Start, Turn, Claim, Release, Transfer, Take, Done, Force, Restart, Suspend, Resume, Terminate, Delete, Clock}
 use Rattle.library_laws.specs.Larger.{Agrees}
-use Rattle.navigator.specs.Items.{Entry}
 use Rattle.navigator.specs.declared.instance.Instance.{Instance}
 use Rattle.recover_queue.specs.Queues.{root_of}
 use Rattle.view_laws.specs.Messages.{Note}

@@ -1,5 +1,5 @@
 -- Pieces one behind the other.
-use Rattle.std.proofs.Common.{◌≡◌, ℕ, Bool, true, false, if◌then◌else◌, List, [], ◌∷◌, ◌++◌, refl, sym, ap, ◌∙◌, append_assoc, append-nil, ◌<◌, ◌≤◌, ◌+◌, ◌-◌, length, map, get_or, take, drop, arith}
+use Rattle.std.proofs.Common.{◌≡◌, ℕ, true, false, if◌then◌else◌, List, [], ◌∷◌, ◌++◌, refl, sym, ap, ◌∙◌, append_assoc, append-nil, ◌<◌, ◌≤◌, ◌+◌, ◌-◌, length, map, get_or, take, drop, arith}
 use Rattle.std.specs.List.{flat_map}
 use Rattle.std.proofs.lemmas.List.{drop_more, take_all, drop_all}
 use Rattle.fdl_print.specs.Pieces.{Piece, Token, Stop, Page, text, with_piece, with_pieces}

@@ -27,7 +27,7 @@ use Rattle.fdl_parser.specs.Activities.{AreStructures, InputOutput, IsClosing, E
 use Rattle.fdl_print.specs.Pieces.{Piece, Stop, word, sign, name}
 use Rattle.fdl_print.specs.Elements.{closing_pieces, heading_pieces, join_pieces, attr_pieces, attr_line, when_pieces, control_pieces, end_piece, ends_pieces, map_pieces, later_map, maps_pieces, data_pieces}
 use Rattle.fdl_print.specs.Canonical.{Worked, activity_pieces, element_pieces}
-use Rattle.fdl_print.specs.Same.{Each, NoneLeft, OneMore, SameName, SameNumber, SameLeaf, SameMap, SameCondAt, SameWhen, TwoAlways, TwoOtherwise, TwoWhen, SameControl, SameEnd, TwoBorders, TwoActivities, SameEnds, TwoLines, TwoLoops, SameData, SameJoin, TwoAll, TwoAtLeastOne, TwoAtLeast, SameWhat, TwoJoins, TwoExits, TwoExpires, TwoRoles, TwoPersons, TwoPerformers, TwoStarts, TwoStarters, SameAttr, SameWork, TwoPrograms, TwoCalls, TwoBlocks, SameActivity, TwoActivityTrees, SameElement, TwoActs, TwoControls, TwoData, SameElements}
+use Rattle.fdl_print.specs.Same.{Each, NoneLeft, OneMore, SameName, SameMap, SameWhen, TwoAlways, TwoOtherwise, TwoWhen, SameControl, SameEnd, TwoBorders, TwoActivities, SameEnds, TwoLines, TwoLoops, SameData, SameJoin, TwoAll, TwoAtLeastOne, TwoAtLeast, TwoJoins, TwoExits, TwoExpires, TwoRoles, TwoPersons, TwoPerformers, TwoStarts, TwoStarters, SameAttr, TwoPrograms, TwoCalls, TwoBlocks, SameActivity, TwoActivityTrees, SameElement, TwoActs, TwoControls, TwoData, SameElements}
 use Rattle.fdl_print.specs.Same as same
 use Rattle.fdl_print.proofs.Blocks.{worked_program, worked_process, worked_block, element_activity, element_control, element_line}
 use Rattle.fdl_print.proofs.Fine.{fine_open, fine_close, fine_comma}

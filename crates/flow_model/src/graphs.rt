@@ -206,7 +206,7 @@ pub struct LoopLine {
 /// Where a graph's lines lead, by the places of its activities: what follows from its lists alone.
 #[derive(Drop)]
 pub struct Wiring {
-    /// An order of the activities in which each connector goes forward.
+    /// The activities by the longest walk of connectors that leads to each, and then by number.
     pub order: List<u32>,
     /// For each activity the places of the connectors that lead to it.
     pub incoming: List<List<u32>>,

@@ -1,7 +1,6 @@
 -- The rows of structures, made in an order in which kinds come first.
-use Rattle.std.proofs.Common.{◌≡◌, ◌≢◌, ◌⊎◌, inl, inr, ℕ, zero, suc, ◌+◌, ◌-◌, ◌<◌, ◌≤◌, List, [], ◌∷◌, ◌++◌, length, get_or, set, Option, Some, None, refl, sym, ap, subst, ◌∙◌, ⊎_elim, arith}
+use Rattle.std.proofs.Common.{◌≡◌, ◌≢◌, ◌⊎◌, inl, inr, ℕ, zero, suc, ◌+◌, ◌-◌, ◌<◌, ◌≤◌, List, [], ◌∷◌, length, get_or, set, Option, Some, None, refl, sym, ap, subst, ◌∙◌, arith}
 use Rattle.std.specs.Prelude.{slice_get}
-use Rattle.std.specs.List.{Contains}
 use Rattle.std.specs.Option.{option_and_then}
 use Rattle.std.proofs.Math.ListN.{length-set}
 use Rattle.std.proofs.lemmas.Bool.{cases_eq}
@@ -10,13 +9,12 @@ use Rattle.std.proofs.lemmas.Option.{slice_get_within, slice_get-get_or, get_or_
 use Rattle.flow_model.specs.declared.graphs.Leaf.{Leaf}
 use Rattle.flow_model.specs.declared.trees.KindTree.{KindTree}
 use Rattle.flow_model.specs.declared.trees.KindTree.TheVariants as kind
-use Rattle.flow_model.specs.declared.trees.Member.{Member}
 use Rattle.flow_model.specs.declared.trees.StructDef.{StructDef}
 use Rattle.graph_check.specs.Walks.{IsOrder}
 use Rattle.text_graphs.proofs.Naming.{first_below}
 use Rattle.leaf_rules.specs.KindEdges.{kind_in, kind_edges}
 use Rattle.leaf_rules.specs.ReturnCodes.{return_code}
-use Rattle.leaf_rules.specs.Runs.{leaves_in_run, IsRun, run_named, IsMadeBy, IsKindMade, AreKindsMade, AreLeavesMade, IsRowed}
+use Rattle.leaf_rules.specs.Runs.{leaves_in_run, IsRun, IsMadeBy, IsKindMade, AreKindsMade, AreLeavesMade, IsRowed}
 use Rattle.leaf_rules.specs.Structures.{structure_in}
 use Rattle.leaf_rules.specs.StructureLeaves.{members_leaves, members_said, members_named, leaves_to}
 use Rattle.leaf_rules.specs.declared.rows.Run.{Run}

@@ -1,9 +1,8 @@
 -- Rows of structures: each goes on with those of its kinds.
-use Rattle.std.proofs.Common.{◌≡◌, ◌≢◌, ℕ, zero, suc, ◌+◌, ◌-◌, ◌<◌, ◌≤◌, min, max, List, [], ◌∷◌, ◌++◌, map, take, drop, length, Option, Some, None, refl, sym, ap, subst, ◌∙◌, ⊎_elim, append_assoc, append-nil, arith}
+use Rattle.std.proofs.Common.{◌≡◌, ℕ, zero, suc, ◌+◌, ◌-◌, ◌<◌, ◌≤◌, min, max, List, [], ◌∷◌, ◌++◌, map, take, drop, length, Option, Some, None, refl, sym, ap, ◌∙◌, append_assoc, append-nil, arith}
 use Rattle.std.specs.Prelude.{slice_get, option_map}
-use Rattle.std.specs.List.{Contains, flat_map, range_with_len}
-use Rattle.std.specs.Option.{option_and_then}
-use Rattle.std.proofs.lemmas.List.{map-append, length-append, length-map}
+use Rattle.std.specs.List.{flat_map, range_with_len}
+use Rattle.std.proofs.lemmas.List.{map-append, length-append}
 use Rattle.flow_model.specs.declared.graphs.Kind.{Kind}
 use Rattle.flow_model.specs.declared.graphs.Leaf.{Leaf}
 use Rattle.flow_model.specs.declared.graphs.Step.{Step}
@@ -11,10 +10,10 @@ use Rattle.flow_model.specs.declared.trees.KindTree.{KindTree}
 use Rattle.flow_model.specs.declared.trees.KindTree.TheVariants as kind
 use Rattle.flow_model.specs.declared.trees.Member.{Member}
 use Rattle.flow_model.specs.declared.trees.StructDef.{StructDef}
-use Rattle.flow_model.specs.LeafRows.{place_steps, steps_said, linked_steps}
+use Rattle.flow_model.specs.LeafRows.{steps_said, linked_steps}
 use Rattle.leaf_rules.specs.ReturnCodes.{return_code}
-use Rattle.leaf_rules.specs.Runs.{leaves_in_run, IsRun, run_named, IsMadeBy, IsKindMade, AreKindsMade, IsRowed}
-use Rattle.leaf_rules.specs.StructureLeaves.{element_count, below, element_steps, kind_leaves, element_leaves, member_leaves, members_leaves, place_step}
+use Rattle.leaf_rules.specs.Runs.{IsRun, run_named, IsMadeBy, IsKindMade, AreKindsMade, IsRowed}
+use Rattle.leaf_rules.specs.StructureLeaves.{element_count, below, element_steps, kind_leaves, element_leaves, member_leaves, members_leaves}
 use Rattle.leaf_rules.specs.declared.rows.Run.{Run}
 
 -- ---- runs of a table that grows

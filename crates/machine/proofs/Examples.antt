@@ -1,13 +1,12 @@
 -- A history, computed step by step: a process with a subprocess and a program behind it, with a key that is used,
 -- deleted and used again. It inhabits the definitions: a blank state, an Import, a Start, turns, a Claim, a completion,
 -- a Clock, a Terminate and a Delete.
-use Rattle.std.proofs.Common.{◌≡◌, ℕ, Bool, true, false, Option, Some, None, option_map, List, [], ◌∷◌, map, length, refl}
+use Rattle.std.proofs.Common.{◌≡◌, ℕ, Bool, true, false, Option, Some, None, option_map, List, [], ◌∷◌, map, refl}
 use Rattle.activity_states.specs.States.{fate_of, hold_of}
 use Rattle.flow_model.specs.declared.graphs.DoneBy.TheVariants.{Starter}
 use Rattle.flow_model.specs.declared.graphs.Graph.{Graph, out-Graph, roll-Graph}
 use Rattle.flow_model.specs.declared.graphs.Join.TheVariants as join
 use Rattle.flow_model.specs.declared.graphs.Leaves.{Leaves}
-use Rattle.flow_model.specs.declared.graphs.Template.{Template}
 use Rattle.flow_model.specs.declared.graphs.When.TheVariants.{Always}
 use Rattle.flow_model.specs.declared.graphs.Work.{Work, Program, Process}
 use Rattle.flow_model.specs.declared.graphs.Work.TheBlock.{shown-the_row-Activity-0}
@@ -15,7 +14,6 @@ use Rattle.flow_model.specs.declared.instances.Fate.{Fate}
 use Rattle.flow_model.specs.declared.instances.Fate.TheVariants as fates
 use Rattle.flow_model.specs.declared.instances.Hold.{Hold}
 use Rattle.flow_model.specs.declared.instances.Hold.TheVariants as hold
-use Rattle.flow_model.specs.declared.instances.Message.{Message}
 use Rattle.flow_model.specs.declared.instances.Message.TheVariants.{Begin, Signal, End}
 use Rattle.flow_model.specs.declared.instances.Part.{Part}
 use Rattle.flow_model.specs.declared.instances.Path.{Path}
@@ -24,7 +22,7 @@ use Rattle.flow_model.specs.declared.names.Name.{Name}
 use Rattle.flow_model.specs.declared.transactions.Numbered.{Numbered}
 use Rattle.flow_model.specs.declared.transactions.Transaction.{Transaction}
 use Rattle.flow_model.specs.declared.transactions.Transaction.TheVariants.{Import, Start, Turn, Claim, Done}
-use Rattle.flow_model.specs.declared.transactions.Transaction.TheVariants.{Suspend, Terminate, Delete, Clock}
+use Rattle.flow_model.specs.declared.transactions.Transaction.TheVariants.{Terminate, Delete, Clock}
 use Rattle.machine.specs.Imports.{Added, nothing_added}
 use Rattle.machine.specs.Items.{Entry}
 use Rattle.machine.specs.Rows.{Stage, Runs, Ended, Standing, Item, Inner, Row}

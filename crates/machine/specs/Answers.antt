@@ -1,12 +1,12 @@
 -- The reply to each query; of SHOW with all levels of scopes, of WORKLIST by the items that the person sees.
-use Rattle.std.specs.Prelude.{◌≡◌, ◌↔◌, ◌||◌, ◌&&◌, ℕ, zero, suc, ◌+◌, ◌-◌, ◌≤◌, ◌==◌, nat_le, not, Bool, true, false}
+use Rattle.std.specs.Prelude.{◌≡◌, ◌↔◌, ◌||◌, ◌&&◌, ℕ, zero, suc, ◌+◌, ◌-◌, ◌≤◌, nat_le, not, Bool, true}
 use Rattle.std.specs.Prelude.{if◌then◌else◌, Option, Some, None, option_map, option_and_then, unwrap_or, List, [], ◌∷◌}
-use Rattle.std.specs.Prelude.{◌++◌, map, length, slice_get}
-use Rattle.std.specs.List.{flat_map, filter, Contains}
+use Rattle.std.specs.Prelude.{map, length, slice_get}
+use Rattle.std.specs.List.{flat_map, Contains}
 use Rattle.std.specs.List.Sorted.{IsStrictlySortedBy}
 use Rattle.std.specs.Ordering.{nat_cmp}
 use Rattle.std.specs.Cmp.Lexicographic.{slice_cmp}
-use Rattle.activity_states.specs.States.{State as ItemState, fate_of, hold_of, output_of}
+use Rattle.activity_states.specs.States.{fate_of, output_of}
 use Rattle.blocks_subprocs.specs.Ends.{ends_of}
 use Rattle.flow_core.specs.Answers.{view_text, queue_text, audit_text, templates_text, worklist_text}
 use Rattle.flow_core.specs.Containing.{output_text, input_text}
@@ -34,15 +34,14 @@ use Rattle.flow_model.specs.declared.instances.Part.{Part}
 use Rattle.flow_model.specs.declared.instances.Path.{Path}
 use Rattle.flow_model.specs.declared.instances.Phase.TheVariants as phase
 use Rattle.flow_model.specs.declared.instances.WorkLine.{WorkLine}
-use Rattle.process_rules.specs.Imports.{latest_person}
 use Rattle.recover_queue.specs.Queues.{queue as messages_of}
 use Rattle.staff_worklists.specs.Rights.{is_eligible, holds_it}
 use Rattle.staff_worklists.specs.Shelves.{is_held, is_free}
 use Rattle.machine.specs.Items.{Entry}
 use Rattle.machine.specs.Moves.{graph_under}
 use Rattle.machine.specs.Rows.{Stage, Waits, Runs, Ended, Died, Standing, Item, Inner, Row, Scopes, inside, place_of}
-use Rattle.machine.specs.States.{Root, State, templates, item_of}
-use Rattle.machine.specs.Verdicts.{between, IsNamed, Subject, mode_in, phase_of, person_of, subject_of, phase_in}
+use Rattle.machine.specs.States.{Root, State, templates}
+use Rattle.machine.specs.Verdicts.{between, IsNamed, Subject, mode_in, person_of, subject_of, phase_in}
 use Rattle.machine.specs.Verdicts.{hold_in, is_going}
 
 -- ---- SHOW: the rows of all scopes that have begun, in show order

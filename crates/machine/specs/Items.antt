@@ -1,7 +1,7 @@
 -- The item of a path, in the scopes of a root.
-use Rattle.std.specs.Prelude.{◌≡◌, ℕ, ◌==◌, nat_le, ◌&&◌, Bool, true, false, if◌then◌else◌, Option, Some, None, List}
+use Rattle.std.specs.Prelude.{ℕ, nat_le, ◌&&◌, if◌then◌else◌, Option, Some, None, List}
 use Rattle.std.specs.Prelude.{[], ◌∷◌, slice_get, option_and_then}
-use Rattle.activity_states.specs.States.{State, fate_of, performer_of}
+use Rattle.activity_states.specs.States.{State, fate_of}
 use Rattle.flow_model.specs.declared.graphs.Activity.{Activity}
 use Rattle.flow_model.specs.declared.graphs.Graph.{Graph, out-Graph}
 use Rattle.flow_model.specs.declared.graphs.Program.{Program as ProgramOf}
@@ -10,7 +10,6 @@ use Rattle.flow_model.specs.declared.graphs.Work.{Work, Program, Block, Process}
 use Rattle.flow_model.specs.declared.instances.Fate.{Fate}
 use Rattle.flow_model.specs.declared.instances.Fate.TheVariants as fates
 use Rattle.flow_model.specs.declared.instances.Part.{Part}
-use Rattle.flow_model.specs.declared.instances.SourceEnd.{SourceEnd}
 use Rattle.flow_model.specs.declared.instances.SourceEnd.TheVariants as end
 use Rattle.machine.specs.Rows.{Standing, Item, Inner, Row, Scopes, inside, place_of, attempt_place}
 use Rattle.machine.specs.Moves.{graph_under}

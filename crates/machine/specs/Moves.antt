@@ -1,6 +1,6 @@
 -- What an event does to the scopes of a root: one function for each step, and one for the whole.
 use Rattle.std.specs.Prelude.{ℕ, zero, suc, ◌+◌, ◌-◌, ◌==◌, nat_le, nat_lt, Bool, true, false, not, ◌&&◌, ◌||◌}
-use Rattle.std.specs.Prelude.{if◌then◌else◌, Option, Some, None, option_and_then, List, [], ◌∷◌, ◌++◌, length}
+use Rattle.std.specs.Prelude.{if◌then◌else◌, Option, Some, None, List, [], ◌∷◌, ◌++◌, length}
 use Rattle.std.specs.Prelude.{slice_get, slice_set}
 use Rattle.activity_states.specs.States.{State, fate_of, made_ready, killed, completed, held, taken}
 use Rattle.activity_states.specs.declared.states.Completed.{Completed}
@@ -29,7 +29,7 @@ use Rattle.flow_model.specs.declared.instances.Path.{Path}
 use Rattle.flow_model.specs.declared.instances.SourceEnd.{SourceEnd}
 use Rattle.flow_model.specs.declared.instances.SourceEnd.TheVariants as end
 use Rattle.flow_model.specs.declared.names.Name.{Name}
-use Rattle.machine.specs.Rows.{Stage, Waits, Runs, Ended, Died, Standing, Item, Inner, Row, Scopes, only, inside}
+use Rattle.machine.specs.Rows.{Runs, Ended, Died, Standing, Item, Inner, Row, Scopes, only, inside}
 use Rattle.machine.specs.Rows.{with_row, with_inside, place_of, attempt_place, fresh_row}
 
 -- ---- what follows from an event

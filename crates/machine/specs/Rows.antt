@@ -1,11 +1,10 @@
 -- The scopes of a root, as a function of where they lie: what stands in each, and nothing of how it is kept.
 use Rattle.std.specs.Prelude.{ℕ, zero, suc, ◌-◌, ◌==◌, ◌&&◌, ◌^◌, min, Bool, true, false, if◌then◌else◌, Option, Some}
-use Rattle.std.specs.Prelude.{None, List, [], ◌∷◌, length, map, replicate, slice_get, slice_set, position, bytes_eq}
+use Rattle.std.specs.Prelude.{None, List, [], ◌∷◌, length, map, replicate, position, bytes_eq}
 use Rattle.activity_states.specs.States.{State, waiting}
 use Rattle.dead_paths.specs.declared.joins.Tally.{Tally}
 use Rattle.flow_model.specs.Wiring.{row_at}
 use Rattle.flow_model.specs.ScopeContainers.{up_to}
-use Rattle.flow_model.specs.declared.graphs.Activity.{Activity}
 use Rattle.flow_model.specs.declared.graphs.Container.{Container}
 use Rattle.flow_model.specs.declared.graphs.Graph.{Graph, out-Graph}
 use Rattle.flow_model.specs.declared.graphs.Work.{Work, Program as RunsProgram, Block, Process}

@@ -1,6 +1,6 @@
 -- The state of the machine: what all later replies are functions of, and nothing of how it is kept.
-use Rattle.std.specs.Prelude.{◌≡◌, ℕ, ◌==◌, Bool, true, false, if◌then◌else◌, Option, Some, None, option_and_then}
-use Rattle.std.specs.Prelude.{option_map, List, [], ◌∷◌, ◌++◌, replicate, bytes_eq}
+use Rattle.std.specs.Prelude.{ℕ, Bool, false, if◌then◌else◌, Option, Some, None, option_and_then}
+use Rattle.std.specs.Prelude.{List, [], ◌∷◌, replicate, bytes_eq}
 use Rattle.std.specs.Option.{option_or}
 use Rattle.flow_model.specs.ScopeContainers.{graph_of}
 use Rattle.flow_model.specs.declared.graphs.Graph.{Graph}

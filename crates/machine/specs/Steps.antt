@@ -1,10 +1,9 @@
 -- The step: what a transaction does to the state.
-use Rattle.std.specs.Prelude.{◌≡◌, ℕ, ◌+◌, ◌-◌, ◌^◌, ◌==◌, min, max, nat_le, Bool, true, false, not, ◌&&◌}
+use Rattle.std.specs.Prelude.{◌≡◌, ℕ, ◌+◌, ◌-◌, ◌==◌, min, max, Bool, true, false, not}
 use Rattle.std.specs.Prelude.{if◌then◌else◌, Option, Some, None, option_and_then, option_map, List, [], ◌∷◌, ◌++◌}
-use Rattle.std.specs.Prelude.{length, slice_get, position, bytes_eq}
+use Rattle.std.specs.Prelude.{length, slice_get}
 use Rattle.std.specs.List.{filter}
-use Rattle.std.specs.Option.{option_or, option_map_or}
-use Rattle.activity_states.specs.States.{fate_of}
+use Rattle.std.specs.Option.{option_map_or}
 use Rattle.containers.specs.Settings.{filled}
 use Rattle.flow_model.specs.Containers.{fresh}
 use Rattle.flow_model.specs.ScopeContainers.{graph_of}
@@ -25,9 +24,9 @@ use Rattle.flow_model.specs.declared.transactions.Transaction.TheVariants.{Trans
 use Rattle.flow_model.specs.declared.transactions.Transaction.TheVariants.{Suspend, Resume, Terminate, Delete, Clock}
 use Rattle.process_rules.specs.Imports.{newest_place}
 use Rattle.recover_queue.specs.Queues.{root_of as root_of_message}
-use Rattle.machine.specs.Imports.{Added, with_added, Adds, IsMeaning}
+use Rattle.machine.specs.Imports.{Added, with_added, Adds}
 use Rattle.machine.specs.Items.{Entry}
-use Rattle.machine.specs.Moves.{Outcome, Told, nothing, given_of, takes, completes_item, holds_item, Holding, ByPerson}
+use Rattle.machine.specs.Moves.{Outcome, nothing, given_of, takes, completes_item, holds_item, Holding, ByPerson}
 use Rattle.machine.specs.Moves.{ByAgent, ByNobody}
 use Rattle.machine.specs.Queues.{queue_in, put_in, taken_by}
 use Rattle.machine.specs.Rows.{fresh_scopes}

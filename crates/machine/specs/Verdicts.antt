@@ -1,7 +1,7 @@
 -- The verdict on a command in a state: its tests in their order, the first refusal of them, or its transaction.
 use Rattle.std.specs.Prelude.{◌≤◌, ◌≡◌, ◌⊎◌, ℕ, ◌+◌, ◌-◌, ◌^◌, ◌==◌, ◌&&◌, min, nat_lt, nat_le, Bool, true, false}
 use Rattle.std.specs.Prelude.{if◌then◌else◌, Result, Ok, Err, Option, Some, None, is_some, option_map, option_and_then}
-use Rattle.std.specs.Prelude.{List, [], ◌∷◌, length, take, drop, slice_get, bytes_eq}
+use Rattle.std.specs.Prelude.{List, [], ◌∷◌, length, take, drop, slice_get}
 use Rattle.activity_states.specs.States.{fate_of, hold_of}
 use Rattle.containers.specs.Settings.{outcome_by}
 use Rattle.flow_model.specs.Paths.{Spells, SpellsNoPath}
@@ -33,7 +33,7 @@ use Rattle.process_rules.specs.Imports.{newest_place, latest_person}
 use Rattle.template_check.specs.Judged.{line_at, IsFaultless, IsRefused as IsTextRefused}
 use Rattle.flow_core.specs.declared.refusals.Refusal.{Refusal}
 use Rattle.flow_core.specs.declared.refusals.Refusal.TheVariants as refused
-use Rattle.activity_states.specs.States.{State as ItemState, next_take, performer_of}
+use Rattle.activity_states.specs.States.{next_take, performer_of}
 use Rattle.flow_model.specs.declared.graphs.DoneBy.{DoneBy}
 use Rattle.flow_model.specs.declared.graphs.DoneBy.TheVariants as by
 use Rattle.flow_model.specs.declared.graphs.Program.{Program as ProgramOf}

@@ -1,6 +1,6 @@
 -- An event that a scope receives does to it what the machine's does.
-use Rattle.std.proofs.Common.{◌≡◌, ◌≢◌, ℕ, zero, suc, ◌+◌, ◌-◌, ◌<◌, ◌≤◌, Bool, true, false, List, [], ◌∷◌, ◌++◌, map}
-use Rattle.std.proofs.Common.{length, Option, Some, None, option_and_then, refl, sym, ap, ap₂, subst, ◌∙◌, inl, inr}
+use Rattle.std.proofs.Common.{◌≡◌, ℕ, zero, suc, ◌+◌, ◌-◌, ◌≤◌, Bool, true, false, List, [], ◌∷◌, ◌++◌, map}
+use Rattle.std.proofs.Common.{length, Option, Some, None, option_and_then, refl, sym, ap, subst, ◌∙◌}
 use Rattle.std.proofs.Common.{arith}
 use Rattle.std.specs.Prelude.{slice_get, slice_set}
 use Rattle.std.proofs.Math.Path.{fun_ext}
@@ -22,7 +22,7 @@ use Rattle.flow_model.specs.declared.instances.Message.{Message}
 use Rattle.flow_model.specs.declared.instances.Path.{Path}
 use Rattle.flow_model.specs.declared.instances.SourceEnd.TheVariants as end
 use Rattle.machine.specs.Moves as m
-use Rattle.machine.specs.Rows.{Standing, Item, Inner, Row, Step, Scopes, with_row, attempt_place}
+use Rattle.machine.specs.Rows.{Standing, Item, Inner, Row, Step, with_row, attempt_place}
 use Rattle.navigator.specs.Events as e
 use Rattle.navigator.specs.Reading.{scope_of}
 use Rattle.navigator.specs.Steps as n
@@ -30,10 +30,10 @@ use Rattle.navigator.specs.Steps.{Fields, fields, Told, with_state}
 use Rattle.navigator.specs.declared.scopes.ActivityState.{ActivityState, Program, Nested}
 use Rattle.navigator.specs.declared.scopes.NestedState.{NestedState, out-NestedState}
 use Rattle.navigator.specs.declared.scopes.ScopeState.{ScopeState}
-use Rattle.machine_scopes.specs.Events.{as_move, MeetsBegin, MeetsSignal, MeetsEnd, MeetsCompletion, Meets, IsAsMoved}
-use Rattle.machine_scopes.specs.Seen.{standing_of, row_of, scope_in, inner_at, scopes_of, scopes_in, told_as, Along}
+use Rattle.machine_scopes.specs.Events.{as_move, Meets, IsAsMoved}
+use Rattle.machine_scopes.specs.Seen.{standing_of, row_of, inner_at, scopes_of, scopes_in, told_as, Along}
 use Rattle.machine_scopes.proofs.Inside.{goes_in}
-use Rattle.machine_scopes.proofs.Lists.{map_read, map_none, put_read, present, within}
+use Rattle.machine_scopes.proofs.Lists.{map_read, map_none, put_read, present}
 use Rattle.machine_scopes.proofs.Steps.{Shows, stands_so, settles_so, dies_so, finishes_so, begins_next_so}
 use Rattle.machine_scopes.proofs.Tallied.{joined_so, valued}
 

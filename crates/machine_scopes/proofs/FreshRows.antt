@@ -1,22 +1,18 @@
 -- A scope that is made is the machine's.
-use Rattle.std.proofs.Common.{◌≡◌, ℕ, suc, ◌+◌, ◌<◌, List, [], ◌∷◌, map, length, Option, Some, None, option_and_then}
-use Rattle.std.proofs.Common.{refl, sym, ap, ap₂, subst, ◌∙◌, arith, replicate}
+use Rattle.std.proofs.Common.{◌≡◌, ℕ, ◌+◌, ◌<◌, List, [], ◌∷◌, map, length, Option, Some, None, option_and_then}
+use Rattle.std.proofs.Common.{refl, sym, ap, ap₂, subst, ◌∙◌, arith}
 use Rattle.std.specs.Prelude.{slice_get}
-use Rattle.std.proofs.Math.Path.{fun_ext}
-use Rattle.std.proofs.lemmas.Option.{slice_get_cases}
 use Rattle.flow_model.specs.ScopeContainers.{up_to}
 use Rattle.flow_model.specs.declared.graphs.Activity.{Activity}
 use Rattle.flow_model.specs.declared.graphs.Container.{Container}
 use Rattle.flow_model.specs.declared.graphs.Graph.{Graph, out-Graph}
 use Rattle.flow_model.specs.declared.graphs.Work.{Work, Program as RunsProgram, Block, Process}
-use Rattle.dead_paths.specs.declared.joins.Tally.{Tally}
-use Rattle.machine.specs.Rows.{Standing, Item, Inner, Waits, Row, Step, only, fresh_row, fresh_standing, fresh_tally}
+use Rattle.machine.specs.Rows.{Item, Inner, Step, only, fresh_row, fresh_standing, fresh_tally}
 use Rattle.machine.specs.Rows.{incoming_count}
 use Rattle.navigator.specs.Fresh.{IsFresh, IsFreshWork}
-use Rattle.navigator.specs.Steps.{Fields, fields}
+use Rattle.navigator.specs.Steps.{fields}
 use Rattle.navigator.specs.declared.scopes.ActivityState.{ActivityState, Program, Nested}
-use Rattle.navigator.specs.declared.scopes.NestedState.{NestedState, out-NestedState}
-use Rattle.navigator.specs.declared.scopes.ScopeState.{ScopeState, out-ScopeState}
+use Rattle.navigator.specs.declared.scopes.ScopeState.{ScopeState}
 use Rattle.machine_scopes.specs.Seen.{stage_of, standing_of, row_of, scope_in, inner_at, scopes_of}
 use Rattle.machine_scopes.proofs.Lists.{same_lists, present, within, map_long, up_to_long, up_to_read, map_found}
 use Rattle.machine_scopes.proofs.Tallied.{tally_fresh}

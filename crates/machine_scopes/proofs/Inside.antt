@@ -1,21 +1,21 @@
 -- Where a change of one scope is the machine's, so is that of the scope to which parts lead.
-use Rattle.std.proofs.Common.{◌≡◌, ◌≢◌, ℕ, Bool, true, false, ◌&&◌, ◌==◌, if◌then◌else◌, List, [], ◌∷◌, map, length}
-use Rattle.std.proofs.Common.{Option, Some, None, option_and_then, refl, sym, ap, ap₂, subst, ◌∙◌, inl, inr, arith}
+use Rattle.std.proofs.Common.{◌≡◌, ℕ, Bool, true, false, ◌&&◌, ◌==◌, if◌then◌else◌, List, [], ◌∷◌, map, length}
+use Rattle.std.proofs.Common.{Option, Some, option_and_then, refl, sym, ap, ◌∙◌, inl, inr}
 use Rattle.std.specs.Prelude.{slice_get, slice_set}
 use Rattle.std.proofs.Math.Path.{fun_ext}
 use Rattle.std.proofs.lemmas.Bool.Decides.{eqb_tells}
 use Rattle.flow_model.specs.declared.graphs.Activity.{Activity}
-use Rattle.flow_model.specs.declared.graphs.Graph.{Graph, out-Graph}
+use Rattle.flow_model.specs.declared.graphs.Graph.{Graph}
 use Rattle.flow_model.specs.declared.graphs.Template.{Template}
 use Rattle.flow_model.specs.declared.instances.Part.{Part}
-use Rattle.machine.specs.Moves.{Change, Outcome, Told, changes_at, into_part, into_attempt, left_inside, graph_under}
-use Rattle.machine.specs.Rows.{Standing, Row, Step, Scopes, inside, with_inside}
-use Rattle.navigator.specs.Events.{ScopeChange, ChangesAt, ChangesInside, ChangesState, ChangesScope}
+use Rattle.machine.specs.Moves.{Change, Told, changes_at, left_inside}
+use Rattle.machine.specs.Rows.{Step, inside, with_inside}
+use Rattle.navigator.specs.Events.{ScopeChange, ChangesAt, ChangesInside, ChangesState}
 use Rattle.navigator.specs.Steps.{Fields, fields, with_state}
 use Rattle.navigator.specs.declared.scopes.ActivityState.{ActivityState, Program, Nested}
 use Rattle.navigator.specs.declared.scopes.NestedState.{NestedState, out-NestedState}
 use Rattle.navigator.specs.declared.scopes.ScopeState.{ScopeState}
-use Rattle.machine_scopes.specs.Seen.{stage_of, standing_of, row_of, scope_in, inner_at, scopes_of, Leads, Along}
+use Rattle.machine_scopes.specs.Seen.{standing_of, row_of, inner_at, scopes_of, Leads, Along}
 use Rattle.machine_scopes.proofs.Lists.{set_itself, map_put, map_read, put_read, put_other, put_long}
 
 -- another state of an activity that stands as before leaves the row

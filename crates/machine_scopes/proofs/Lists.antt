@@ -1,5 +1,5 @@
 -- Lists with an element that is put, read or added.
-use Rattle.std.proofs.Common.{◌≡◌, ◌≢◌, ℕ, zero, suc, ◌+◌, ◌<◌, List, [], ◌∷◌, ◌++◌, map, length, Some, None, Option}
+use Rattle.std.proofs.Common.{◌≡◌, ◌≢◌, ℕ, zero, suc, ◌+◌, ◌<◌, List, [], ◌∷◌, ◌++◌, map, length, Some, None}
 use Rattle.std.proofs.Common.{refl, sym, ap, ap₂, ◌∙◌, arith}
 use Rattle.flow_model.specs.ScopeContainers.{up_to}
 use Rattle.std.specs.Prelude.{slice_get, slice_set}

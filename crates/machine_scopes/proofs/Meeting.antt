@@ -1,5 +1,5 @@
 -- What may come is met.
-use Rattle.std.proofs.Common.{◌≡◌, ℕ, zero, suc, ◌+◌, ◌<◌, ◌≤◌, Bool, List, [], ◌∷◌, ◌++◌, length, Option, Some, None}
+use Rattle.std.proofs.Common.{◌≡◌, ℕ, zero, suc, ◌+◌, Bool, List, [], ◌∷◌, ◌++◌, Option, Some, None}
 use Rattle.std.proofs.Common.{option_and_then, refl, sym, ap, subst, ◌∙◌, arith}
 use Rattle.std.specs.Prelude.{slice_get}
 use Rattle.activity_states.specs.States.{State}
@@ -7,7 +7,7 @@ use Rattle.activity_states.specs.declared.states.Completed.{Completed}
 use Rattle.fate_laws.specs.StartedScopes.{ScopeFact}
 use Rattle.fate_laws.specs.WellFormed.{Well}
 use Rattle.flow_model.specs.ScopeContainers.{graph_in}
-use Rattle.flow_model.specs.Scopes.{Known, at, part, Start, values_at, attempts, fate_given, started_at, output}
+use Rattle.flow_model.specs.Scopes.{Known, at, part, Start, values_at, attempts, fate_given, output}
 use Rattle.flow_model.specs.Scopes.{tree_ends}
 use Rattle.flow_model.specs.Wiring.{IsSinking}
 use Rattle.flow_model.specs.declared.graphs.Activity.{Activity}
@@ -31,21 +31,21 @@ use Rattle.navigator.proofs.SameActivities.{named_of, simple_of, place_found}
 use Rattle.navigator.proofs.SignalValues.{value_told}
 use Rattle.navigator.proofs.Stepping.{leads_along}
 use Rattle.navigator.proofs.TakesShown.{usable_of}
-use Rattle.navigator.specs.Events.{Begins, Signals, Ends as EndsOf, Completes}
-use Rattle.navigator.specs.Reading.{place_of, attempt_place, scope_of, inner_of}
+use Rattle.navigator.specs.Events.{Signals}
+use Rattle.navigator.specs.Reading.{place_of, attempt_place, scope_of}
 use Rattle.navigator.specs.Serving.{Served}
 use Rattle.navigator.specs.Showing.{graph_along, signal_between, signal_in, note_in}
 use Rattle.navigator.specs.Steps.{fields}
-use Rattle.navigator.specs.Views.{ShowsProgram, ShowsStart, ShowsWork, shows_attempt, ShowsWithin, Shows}
+use Rattle.navigator.specs.Views.{ShowsStart, ShowsWork, shows_attempt, ShowsWithin, Shows}
 use Rattle.navigator.specs.declared.scopes.ActivityState.{ActivityState, Program, Nested}
 use Rattle.navigator.specs.declared.scopes.NestedState.{NestedState, out-NestedState}
 use Rattle.navigator.specs.declared.scopes.ScopeState.{ScopeState}
-use Rattle.view_laws.specs.Coming.{IsByMessages, MayBegin, MaySignal, MayEnd, MayComplete, IsOpenAttempt, Leads, Comes}
+use Rattle.view_laws.specs.Coming.{IsByMessages, MayBegin, MaySignal, MayEnd, MayComplete, Leads, Comes}
 use Rattle.view_laws.specs.Coming.{ComesOutput, started_in}
 use Rattle.view_laws.specs.Messages.{Note, BeginNote, SignalNote, EndNote}
 use Rattle.machine_scopes.specs.Events.{MeetsBegin, MeetsSignal, MeetsEnd, MeetsCompletion, Meets}
-use Rattle.machine_scopes.specs.Seen.{Leads as LeadsIn, Along}
-use Rattle.machine_scopes.specs.Turns.{MeetsLast, MeetsMessage, MeetsItem}
+use Rattle.machine_scopes.specs.Seen.{Along}
+use Rattle.machine_scopes.specs.Turns.{MeetsMessage, MeetsItem}
 use Rattle.machine_scopes.proofs.Lists.{present, within}
 
 sinking_of : (ts : List Template) (depth : ℕ) (g : Graph) → Served ts depth g → IsSinking g

@@ -1,45 +1,34 @@
 -- What each step of an event does to a scope is what the machine's does.
-use Rattle.std.proofs.Common.{◌≡◌, ◌≢◌, ℕ, zero, suc, ◌+◌, ◌-◌, ◌<◌, ◌≤◌, Bool, true, false, ◌&&◌, ◌==◌, if◌then◌else◌}
+use Rattle.std.proofs.Common.{◌≡◌, ℕ, ◌+◌, ◌-◌, Bool, true, false, ◌&&◌, ◌==◌, if◌then◌else◌}
 use Rattle.std.proofs.Common.{List, [], ◌∷◌, ◌++◌, map, length, Option, Some, None, option_and_then, refl, sym, ap, ap₂}
-use Rattle.std.proofs.Common.{subst, ◌∙◌, inl, inr, arith}
+use Rattle.std.proofs.Common.{subst, ◌∙◌, inl, inr}
 use Rattle.std.specs.Prelude.{slice_get, slice_set}
-use Rattle.std.proofs.Math.Path.{fun_ext}
 use Rattle.std.proofs.lemmas.Bool.Decides.{eqb_tells}
-use Rattle.activity_states.specs.States.{State, fate_of, made_ready, killed, completed}
-use Rattle.activity_states.specs.declared.states.Completed.{Completed}
-use Rattle.blocks_subprocs.specs.Ends.{ends_of}
+use Rattle.activity_states.specs.States.{State}
 use Rattle.dead_paths.specs.Signals.{signals}
-use Rattle.dead_paths.specs.Tallies.{Counts}
-use Rattle.dead_paths.specs.declared.joins.Tally.{Tally}
-use Rattle.flow_model.specs.Conditions.{holds}
-use Rattle.flow_model.specs.Fates.{joined}
 use Rattle.flow_model.specs.Rows.{below}
-use Rattle.flow_model.specs.ScopeContainers.{graph_in, base_of, looped}
 use Rattle.flow_model.specs.Scopes.{part}
 use Rattle.flow_model.specs.declared.graphs.Activity.{Activity}
 use Rattle.flow_model.specs.declared.graphs.Container.{Container}
-use Rattle.flow_model.specs.declared.graphs.Graph.{Graph, out-Graph}
-use Rattle.flow_model.specs.declared.graphs.Template.{Template}
-use Rattle.flow_model.specs.declared.instances.Message.{Message}
+use Rattle.flow_model.specs.declared.graphs.Graph.{Graph}
 use Rattle.flow_model.specs.declared.instances.Message.TheVariants.{Begin}
 use Rattle.flow_model.specs.declared.instances.Path.{Path}
 use Rattle.flow_model.specs.declared.instances.SourceEnd.{SourceEnd}
 use Rattle.flow_model.specs.declared.instances.SourceEnd.TheVariants as end
 use Rattle.machine.specs.Moves as m
-use Rattle.machine.specs.Rows.{Standing, Item, Inner, Runs, Ended, Died, Row, Step, Scopes, only, with_row, with_inside}
+use Rattle.machine.specs.Rows.{Standing, Inner, Runs, Row, Step, only, with_row}
 use Rattle.machine.specs.Rows.{fresh_row}
 use Rattle.navigator.specs.Steps as n
-use Rattle.navigator.specs.Steps.{Fields, fields, Told, with_state}
+use Rattle.navigator.specs.Steps.{Fields, Told, with_state}
 use Rattle.navigator.specs.Fresh.{IsFresh}
 use Rattle.navigator.specs.declared.scopes.ActivityState.{ActivityState, Program, Nested}
 use Rattle.navigator.specs.declared.scopes.NestedStage.TheVariants as stages
 use Rattle.navigator.specs.declared.scopes.NestedState.{NestedState, out-NestedState, out-roll-NestedState}
 use Rattle.navigator.specs.declared.scopes.ScopeState.{ScopeState}
 use Rattle.machine_scopes.specs.Seen.{stage_of, standing_of, row_of, scope_in, inner_at, scopes_of, scopes_in, told_as}
-use Rattle.machine_scopes.proofs.Lists.{set_itself, map_put, map_read, map_none, put_read, put_other, put_long}
-use Rattle.machine_scopes.proofs.Lists.{push_long, push_last, push_other, present, within}
+use Rattle.machine_scopes.proofs.Lists.{map_put, map_read, map_none, put_read, put_other}
+use Rattle.machine_scopes.proofs.Lists.{push_long, push_last, push_other}
 use Rattle.machine_scopes.proofs.FreshRows.{scopes_fresh}
-use Rattle.machine_scopes.proofs.Tallied.{joined_so, valued}
 
 -- a scene of the machine shows what a scope is made of, and what follows so far
 pub record Shows (f : Fields) (t : Told) (x : m.Scene) : Type 0 where

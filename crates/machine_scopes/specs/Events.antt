@@ -1,7 +1,6 @@
 -- One event of a root: what it needs of its scope, and that the navigator does then what the machine does.
-use Rattle.std.specs.Prelude.{◌≡◌, ℕ, Bool, Option, Some, None, List, [], ◌∷◌, ◌++◌, slice_get}
+use Rattle.std.specs.Prelude.{◌≡◌, ℕ, Bool, Option, Some, None, List, ◌∷◌, ◌++◌, slice_get}
 use Rattle.activity_states.specs.States.{State}
-use Rattle.activity_states.specs.declared.states.Completed.{Completed}
 use Rattle.dead_paths.specs.Tallies.{Counts}
 use Rattle.dead_paths.specs.declared.joins.Tally.{Tally}
 use Rattle.flow_model.specs.ScopeContainers.{graph_in}

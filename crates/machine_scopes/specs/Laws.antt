@@ -1,5 +1,5 @@
 -- A change of the scope to which parts lead is the same in the navigator and in the machine, if that of one scope is.
-use Rattle.std.specs.Prelude.{◌≡◌, ℕ, List}
+use Rattle.std.specs.Prelude.{◌≡◌, List}
 use Rattle.flow_model.specs.declared.graphs.Graph.{Graph}
 use Rattle.flow_model.specs.declared.graphs.Template.{Template}
 use Rattle.flow_model.specs.declared.instances.Part.{Part}

@@ -6,7 +6,7 @@ use Rattle.flow_model.specs.declared.graphs.Graph.{Graph, out-Graph}
 use Rattle.flow_model.specs.declared.graphs.Template.{Template}
 use Rattle.flow_model.specs.declared.instances.Part.{Part}
 use Rattle.machine.specs.Moves as m
-use Rattle.machine.specs.Rows.{Stage, Waits, Runs, Ended, Died, Standing, Item, Inner, Row, Step, Scopes}
+use Rattle.machine.specs.Rows.{Stage, Waits, Runs, Ended, Died, Standing, Item, Inner, Row, Step}
 use Rattle.navigator.specs.Reading.{place_of, attempt_place}
 use Rattle.navigator.specs.Steps.{Fields, fields, Told}
 use Rattle.navigator.specs.declared.scopes.ActivityState.{ActivityState, Program, Nested}

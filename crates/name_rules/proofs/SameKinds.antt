@@ -1,19 +1,12 @@
 -- Which kinds of attributes came before, where they are met one by one.
-use Rattle.std.proofs.Common.{◌≡◌, ℕ, Bool, true, false, not, List, [], ◌∷◌, ◌++◌, Option, Some, None, Bor, refl, sym, ap, subst, ◌∙◌, inl, inr, ⊎_elim, ◌⊎◌, arith}
-use Rattle.std.specs.Prelude.{◌||◌}
-use Rattle.std.specs.Cmp.Lexicographic.{bytes_decides}
-use Rattle.std.specs.List.{list_any}
-use Rattle.std.specs.Str.{bytes_eq}
-use Rattle.std.proofs.lemmas.Bool.{cases_Bool, or_cases, or_left, or_right, both_ways, cond-true, cond-false}
-use Rattle.flow_model.specs.declared.trees.NameAt.{NameAt}
+use Rattle.std.proofs.Common.{◌≡◌, ℕ, not, List, [], ◌∷◌, ◌++◌, Option, Some, None, refl, sym, ◌∙◌, inl, inr, ⊎_elim, ◌⊎◌, arith}
 use Rattle.flow_model.specs.declared.trees.AttrAt.{AttrAt}
 use Rattle.name_rules.specs.KindsMet.{IsOfKind, AreOfKind}
-use Rattle.text_graphs.specs.Meeting.{IsAgainAt}
 use Rattle.name_rules.specs.Names.{kind_said, IsKindAgain}
 use Rattle.text_graphs.specs.Places.{IsLeastOf, AnyAt, PairAt, lesser_of}
 use Rattle.name_rules.specs.declared.names.AttributeKind.{AttributeKind}
 use Rattle.name_rules.specs.declared.names.AttributeKind.TheVariants as kind
-use Rattle.text_graphs.proofs.Finding.{any_last, least_same, least_either, any_to, any_push, any_push_cases, pairs_next, lesser_none}
+use Rattle.text_graphs.proofs.Finding.{least_same, least_either, any_to, any_push, any_push_cases, pairs_next, lesser_none}
 
 -- ---- attributes of one kind
 

@@ -1,14 +1,11 @@
 -- Rules 4 and 5: the names after END, and what is declared twice.
-use Rattle.std.specs.Prelude.{◌≡◌, ℕ, Option, Some, None, List, map, ◌⊎◌}
-use Rattle.std.specs.List.{filter_map}
+use Rattle.std.specs.Prelude.{◌≡◌, ℕ, List, map, ◌⊎◌}
 use Rattle.flow_model.specs.declared.trees.AttrAt.{AttrAt}
 use Rattle.flow_model.specs.declared.trees.AttrTree.{AttrTree}
 use Rattle.flow_model.specs.declared.trees.AttrTree.TheVariants as attr
 use Rattle.flow_model.specs.declared.trees.ItemTree.{ItemTree}
 use Rattle.flow_model.specs.declared.trees.ItemTree.TheVariants as item
 use Rattle.flow_model.specs.declared.trees.NameAt.{NameAt}
-use Rattle.flow_model.specs.declared.trees.PersonTree.{PersonTree}
-use Rattle.flow_model.specs.declared.trees.StructDef.{StructDef}
 use Rattle.text_graphs.specs.Graphs.{GraphAt}
 use Rattle.text_graphs.specs.Meeting.{IsAgainAt}
 use Rattle.text_graphs.specs.Places.{AnyAt, PairAt}

@@ -1,8 +1,7 @@
 -- What the state of a root says of the scope to which a path leads.
-use Rattle.std.proofs.Common.{◌≡◌, ℕ, zero, suc, ◌+◌, ◌≤◌, ◌<◌, Bool, true, false, List, [], ◌∷◌, length, refl, sym, ap, ◌∙◌, Option, Some, None, arith, subst}
+use Rattle.std.proofs.Common.{◌≡◌, ℕ, zero, suc, ◌≤◌, ◌<◌, Bool, true, false, List, [], ◌∷◌, length, refl, sym, ap, ◌∙◌, Option, Some, arith, subst}
 use Rattle.std.proofs.lemmas.Option.{none-some, option_and_then_some, slice_get_within}
 use Rattle.std.specs.Prelude.{is_none, slice_get, option_and_then}
-use Rattle.blocks_subprocs.specs.Ends.{ends_of}
 use Rattle.fate_laws.specs.WellFormed.{Well}
 use Rattle.flow_model.specs.Fates.{is_settled}
 use Rattle.flow_model.specs.ScopeContainers.{graph_in}
@@ -29,7 +28,7 @@ use Rattle.view_laws.proofs.Honest.{Honest, Full}
 use Rattle.view_laws.proofs.QuietScopes.{tree_quiet, tree_quiet_fate}
 use Rattle.view_laws.proofs.ShownFates.{tree_right}
 use Rattle.view_laws.proofs.SoundScopes.{tree_sound}
-use Rattle.view_laws.proofs.StartedParts.{Starts, HasScope, listed_starts, starts_listed}
+use Rattle.view_laws.proofs.StartedParts.{HasScope, listed_starts, starts_listed}
 use Rattle.view_laws.proofs.Trusting.{tops_begin, tops_end, tops_signal, tree_full, tree_honest}
 use Rattle.view_laws.proofs.NothingDue.{nothing}
 use Rattle.view_laws.proofs.WholeRuns.{running_is, signal_due, end_due, root_begun, signal_is, begin_is, end_is}

@@ -1,7 +1,7 @@
 -- A root that isn't terminated, in a state whose queues are empty: all that is due in its scopes counts.
 use Rattle.std.proofs.Common.{◌≡◌, ℕ, true, false, List, [], map, ap, sym, ◌∙◌, subst}
 use Rattle.core_laws.proofs.Standing.{none_stand}
-use Rattle.core_laws.specs.RightStates.{IsRightRoot, input_now, note_queue, messages_in}
+use Rattle.core_laws.specs.RightStates.{IsRightRoot, input_now, note_queue}
 use Rattle.flow_core.specs.Driving.{templates}
 use Rattle.flow_core.specs.declared.state.Core.{Core}
 use Rattle.navigator.specs.Showing.{note_in}

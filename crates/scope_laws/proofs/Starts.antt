@@ -1,8 +1,6 @@
 -- An attempt that has started by the view has started by the completions alone, on the same input; where all that is due was taken, the other way round too.
-use Rattle.std.proofs.Common.{◌≡◌, ℕ, zero, suc, ◌+◌, ◌≤◌, ◌<◌, ◌==◌, Bool, true, false, ◌&&◌, List, [], ◌∷◌, map, refl, sym, ap, ◌∙◌, Option, Some, None, arith, inl, inr}
-use Rattle.std.specs.List.{filter, list_any}
-use Rattle.std.specs.Option.{option_map}
-use Rattle.std.specs.Prelude.{is_none, slice_get}
+use Rattle.std.proofs.Common.{◌≡◌, ℕ, zero, suc, ◌+◌, true, ◌&&◌, List, map, refl, sym, ap, ◌∙◌, Some, inl, inr}
+use Rattle.std.specs.Prelude.{slice_get}
 use Rattle.fate_laws.proofs.Attempts.{Along, Keeps}
 use Rattle.fate_laws.proofs.Extends.{Extends, and_true, both_true}
 use Rattle.fate_laws.proofs.Stays.{output_kept, unsettled_past}
@@ -10,18 +8,15 @@ use Rattle.fate_laws.proofs.Steps.{LinesKept, fed_kept, base_kept}
 use Rattle.fate_laws.specs.Orders.{IsFlow}
 use Rattle.fate_laws.specs.StartedScopes.{Reaches}
 use Rattle.fate_laws.specs.WellFormed.{IsWell, Well}
-use Rattle.flow_model.specs.Containers.{with_return_code}
-use Rattle.flow_model.specs.Fates.{Ends, joined, fate_by, is_open, is_settled}
-use Rattle.flow_model.specs.ScopeContainers.{graph_of, base_of, output_by}
-use Rattle.flow_model.specs.Scopes.{Known, at, all_of, Gives, Runs, Trial, part, scope_gives, gives, is_fed, trial, attempts_at, values_at, fate_given, scope_ends, output, tree_ends}
+use Rattle.flow_model.specs.Fates.{Ends, joined, is_open}
+use Rattle.flow_model.specs.ScopeContainers.{base_of, output_by}
+use Rattle.flow_model.specs.Scopes.{Known, at, all_of, Gives, Runs, Trial, gives, is_fed, trial, attempts_at, values_at, fate_given, scope_ends, output, tree_ends}
 use Rattle.flow_model.specs.declared.graphs.Activity.{Activity}
 use Rattle.flow_model.specs.declared.graphs.Container.{Container}
 use Rattle.flow_model.specs.declared.graphs.Graph.{Graph, out-Graph}
 use Rattle.flow_model.specs.declared.graphs.Template.{Template}
-use Rattle.flow_model.specs.declared.graphs.Work.{Work, Program, Block, Process}
 use Rattle.flow_model.specs.declared.instances.Part.{Part}
-use Rattle.flow_model.specs.declared.names.Name.{Name}
-use Rattle.view_laws.proofs.Honest.{IfClosed, IsHonest, Honest, IsFullAt, IfInside, IsFull, Full}
+use Rattle.view_laws.proofs.Honest.{IfClosed, IsHonest, Honest, IfInside, IsFull, Full}
 use Rattle.view_laws.proofs.MoreDue.{open_joined}
 use Rattle.view_laws.proofs.QuietScopes.{Agree, gives_same, tree_quiet, scope_quiet, scope_fate}
 use Rattle.view_laws.proofs.QuietScopes.{with_well as full_well}

@@ -3,7 +3,7 @@ use Rattle.std.specs.Prelude.{ℕ, ◌<◌, ◌≤◌, length, Option, IfSome, L
 use Rattle.flow_io.specs.declared.lines.IoStop.{IoStop}
 use Rattle.flow_io.specs.declared.lines.IoStop.TheVariants.{ReadFault, ScriptTooLong, NoMemory}
 
--- a source has at most so many bytes, where it tells them
+-- a source has at most 268,435,456 bytes, where it tells them
 abbrev pub IsWithinLimit : Option (List ℕ) → Type 0
 IsWithinLimit left = IfSome left (λ bytes. length bytes ≤ 268435456)
 

@@ -9,10 +9,10 @@ ghost use Rattle.flow_io.specs.declared.lines.Line.TheVariants.{Ended as EndedLi
 use flow_io::{IoStop, Line, Lines, Source};
 use std::alloc::{AllocError, Global};
 
-/// An input has at most so many bytes.
+/// The most bytes that an input may have.
 pub const MOST_BYTES: u64 = 268_435_456;
 
-/// A text is judged up to so many bytes; a longer one breaks the same rule, however it goes on.
+/// The most bytes of a text that are judged: a longer text breaks the same rule, however it goes on.
 const MOST_TEXT: usize = 1_048_576;
 
 /// A line of an input, with its number from 1.

@@ -7,7 +7,7 @@ ghost use Rattle.text_words.specs.Items.{IsPathText, SpellsStep, WritesItem, Wri
 use flow_model::{Part, Path, PathFault, path_of};
 use std::alloc::{AllocError, Global};
 
-/// From so many bytes before the last step on it takes less time to keep them than to read them again.
+/// From this many bytes before the last step on, it takes less time to keep them than to read them again.
 const LONG: usize = 32;
 
 /// What stands behind the first byte, if that is a quote.

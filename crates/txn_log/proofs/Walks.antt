@@ -19,7 +19,7 @@ spelled_long front ps (One four payload bytes payloads is4 is some most more) =
     let rest = spelled_long bytes payloads more in
     omega (arith, rest, is4, most, length-append (four ++ payload) bytes, length-append four payload)
 
--- a slot that is good ends no farther than so many of the longest records reach
+-- a good slot ends no farther than the same number of the longest records would reach
 pub good_bounded : (bytes : List ℕ) (h : Header) (ps : List (List ℕ)) (e : ℕ) → slot_state bytes ≡ Good h ps e
     → e ≤ 42 + 2097157 * length ps
 good_bounded bytes h ps e is =

@@ -9,7 +9,7 @@ use Rattle.txn_log.specs.Walks.{payloads_listed}
 unfoldable pub payloads_in : List ℕ → List (List ℕ)
 payloads_in bytes = payloads_listed (listed 0 0 (bytes ++ 0 ∷ []))
 
--- bytes are whole records with open gates, so many
+-- bytes are this number of whole records with open gates
 pub record AreRecords (bytes : List ℕ) (count : ℕ) : Type 0 where
   pub whole : open_records (payloads_in bytes) ≡ bytes
   pub allowed : All IsPayload (payloads_in bytes)

@@ -6,7 +6,7 @@ use Rattle.txn_log.specs.declared.header.Header.{Header}
 use Rattle.txn_log.specs.declared.log.Log.{Log}
 use Rattle.txn_log.specs.Stores.{Counts, store_of, with_records}
 
--- a log on this slot, with this generation, so many records and its closed gate there, which hasn't failed
+-- a log on this slot, with this generation, this number of records and its closed gate there, which hasn't failed
 pub record IsAt (slot : Slot) (generation records end : ℕ) (log : Log) : Type 0 where
   pub slot_is : log.slot ≡ slot
   pub generation_is : log.generation ≡ generation
@@ -38,7 +38,7 @@ HasRecord payload old image = HasRecords (payload ∷ []) old image
 abbrev pub MayHaveRecord : List ℕ → Image → Image → Type 0
 MayHaveRecord payload old image = MayHaveRecords (payload ∷ []) old image
 
--- the other slot counts, with this header, so many records and its closed gate there
+-- the other slot counts, with this header, this number of records and its closed gate there
 pub record HasTakenOver (log : Log) (header : Header) (records end : ℕ) (image : Image) : Type 0 where
   pub payloads : List (List ℕ)
   pub counts : store_of image ≡ Counts (opposite log.slot) header payloads end

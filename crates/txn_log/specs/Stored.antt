@@ -19,12 +19,12 @@ led payload (Breaks place) = Breaks place
 unfoldable pub length_at : List ℕ → ℕ
 length_at bytes = from_be_bytes w32 (take 4 bytes)
 
--- these bytes begin with a length in its range, so many bytes, and one byte more
+-- these bytes begin with a length in its range, that number of bytes, and one byte more
 abbrev pub is_whole : List ℕ → Bool
 is_whole bytes =
     nat_lt 0 (length_at bytes) && (nat_le (length_at bytes) 2097152 && nat_lt (4 + length_at bytes) (length bytes))
 
--- the records from a place on, behind so many bytes that are passed over
+-- the records from a place on, behind this number of bytes that are passed over
 abbrev pub listed : ℕ → ℕ → List ℕ → Listed
 listed skip place [] = Breaks place
 listed zero place (gate ∷ rest) =
@@ -67,11 +67,11 @@ header_of head = record {
   roots = number_at head 34;
 }
 
--- a field that ends there is whole in so many bytes, and its number is in its range
+-- a field that ends there is whole in this number of bytes, and its number is in its range
 abbrev pub is_field : ℕ → ℕ → ℕ → ℕ → ℕ → Bool
 is_field size end low number high = nat_le end size && (nat_le low number && nat_le number high)
 
--- the place of the first field of the header that isn't whole in so many bytes or isn't in its range
+-- the place of the first field of the header that isn't whole in this number of bytes or isn't in its range
 unfoldable pub header_fault : ℕ → Header → Option ℕ
 header_fault size h =
     if not (is_field size 17 1 h.generation (2 ^ 62)) then Some 9

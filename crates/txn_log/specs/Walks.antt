@@ -17,7 +17,7 @@ pub record IsListedFrom (place : ℕ) (bytes : List ℕ) : Type 0 where
   pub listed_is : listed 0 place (drop place bytes) ≡ Ends (payloads_from place bytes) end
   pub short : length bytes < 2 ^ 63
 
--- the bytes of a slot with so many records
+-- the bytes of a slot with this number of records
 pub record HoldsRecords (bytes : List ℕ) (count : ℕ) : Type 0 where
   pub all : IsListedFrom 42 bytes
   pub counted : length (payloads_from 42 bytes) ≡ count

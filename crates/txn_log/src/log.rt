@@ -25,7 +25,7 @@ pub struct Log {
 impl Log {
     ghost use Rattle.txn_log.specs.Standing.{IsAt, StandsOn, HasRecord, MayHaveRecord, HasRecords, MayHaveRecords, HasTakenOver};
 
-    /// A log on a slot of so many records, which end at the closed gate `end`.
+    /// A log on a slot with this number of records, which end at the closed gate `end`.
     pub(crate) fn on(slot: Slot, generation: u64, records: u64, end: u64) -> Log
         requires { end ≤ 42 + 2097157 * records }
         ensures { IsAt slot generation records end result }
@@ -147,7 +147,7 @@ impl Log {
         self.failed = true;
     }
 
-    /// Lets the log stand on the other slot, which counts on this disk with this header, so many
+    /// Lets the log stand on the other slot, which counts on this disk with this header, this number of
     /// records, and its closed gate at `end`.
     pub fn take_over<D: Disk>(&mut self, disk: &D, header: &Header, records: u64, end: u64)
         requires alive { self.old.failed ≡ false }

@@ -76,7 +76,7 @@ pub(crate) fn whole_len(rest: &[u8]) -> usize
 }
 
 impl SlotRecords {
-    /// The records in the bytes of a slot that is good, so many.
+    /// The records in the bytes of a good slot that holds this number of them.
     pub(crate) fn new(bytes: Vec<u8>, count: usize) -> SlotRecords
         requires { HoldsRecords bytes.items count }
         ensures { result ≡ payloads_from 42 bytes.items }
@@ -122,7 +122,7 @@ impl<'a> RecordsLeft<'a> {
         })
     }
 
-    /// Passes over so many records; over all where there are fewer.
+    /// Passes over this number of records, or over all where there are fewer.
     pub fn skip(&mut self, count: usize)
         ensures { self.new.left ≡ drop count self.old.left }
     {

@@ -1,5 +1,5 @@
 -- The worklists go on holding exactly the open manual items with each transaction, and so along a history; those of a blank state hold nothing.
-use Rattle.std.proofs.Common.{◌≡◌, ℕ, zero, suc, ◌<◌, ◌≤◌, List, None, true, false, sym, ◌∙◌, subst, arith}
+use Rattle.std.proofs.Common.{ℕ, zero, suc, ◌<◌, ◌≤◌, List, None, true, false, sym, ◌∙◌, subst, arith}
 use Rattle.std.proofs.lemmas.Option.{none-some}
 use Rattle.core_laws.proofs.Making.{core_right, state_right}
 use Rattle.core_laws.specs.RightStates.{IsRightState, Makes, runs_at}

@@ -1,16 +1,9 @@
 -- What a transaction asks of items and roots.
-use Rattle.std.specs.Prelude.{◌≡◌, ◌⊎◌, ℕ, zero, suc, Some, List, slice_get}
-use Rattle.fate_laws.specs.Walks.{Walk}
+use Rattle.std.specs.Prelude.{◌≡◌, ◌⊎◌, ℕ, Some}
 use Rattle.flow_core.specs.Allowing.{mode_in, IsOpen}
 use Rattle.flow_core.specs.Answers.{instance_of}
-use Rattle.flow_core.specs.Driving.{program_in}
 use Rattle.flow_core.specs.declared.state.Core.{Core}
-use Rattle.flow_model.specs.ScopeContainers.{graph_in, graph_of}
-use Rattle.flow_model.specs.declared.graphs.Activity.{Activity}
 use Rattle.flow_model.specs.declared.graphs.DoneBy.TheVariants as by
-use Rattle.flow_model.specs.declared.graphs.Graph.{Graph, out-Graph}
-use Rattle.flow_model.specs.declared.graphs.Program.{Program}
-use Rattle.flow_model.specs.declared.graphs.Template.{Template}
 use Rattle.flow_model.specs.declared.instances.Mode.TheVariants as mode
 use Rattle.flow_model.specs.declared.transactions.Transaction.{Transaction}
 use Rattle.flow_model.specs.declared.transactions.Transaction.TheVariants.{Claim, Release, Transfer, Take, Restart}

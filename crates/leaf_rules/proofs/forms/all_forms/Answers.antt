@@ -1,4 +1,3 @@
-use Rattle.std.proofs.Common.{slice_index_or, sym}
 use Rattle.std.proofs.lemmas.Option.{slice_get-get_or}
 use Rattle.leaf_rules.proofs.forms.all_forms.Goals as goal
 

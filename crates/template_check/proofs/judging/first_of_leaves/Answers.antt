@@ -3,7 +3,7 @@ use Rattle.leaf_rules.specs.Leaves.{table_leaves}
 use Rattle.leaf_rules.specs.StructureLeaves.{leaves_in}
 use Rattle.text_graphs.specs.Texts.{structures_in}
 use Rattle.template_check.proofs.Fitting.{unknown_leaves_found, mixed_kinds_found}
-use Rattle.template_check.proofs.Passing.{none_found, none_is}
+use Rattle.template_check.proofs.Passing.{none_found}
 use Rattle.template_check.proofs.judging.first_of_leaves.Goals as goal
 
 pub returns-in-Some : goal.returns-in-Some

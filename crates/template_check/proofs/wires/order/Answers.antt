@@ -1,4 +1,4 @@
-use Rattle.std.proofs.Common.{◌≡◌, ℕ, List, sym, subst, ◌∙◌}
+use Rattle.std.proofs.Common.{ℕ, List, sym, subst, ◌∙◌}
 use Rattle.graph_check.specs.Orders.{IsCycleFound}
 use Rattle.graph_check.specs.Walks.{AreNodes, IsClosedWalk}
 use Rattle.text_graphs.proofs.Judging.{never_cyclic}

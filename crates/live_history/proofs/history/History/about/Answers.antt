@@ -1,7 +1,4 @@
-use Rattle.std.proofs.Common.{◌≡◌, ◌∙◌, ◌++◌, List, sym, ap, map, drop}
-use Rattle.std.specs.List.{filter_map}
-use Rattle.flow_model.specs.declared.transactions.Numbered.{Numbered}
-use Rattle.live_history.specs.Rows.{transaction_at}
+use Rattle.std.proofs.Common.{◌∙◌, ap, map}
 use Rattle.live_history.specs.Transactions.{about}
 use Rattle.live_history.proofs.Rows.{all_found}
 use Rattle.live_history.proofs.history.History.about.Goals as goal

@@ -1,4 +1,4 @@
-use Rattle.std.proofs.Common.{◌≡◌, ℕ, ◌∙◌, ◌++◌, ◌∷◌, [], sym, ap, List, None, Some, length}
+use Rattle.std.proofs.Common.{◌∙◌, ◌++◌, ◌∷◌, [], sym, ap, Some, length}
 use Rattle.live_history.specs.Rows.{present, places_from, place_if}
 use Rattle.live_history.specs.Transactions.{is_root}
 use Rattle.live_history.proofs.Rows.{one_more, none_more, places_none, places_some, set_last, on_err}

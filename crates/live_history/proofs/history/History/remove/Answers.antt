@@ -1,4 +1,4 @@
-use Rattle.std.proofs.Common.{◌≡◌, ℕ, ◌==◌, if◌then◌else◌, ◌∙◌, refl, sym, ap, List, []}
+use Rattle.std.proofs.Common.{ℕ, ◌==◌, if◌then◌else◌, ◌∙◌, sym, ap, List, []}
 use Rattle.live_history.specs.Rows.{present, places_from, cleared}
 use Rattle.live_history.specs.Transactions.{without_root}
 use Rattle.live_history.proofs.Rows.{present_hidden, places_hidden, cleared_all, hidden}
