@@ -19,3 +19,7 @@ decides_alike ours theirs a b r here there h =
   where
     some_same : (x y : List Leaf) → Some x ≡ Some y → x ≡ y
     some_same x y e = cc
+
+-- a test that says no
+pub decides_not : (P : Type 0) (b : Bool) → b ≡ false → Decides b P → P → ⊥
+decides_not P b off h p = both_ways b off (h.1 p)

@@ -11,7 +11,7 @@ use Rattle.flow_model.specs.declared.graphs.Library.{Library}
 use Rattle.flow_model.specs.declared.trees.ProcessTree.{ProcessTree}
 use Rattle.text_graphs.specs.Places.{IsLeastOf}
 use Rattle.process_rules.specs.Callees.{Calls}
-use Rattle.process_rules.specs.Shapes.{nothing, nested, graph_of, element_adds, graph_shape, shape_at, named_shape, shapes_to, told_shape, NestsDeep, HasLargeSize}
+use Rattle.process_rules.specs.Shapes.{nothing, nested, graph_of, graph_shape, shape_at, named_shape, shapes_to, told_shape, NestsDeep, HasLargeSize}
 use Rattle.process_rules.specs.declared.sizes.Shape.{Shape}
 
 same_shape : (a b : Shape) → a.depth ≡ b.depth → a.size ≡ b.size → a ≡ b

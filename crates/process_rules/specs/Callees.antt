@@ -1,5 +1,7 @@
 -- Rules 17 and 18: the processes that activities name, and the leaves of their containers.
-use Rattle.std.specs.Prelude.{◌≡◌, ◌⊎◌, ℕ, Option, Some, None, List, slice_get}
+use Rattle.std.specs.Prelude.{◌≡◌, ℕ, Option, Some, None, List, map, slice_get}
+use Rattle.std.specs.List.{filter_map, flat_map}
+use Rattle.std.specs.List.Sorted.{IsPermutation, IsNonDecreasingBy}
 use Rattle.std.specs.Option.{option_map, option_and_then}
 use Rattle.flow_model.specs.declared.graphs.Graph.{out-Graph}
 use Rattle.flow_model.specs.declared.graphs.Leaf.{Leaf}
@@ -15,6 +17,7 @@ use Rattle.text_graphs.specs.Graphs.{GraphAt}
 use Rattle.text_graphs.specs.Places.{AnyAt}
 use Rattle.text_graphs.specs.Texts.{activities_in}
 use Rattle.process_rules.specs.Knowing.{callee_named}
+use Rattle.process_rules.specs.declared.callees.Call.{Call}
 use Rattle.process_rules.specs.declared.people.Callee.{Callee}
 use Rattle.process_rules.specs.declared.people.Callee.TheVariants as callee
 
@@ -82,10 +85,6 @@ abbrev pub IsMisfit : Leafing → Library → List ProcessTree → ActivityTree 
 IsMisfit leaves library processes a None p = ⊥
 IsMisfit leaves library processes a (Some callee) p = (IsFitting leaves library processes a callee → ⊥) × (a.place ≡ p)
 
--- one of these places, or the one that was found before
-abbrev pub OrBefore : Option ℕ → (ℕ → Type 0) → ℕ → Type 0
-OrBefore before places p = (before ≡ Some p) ⊎ places p
-
 -- in a graph, where names lead to processes so
 abbrev pub HasMisfitBy : Calls → Leafing → Library → List ProcessTree → GraphAt → ℕ → Type 0
 HasMisfitBy calls leaves library processes g = AnyAt
@@ -94,3 +93,30 @@ HasMisfitBy calls leaves library processes g = AnyAt
 -- in a graph of a text
 abbrev pub HasMisfit : Leafing → Library → List ProcessTree → GraphAt → ℕ → Type 0
 HasMisfit leaves library processes = HasMisfitBy (callee_named library processes) leaves library processes
+
+-- ---- the calls of a text
+
+-- an activity with the process that it runs, where it runs one
+abbrev pub call_of : Calls → ℕ → ActivityTree → Option (ActivityTree × Callee)
+call_of calls number a = option_map (λ callee. (a, callee)) (called calls number a.work)
+
+-- those of a graph
+abbrev pub calls_in : Calls → GraphAt → List (ActivityTree × Callee)
+calls_in calls g = filter_map (call_of calls g.process) (activities_in g.elements)
+
+-- those of these graphs, one graph after another
+abbrev pub calls_among : Calls → List GraphAt → List (ActivityTree × Callee)
+calls_among calls = flat_map (calls_in calls)
+
+-- which of them a call of the code stands for
+abbrev pub call_at : Call → ActivityTree × Callee
+call_at c = (c.activity.now, c.callee)
+
+-- these are the calls of the graphs, in the order of their places
+pub record AreCallsInOrder (calls : Calls) (graphs : List GraphAt) (found : List Call) : Type 0 where
+  pub moved : IsPermutation (calls_among calls graphs) (map call_at found)
+  pub rising : IsNonDecreasingBy (λ c. c.activity.now.place) found
+
+-- the place of a call whose containers aren't like those of the process
+abbrev pub IsMisfitOf : Leafing → Library → List ProcessTree → ActivityTree × Callee → ℕ → Type 0
+IsMisfitOf leaves library processes call = IsMisfit leaves library processes call.0 (Some call.1)

@@ -1,16 +1,18 @@
 //! Rules 17 and 18: the processes that activities name, and the leaves of their containers.
-ghost use Rattle.std.specs.Prelude.{◌≡◌, ◌<◌, ℕ, List, Some, map, option_copied, IfOk, OnOk};
+ghost use Rattle.std.specs.Prelude.{◌≡◌, ◌++◌, List, Some, map, option_copied, IfOk, OnOk};
 ghost use Rattle.std.specs.Bool.{Decides};
+ghost use Rattle.std.specs.List.Sorted.{IsNonDecreasingBy};
+ghost use Rattle.std.specs.Option.{option_map};
 ghost use Rattle.flow_model.specs.declared.trees.ProcessTree.{ProcessTree};
 ghost use Rattle.leaf_rules.specs.Leaves.{table_leaves};
 ghost use Rattle.process_rules.specs.Callees.{process_named, IsNoProcess, NamesNone, NamesNoProcess, called};
-ghost use Rattle.process_rules.specs.Callees.{callee_input, callee_output, IsFitting, IsMisfit, HasMisfitBy, HasMisfit};
-ghost use Rattle.process_rules.specs.Callees.{AreAlike, OrBefore};
+ghost use Rattle.process_rules.specs.Callees.{callee_input, callee_output, AreAlike, IsFitting, HasMisfit};
+ghost use Rattle.process_rules.specs.Callees.{call_at, call_of, calls_in, calls_among, AreCallsInOrder, IsMisfitOf};
 ghost use Rattle.process_rules.specs.Calling.{callee_meant};
 ghost use Rattle.process_rules.specs.Imports.{IsIndexed};
 ghost use Rattle.process_rules.specs.Knowing.{IsKnowing};
 ghost use Rattle.process_rules.specs.Seen.{AreMatches, AreSeen, template_inputs, template_outputs};
-ghost use Rattle.text_graphs.specs.Graphs.{graph_at};
+ghost use Rattle.text_graphs.specs.Graphs.{graph_at, graphs_in};
 ghost use Rattle.text_graphs.specs.Places.{IsLeastOf, AnyAt};
 
 use crate::alike::are_alike;
@@ -174,100 +176,89 @@ fn fits<'a>(
     output_fits(known, table, &mut seen.outputs, &activity.output, callee)
 }
 
-/// Whether a place is before the least so far, if there is one.
-fn is_lesser(place: u32, least: Option<u32>) -> bool
-    ensures { Decides result ((other : ℕ) → least ≡ Some other → place < other) }
-{
-    match least {
-        None => true,
-        Some(other) => place < other,
-    }
-}
-
-/// The least place so far, or that of an activity whose containers aren't like those of a process. Only what may
-/// change the least place is compared.
-fn misfit_of<'a>(
-    known: &Known<'a>,
-    table: &LeafTable<'a>,
-    seen: &mut Seen<'a>,
+/// An activity that runs a process, and which one.
+#[derive(Clone, Copy)]
+struct Call<'a> {
     activity: &'a ActivityTree,
     callee: Callee,
-    least: Option<u32>,
-) -> Result<Option<u32>, AllocError>
-    ensures seen { OnOk result (AreSeen (table_leaves table.now) known.now.catalog.now.library seen.old
-        → AreSeen (table_leaves table.now) known.now.catalog.now.library seen.new) }
-    ensures least { IfOk result (λ found. AreSeen (table_leaves table.now) known.now.catalog.now.library seen.old
-        → IsLeastOf (OrBefore least (IsMisfit (table_leaves table.now) known.now.catalog.now.library
-        (map (λ p. p.now) known.now.processes.items) activity.now (Some callee))) found) }
-{
-    if !is_lesser(activity.place, least) {
-        return Ok(least);
-    }
-    if fits(known, table, seen, activity, callee)? {
-        Ok(least)
-    } else {
-        Ok(Some(activity.place))
-    }
 }
 
-/// The same of what an activity runs, if it runs a process.
-fn misfit<'a>(
-    known: &Known<'a>,
-    table: &LeafTable<'a>,
-    seen: &mut Seen<'a>,
-    process: u32,
-    activity: &'a ActivityTree,
-    least: Option<u32>,
-) -> Result<Option<u32>, AllocError>
-    ensures seen { OnOk result (AreSeen (table_leaves table.now) known.now.catalog.now.library seen.old
-        → AreSeen (table_leaves table.now) known.now.catalog.now.library seen.new) }
-    ensures least { IfOk result (λ found. AreSeen (table_leaves table.now) known.now.catalog.now.library seen.old
-        → IsLeastOf (OrBefore least (IsMisfit (table_leaves table.now) known.now.catalog.now.library
-        (map (λ p. p.now) known.now.processes.items) activity.now
-        (called (callee_meant known.now) process activity.now.work))) found) }
+/// The call that an activity in the process of this number is, if it runs a process.
+fn process_call<'a>(known: &Known<'a>, process: u32, activity: &'a ActivityTree) -> Option<Call<'a>>
+    ensures { option_map call_at result ≡ call_of (callee_meant known.now) process activity.now }
 {
     match called(known, process, &activity.work) {
-        None => Ok(least),
-        Some(callee) => misfit_of(known, table, seen, activity, callee, least),
+        None => None,
+        Some(callee) => Some(Call { activity, callee }),
     }
 }
 
-fn misfit_in_graph<'a>(
+/// Puts the calls of a graph behind the others.
+fn add_calls<'a>(
     known: &Known<'a>,
-    table: &LeafTable<'a>,
-    seen: &mut Seen<'a>,
     scope: &Scope<'a>,
-    least: Option<u32>,
-) -> Result<Option<u32>, AllocError>
-    ensures seen { OnOk result (AreSeen (table_leaves table.now) known.now.catalog.now.library seen.old
-        → AreSeen (table_leaves table.now) known.now.catalog.now.library seen.new) }
-    ensures least { IfOk result (λ found. AreSeen (table_leaves table.now) known.now.catalog.now.library seen.old
-        → IsLeastOf (OrBefore least (HasMisfitBy (callee_meant known.now) (table_leaves table.now)
-        known.now.catalog.now.library (map (λ p. p.now) known.now.processes.items) (graph_at scope.now))) found) }
+    calls: &mut Vec<Call<'a>>,
+) -> Result<(), AllocError>
+    ensures { OnOk result (map call_at calls.new.items
+        ≡ map call_at calls.old.items ++ calls_in (callee_meant known.now) (graph_at scope.now)) }
 {
-    let mut found = least;
     for activity in &scope.activities {
-        found = misfit(known, table, seen, scope.process, activity, found)?;
+        match process_call(known, scope.process, activity) {
+            Some(call) => calls.push(call)?,
+            None => {}
+        }
     }
-    Ok(found)
+    Ok(())
 }
 
-fn misfit_in_graphs<'a>(
+/// The calls of these graphs, one graph after another.
+fn calls_of<'a>(
+    alloc: Global,
+    known: &Known<'a>,
+    scopes: &[Scope<'a>],
+) -> Result<Vec<Call<'a>>, AllocError>
+    ensures { IfOk result (λ calls. map call_at calls.items
+        ≡ calls_among (callee_meant known.now) (graphs_in scopes.now)) }
+{
+    let mut calls = Vec::new(alloc);
+    for scope in scopes {
+        add_calls(known, scope, &mut calls)?;
+    }
+    Ok(calls)
+}
+
+/// The same in the order of their places, so that the calls in a block stand between those around it.
+fn calls_in_order<'a>(
+    alloc: Global,
+    known: &Known<'a>,
+    scopes: &[Scope<'a>],
+) -> Result<Vec<Call<'a>>, AllocError>
+    ensures { IfOk result (λ calls. AreCallsInOrder (callee_meant known.now) (graphs_in scopes.now) calls.items) }
+{
+    let mut calls = calls_of(alloc, known, scopes)?;
+    calls.sort_by_key(|call| call.activity.place)?;
+    Ok(calls)
+}
+
+/// The place of the first of these calls whose containers aren't like those of the process. No call behind it is
+/// compared, since a comparison leaf by leaf may take long.
+fn first_misfit<'a>(
     alloc: Global,
     known: &Known<'a>,
     table: &LeafTable<'a>,
-    scopes: &[Scope<'a>],
+    calls: &[Call<'a>],
 ) -> Result<Option<u32>, AllocError>
-    ensures { IfOk result (IsLeastOf (AnyAt (λ s. HasMisfitBy (callee_meant known.now)
-        (table_leaves table.now) known.now.catalog.now.library (map (λ p. p.now) known.now.processes.items)
-        (graph_at s)) scopes.now)) }
+    requires { IsNonDecreasingBy (λ c. c.activity.now.place) calls.now }
+    ensures { IfOk result (IsLeastOf (AnyAt (λ c. IsMisfitOf (table_leaves table.now) known.now.catalog.now.library
+        (map (λ p. p.now) known.now.processes.items) (call_at c)) calls.now)) }
 {
     let mut seen = Seen::new(alloc);
-    let mut found = None;
-    for scope in scopes {
-        found = misfit_in_graph(known, table, &mut seen, scope, found)?;
+    for call in calls {
+        if !fits(known, table, &mut seen, call.activity, call.callee)? {
+            return Ok(Some(call.activity.place));
+        }
     }
-    Ok(found)
+    Ok(None)
 }
 
 /// Rule 18: the leaves of a process activity's containers and of the process's differ.
@@ -281,5 +272,6 @@ pub fn mismatched_containers<'a>(
         → IfOk result (IsLeastOf (AnyAt (λ s. HasMisfit (table_leaves table.now) known.now.catalog.now.library processes
         (graph_at s)) scopes.now)) }
 {
-    misfit_in_graphs(alloc, known, table, scopes)
+    let calls = calls_in_order(alloc, known, scopes)?;
+    first_misfit(alloc, known, table, &calls)
 }

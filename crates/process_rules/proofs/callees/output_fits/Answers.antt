@@ -1,4 +1,4 @@
-use Rattle.std.proofs.Common.{rules, ◌≡◌, Some}
+use Rattle.std.proofs.Common.{rules}
 use Rattle.text_graphs.proofs.Listing.{on_ok}
 use Rattle.process_rules.specs.Seen.{template_outputs}
 use Rattle.process_rules.proofs.callees.output_fits.Goals as goal
