@@ -1,6 +1,6 @@
 -- What a crash leaves of a history that commands make, also of one that a session makes: the summary of the state after
 -- a front part of it.
-use Rattle.std.proofs.Common.{◌≡◌, inl, inr, ℕ, zero, suc, ◌+◌, not, Option, Some, None, List, [], ◌∷◌, take}
+use Rattle.std.proofs.Common.{◌≡◌, inl, inr, ℕ, zero, suc, ◌+◌, ◌≤◌, not, Option, Some, None, List, [], ◌∷◌, take}
 use Rattle.std.proofs.Common.{refl, ap, sym, subst, ◌∙◌}
 use Rattle.std.specs.List.{filter}
 use Rattle.flow_core.specs.Summaries as of_core
@@ -130,11 +130,13 @@ module _ {J : Type 0} (tells : Type 0) (moment : J → ℕ) (left_since : J → 
 module _ {J : Type 0} (tells : Type 0) (holds : J → Summary → Type 0) (moment : J → ℕ)
     (left_since : J → ℕ → Image → Type 0) (place : J → Slot × ℕ) (moved : J → J → Summary → Type 0)
     (at_rest : (journal : J) (s : Summary) (c : Image) → tells → holds journal s
-    → left_since journal (moment journal) c → StandsFor s c) where
+    → left_since journal (moment journal) c → StandsFor s c)
+    (counts_now : (journal : J) (t : ℕ) (c : Image) → t ≤ moment journal → left_since journal (moment journal) c
+    → left_since journal t c) where
   pub scripts_resume : ScriptsResume tells holds moment left_since place moved
   scripts_resume s j inputs replies s' j' held served whole compact =
-      let makes = made_by_commands tells holds moment left_since place moved at_rest s j inputs replies s' j' held
-      served whole in
+      let makes = made_by_commands tells holds moment left_since place moved at_rest counts_now s j inputs replies s' j'
+      held served whole in
       record {
         transactions = makes.transactions;
         leads = makes.ended.0;
@@ -143,6 +145,7 @@ module _ {J : Type 0} (tells : Type 0) (holds : J → Summary → Type 0) (momen
             (record {
               transactions = makes.transactions;
               any_moment = makes.any_moment;
+              fit = makes.fit;
               ended = makes.ended.1;
             });
       }

@@ -273,7 +273,12 @@ module _ (c : Core) (begins : Begins eight c) where
   makes =
       subst (λ (s : State). Makes (Unit {0}) (λ (journal : Unit {0}). 0) either tt tt (summary_of s)
       (λ ts. MadeByCommands s ts clocked)) (sym seen)
-      (record { transactions = made.Clock 5 ∷ []; any_moment = λ told. leaves_some; ended = history })
+      (record {
+        transactions = made.Clock 5 ∷ [];
+        any_moment = λ told. leaves_some;
+        fit = λ told now fits. record { later = omega arith; each = now; before = λ from image early left. inl left };
+        ended = history;
+      })
 
   -- the state is whole, and a session may begin with it
   whole : IsWhole c

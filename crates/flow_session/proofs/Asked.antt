@@ -11,13 +11,14 @@ use Rattle.flow_model.specs.declared.transactions.Transaction.{Transaction}
 use Rattle.flow_model.specs.declared.transactions.Transaction.TheVariants.{Turn}
 use Rattle.flow_session.specs.Asking.{Asks, NoneAsked, JudgedSo, TurnsSoFar, OneMoreTurn, AreTurns, OneTaken, IsTurnOf, AsksInside}
 use Rattle.flow_session.specs.Draining.{IsNextQueue, queue_behind}
+use Rattle.flow_session.specs.Fitting.{AreFitAlone, AreFitNow, HasFitRecords, IsFitNext}
 use Rattle.flow_session.specs.Histories.{StandsFor, after}
 use Rattle.flow_session.specs.Inputs.{Given, Line, Long, End, Unended}
 use Rattle.flow_session.specs.Leading.{LeadsBy, MakesAsked, MakesSteps}
 use Rattle.flow_session.specs.Serving.{Makes, WithOrWithout, KeepsMade, but_last}
 use Rattle.flow_session.specs.declared.serving.Stop.{Stop}
 use Rattle.flow_session.specs.declared.serving.Stop.TheVariants.{StoreFault, NoMemory}
-use Rattle.flow_session.proofs.Calls.{after_append, makes_none, makes_one, makes_more, makes_nothing, makes_so}
+use Rattle.flow_session.proofs.Calls.{after_append, leaves_now, makes_none, makes_one, makes_more, makes_nothing, makes_so}
 use Rattle.flow_session.proofs.Leading.{leads_none, leads_more}
 use Rattle.flow_session.proofs.Rights.{whatever}
 
@@ -110,6 +111,7 @@ module _ {J : Type 0} (tells : Type 0) (holds : J → Summary → Type 0) (momen
   made_steps r old new c c' IsAsked makes = record {
     transactions = makes.transactions;
     any_moment = makes.any_moment;
+    fit = makes.fit;
     ended = makes.ended.leads;
   }
 
@@ -129,14 +131,17 @@ module _ {J : Type 0} (tells : Type 0) (holds : J → Summary → Type 0) (momen
       })
 
   -- calls that are done, behind which one stops
-  pub asked_stopped : (T U : Type 0) (stop : Stop) (old mid new : J) (c d e : Core)
+  pub asked_stopped : (T U : Type 0) (stop : Stop)
+      → ((journal : J) (t : ℕ) (c : Image) → t ≤ moment journal → left_since journal (moment journal) c
+      → left_since journal t c)
+      → (old mid new : J) (c d e : Core)
       (IsFirst IsMid IsAsked : List Transaction → Type 0)
       → Makes tells moment left_since old mid (summary c) (λ ts. IsFirst ts × LeadsBy c ts d)
       → MakesAsked {T = T} tells holds moment left_since mid new d e IsMid (Err stop)
       → ((ts us : List Transaction) → IsFirst ts → IsMid us → IsAsked (ts ++ us))
       → MakesAsked {T = U} tells holds moment left_since old new c e IsAsked (Err stop)
-  asked_stopped T U stop old mid new c d e IsFirst IsMid IsAsked first second leads =
-      makes_more tells moment left_since old mid new (summary c) (summary d) _ _ _ first (λ ts so. so.1.came) second
+  asked_stopped T U stop counts_now old mid new c d e IsFirst IsMid IsAsked first second leads =
+      makes_more tells moment left_since counts_now old mid new (summary c) (summary d) _ _ _ first (λ ts so. so.1.came) second
       (λ ts us a b. record {
         asked = leads ts us a.0 b.asked;
         leads = tt;
@@ -146,14 +151,17 @@ module _ {J : Type 0} (tells : Type 0) (holds : J → Summary → Type 0) (momen
       })
 
   -- one more turn behind those that were taken
-  pub turns_on : {T : Type 0} (x : T) (old mid new : J) (c d e : Core) (from queue : ℕ) (IsMid : List Transaction → Type 0)
+  pub turns_on : {T : Type 0} (x : T)
+      → ((journal : J) (t : ℕ) (c : Image) → t ≤ moment journal → left_since journal (moment journal) c
+      → left_since journal t c)
+      → (old mid new : J) (c d e : Core) (from queue : ℕ) (IsMid : List Transaction → Type 0)
       → Makes tells moment left_since old mid (summary c) (λ ts. AreTurns c ts from d × LeadsBy c ts d)
       → MakesAsked tells holds moment left_since mid new d e (λ us. IsMid us × IsTurnOf d e queue us) (Ok x)
       → IsNextQueue d from queue
       → Makes tells moment left_since old new (summary c)
       (λ ts. AreTurns c ts (queue_behind (length d.queues) queue) e × LeadsBy c ts e)
-  turns_on x old mid new c d e from queue IsMid first second next =
-      makes_more tells moment left_since old mid new (summary c) (summary d) _ _ _ first (λ ts so. so.1.came) second
+  turns_on x counts_now old mid new c d e from queue IsMid first second next =
+      makes_more tells moment left_since counts_now old mid new (summary c) (summary d) _ _ _ first (λ ts so. so.1.came) second
       (λ ts us a b. (OneTaken a.0 next b.asked.1, leads_more c d e ts us a.1 b.leads))
 
   module _ (at_rest : (journal : J) (s : Summary) (c : Image) → tells → holds journal s
@@ -171,26 +179,24 @@ module _ {J : Type 0} (tells : Type 0) (holds : J → Summary → Type 0) (momen
 
     module _ (counts_now : (journal : J) (t : ℕ) (c : Image) → t ≤ moment journal
         → left_since journal (moment journal) c → left_since journal t c) where
-      -- what a crash leaves now, it might have left since the call began
-      leaves_now : (old new : J) (P : Image → Type 0) → LeavesOnly moment left_since old new P → (image : Image)
-          → left_since new (moment new) image → P image
-      leaves_now old new P leaves image left = leaves.each image (counts_now new (moment old) image leaves.later left)
-
       -- a call that stops while it makes one transaction
       pub one_stopped : (T : Type 0) (stop : Stop) (old new : J) (c c' : Core) (t : Transaction)
           (IsAsked : List Transaction → Type 0) → (tells → holds old (summary c)) → (stop ≡ NoMemory → new ≡ old)
-          → (tells → LeavesOnly moment left_since old new (WithOrWithout t (summary c))) → IsAsked [] → IsAsked (t ∷ [])
+          → (tells → LeavesOnly moment left_since old new (WithOrWithout t (summary c)))
+          → (tells → AreFitNow moment left_since old → IsFitNext (summary c) t
+          → LeavesOnly moment left_since old new HasFitRecords)
+          → IsAsked [] → IsAsked (t ∷ [])
           → MakesAsked {T = T} tells holds moment left_since old new c c' IsAsked (Err stop)
-      one_stopped T NoMemory old new c c' t IsAsked held undone leaves none one =
+      one_stopped T NoMemory old new c c' t IsAsked held undone leaves fit none one =
           subst (λ j. MakesAsked {T = T} tells holds moment left_since old j c c' IsAsked (Err NoMemory))
           (sym (undone refl))
           (makes_nothing tells moment left_since holds at_rest old (summary c) _ held
           (record { asked = none; leads = tt; kept = held }))
-      one_stopped T StoreFault old new c c' t IsAsked held undone leaves none one =
-          makes_one tells moment left_since old new (summary c) t _ leaves (record {
+      one_stopped T StoreFault old new c c' t IsAsked held undone leaves fit none one =
+          makes_one tells moment left_since old new (summary c) t _ leaves fit (record {
             asked = one;
             leads = tt;
-            kept = λ told. leaves_now old new (WithOrWithout t (summary c)) (leaves told);
+            kept = λ told. leaves_now moment left_since counts_now old new (WithOrWithout t (summary c)) (leaves told);
           })
 
       -- a call that makes one transaction, or stops
@@ -198,29 +204,34 @@ module _ {J : Type 0} (tells : Type 0) (holds : J → Summary → Type 0) (momen
           (IsAsked : List Transaction → Type 0) → (tells → holds old (summary c))
           → IfErr r (λ stop. stop ≡ NoMemory → new ≡ old)
           → (tells → LeavesOnly moment left_since old new (WithOrWithout t (summary c)))
+          → (tells → AreFitNow moment left_since old → IsFitNext (summary c) t
+          → LeavesOnly moment left_since old new HasFitRecords)
           → (tells → OnOk r (holds new (summary c'))) → OnOk r (LeadsBy c (t ∷ []) c')
           → IfErr r (λ stop. IsAsked []) → IsAsked (t ∷ [])
           → MakesAsked tells holds moment left_since old new c c' IsAsked r
-      asked_one (Ok x) old new c c' t IsAsked held undone leaves kept leads none one =
-          makes_one tells moment left_since old new (summary c) t _ leaves (record {
+      asked_one (Ok x) old new c c' t IsAsked held undone leaves fit kept leads none one =
+          makes_one tells moment left_since old new (summary c) t _ leaves fit (record {
             asked = one;
             leads = leads;
             kept = λ told. subst (holds new) leads.came (kept told);
           })
-      asked_one {T} (Err stop) old new c c' t IsAsked held undone leaves kept leads none one =
-          one_stopped T stop old new c c' t IsAsked held undone leaves none one
+      asked_one {T} (Err stop) old new c c' t IsAsked held undone leaves fit kept leads none one =
+          one_stopped T stop old new c c' t IsAsked held undone leaves fit none one
 
       -- a call that moves the journal, or stops
       pub asked_moved : (T : Type 0) (stop : Stop) (old new : J) (c : Core) (IsAsked : List Transaction → Type 0)
           → (stop ≡ NoMemory → tells → holds new (summary c))
-          → (tells → LeavesOnly moment left_since old new (StandsFor (summary c))) → IsAsked []
+          → (tells → LeavesOnly moment left_since old new (StandsFor (summary c)))
+          → (tells → AreFitNow moment left_since old → AreFitAlone (summary c)
+          → LeavesOnly moment left_since old new HasFitRecords)
+          → IsAsked []
           → MakesAsked {T = T} tells holds moment left_since old new c c IsAsked (Err stop)
-      asked_moved T NoMemory old new c IsAsked stays leaves none =
-          makes_none tells moment left_since old new (summary c) _ leaves
+      asked_moved T NoMemory old new c IsAsked stays leaves fit none =
+          makes_none tells moment left_since old new (summary c) _ leaves fit
           (record { asked = none; leads = tt; kept = stays refl })
-      asked_moved T StoreFault old new c IsAsked stays leaves none =
-          makes_none tells moment left_since old new (summary c) _ leaves (record {
+      asked_moved T StoreFault old new c IsAsked stays leaves fit none =
+          makes_none tells moment left_since old new (summary c) _ leaves fit (record {
             asked = none;
             leads = tt;
-            kept = λ told. λ image left. inr (leaves_now old new (StandsFor (summary c)) (leaves told) image left);
+            kept = λ told. λ image left. inr (leaves_now moment left_since counts_now old new (StandsFor (summary c)) (leaves told) image left);
           })

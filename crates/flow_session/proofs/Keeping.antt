@@ -25,6 +25,17 @@ use Rattle.flow_session.proofs.Summaries.{live_with, all_append}
 pub nothing_done : {J : Type 0} (moment : J → ℕ) (left_since : J → ℕ → Image → Type 0) (journal : J) (P : Image → Type 0) → ((c : Image) → left_since journal (moment journal) c → P c) → LeavesOnly moment left_since journal journal P
 nothing_done moment left_since journal P here = record { later = omega arith; each = here; before = λ t c le left. inl left }
 
+-- of a disk that says what a crash may leave now: so it says of each moment up to now, and what a read gives is there
+module _ {D : Type 0} (moment : D → ℕ) (left_since : D → ℕ → Image → Type 0) (images : D → Image → Type 0)
+    (counts_now : (disk : D) (t : ℕ) (c : Image) → t ≤ moment disk → images disk c → left_since disk t c) where
+  pub counts_since : ((disk : D) (c : Image) → left_since disk (moment disk) c → images disk c)
+      → (disk : D) (t : ℕ) (c : Image) → t ≤ moment disk → left_since disk (moment disk) c → left_since disk t c
+  counts_since only_now disk t c earlier left = counts_now disk t c earlier (only_now disk c left)
+
+  pub seen_left : (tells : Type 0) (seen : D → Image) → ((disk : D) → tells → images disk (seen disk)) → (disk : D)
+      → tells → left_since disk (moment disk) (seen disk)
+  seen_left tells seen honest disk told = counts_now disk (moment disk) (seen disk) (omega arith) (honest disk told)
+
 -- where a log stands where it stood, its journal is as open as it was
 pub stays_open : {D : Type 0} (seen : D → Image) (images : D → Image → Type 0) (s : Summary) (log log' : Log) (disk disk' : D) → IsOpen seen images log disk s → StaysPut seen images log log' disk disk' → IsOpen seen images log' disk' s
 stays_open seen images s log log' disk disk' is stays = record {

@@ -1,5 +1,5 @@
 -- The transactions of calls, one after the other, and the steps that they are.
-use Rattle.std.proofs.Common.{◌≡◌, ℕ, ◌+◌, List, [], ◌∷◌, ◌++◌, Result, Ok, Err, OnOk, refl, sym, ap, subst, ◌∙◌}
+use Rattle.std.proofs.Common.{◌≡◌, ℕ, ◌+◌, ◌≤◌, List, [], ◌∷◌, ◌++◌, Result, Ok, Err, OnOk, refl, sym, ap, subst, ◌∙◌}
 use Rattle.core_laws.proofs.Making.{core_right}
 use Rattle.flow_core.specs.Admitting.{IsAdmitted}
 use Rattle.flow_core.specs.Allowing.{IsAllowed, CountsRoot}
@@ -137,13 +137,15 @@ so_ok (Err e) so = tt
 
 module _ {J : Type 0} (tells : Type 0) (moment : J → ℕ) (left_since : J → ℕ → Image → Type 0) where
   -- one call after another
-  pub leads_on : (old mid new : J) (c d e : Core)
+  pub leads_on : ((journal : J) (t : ℕ) (c : Image) → t ≤ moment journal → left_since journal (moment journal) c
+      → left_since journal t c)
+      → (old mid new : J) (c d e : Core)
       → Makes tells moment left_since old mid (summary c) (λ ts. LeadsBy c ts d)
       → Makes tells moment left_since mid new (summary d) (λ ts. LeadsBy d ts e)
       → Makes tells moment left_since old new (summary c) (λ ts. LeadsBy c ts e)
-  leads_on old mid new c d e first second =
-      makes_more tells moment left_since old mid new (summary c) (summary d) (λ ts. LeadsBy c ts d) (λ ts. LeadsBy d ts e)
-      (λ ts. LeadsBy c ts e) first (λ ts leads. leads.came) second (λ ts us a b. leads_more c d e ts us a b)
+  leads_on counts_now old mid new c d e first second =
+      makes_more tells moment left_since counts_now old mid new (summary c) (summary d) (λ ts. LeadsBy c ts d)
+      (λ ts. LeadsBy d ts e) (λ ts. LeadsBy c ts e) first (λ ts leads. leads.came) second (λ ts us a b. leads_more c d e ts us a b)
 
   -- calls that are done, behind which nothing more is made
   pub leads_so : {T E : Type 0} (r : Result T E) (old new : J) (c d : Core)

@@ -1,8 +1,9 @@
--- Read Summaries first, then Histories, Keeping, Calls, Leading and Runs; Replaying is of opening.
+-- Read Summaries first, then Histories, Keeping, Fitting, Calls, Leading and Runs; Replaying is of opening.
 pub mod Summaries
 pub mod Histories
 pub mod Keeping
 pub mod Queued
+pub mod Fitting
 pub mod Calls
 pub mod Rights
 pub mod Leading

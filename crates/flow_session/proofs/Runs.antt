@@ -1,5 +1,5 @@
 -- A run over a store: it is opened, and then served.
-use Rattle.std.proofs.Common.{◌≡◌, inl, inr, ℕ, List, [], ◌++◌, Result, Ok, Err, OnOk, IsOk, ap, subst, sym, refl}
+use Rattle.std.proofs.Common.{◌≡◌, inl, inr, ℕ, ◌≤◌, List, [], ◌++◌, Result, Ok, Err, OnOk, IsOk, ap, subst, sym, refl}
 use Rattle.flow_disk.specs.Images.{Image}
 use Rattle.flow_disk.specs.Moments.{LeavesOnly, Only}
 use Rattle.flow_disk.proofs.Runs.{weaker}
@@ -7,6 +7,7 @@ use Rattle.flow_core.specs.Summaries.{Summary, summary}
 use Rattle.flow_core.specs.declared.state.Core.{Core}
 use Rattle.flow_model.specs.declared.transactions.Transaction.{Transaction}
 use Rattle.txn_log.specs.declared.log.Log.{Log}
+use Rattle.flow_session.specs.Fitting.{HasFitRecords}
 use Rattle.flow_session.specs.Histories.{StandsFor, after}
 use Rattle.flow_session.specs.Keeping.{IsOpen, rests}
 use Rattle.flow_session.specs.Runs.{KeepsStore, ServesStore, KeepsOrServes}
@@ -26,6 +27,7 @@ pub makes_on_disk : {J D : Type 0} (disk_of : J → D) (tells : Type 0) (moment 
 makes_on_disk disk_of tells moment left_since old new s IsEnd makes = record {
   transactions = makes.transactions;
   any_moment = λ told. on_disk disk_of moment left_since old new _ (makes.any_moment told);
+  fit = λ told fit_now fits. on_disk disk_of moment left_since old new HasFitRecords (makes.fit told fit_now fits);
   ended = makes.ended;
 }
 
@@ -43,6 +45,7 @@ pub served_to_end : {D T E : Type 0} (tells : Type 0) (moment : D → ℕ) (left
 served_to_end tells moment left_since seen images log old new c d r is makes = record {
   transactions = makes.transactions;
   any_moment = makes.any_moment;
+  fit = makes.fit;
   ended = λ ok told image left.
       subst (λ x. StandsFor x image) (on_ok r (LeadsBy c makes.transactions d) ok makes.ended).came
       (rests seen images log new (summary d) image (on_ok r _ ok is told) left);
@@ -54,22 +57,28 @@ module _ {D : Type 0} (tells : Type 0) (moment : D → ℕ) (left_since : D → 
   opened old new only leaves = weaker moment left_since images old new (images old) (λ image. image ≡ seen old) leaves (λ c left. only c left)
 
   -- a store that is opened, and served from then on
-  pub served : (old mid new : D) (s : Summary) (IsDone : Type 0) → KeepsStore moment left_since seen old mid
+  pub served : ((disk : D) (t : ℕ) (c : Image) → t ≤ moment disk → left_since disk (moment disk) c
+      → left_since disk t c)
+      → (old mid new : D) → (tells → left_since old (moment old) (seen old)) → (s : Summary) (IsDone : Type 0)
+      → KeepsStore moment left_since seen old mid
       → seen mid ≡ seen old → StandsFor s (seen mid)
       → Makes tells moment left_since mid new s
       (λ ts. IsDone → (image : Image) → images new image → StandsFor (after s ts) image)
       → ServesStore tells moment left_since seen images old new IsDone
-  served old mid new s IsDone keeps same stands makes =
+  served counts_now old mid new here s IsDone keeps same stands makes =
       let stood : StandsFor s (seen old) = subst (StandsFor s) same stands in
       let IsLast : List Transaction → Type 0 =
       λ ts. IsDone → (image : Image) → images new image → StandsFor (after s ts) image in
       record {
         before = s;
         stood = stood;
-        makes = makes_more tells moment left_since old mid new s s (λ ts. ts ≡ []) IsLast IsLast
+        makes = makes_more tells moment left_since counts_now old mid new s s (λ ts. ts ≡ []) IsLast IsLast
             (makes_none tells moment left_since old mid s (λ ts. ts ≡ [])
             (λ told. weaker moment left_since images old mid (λ image. image ≡ seen old) (StandsFor s) keeps
-            (λ c is. subst (StandsFor s) (sym is) stood)) refl)
+            (λ c is. subst (StandsFor s) (sym is) stood))
+            (λ told fit_now fits.
+            weaker moment left_since images old mid (λ image. image ≡ seen old) HasFitRecords keeps
+            (λ c is. subst HasFitRecords (sym is) (fit_now (seen old) (here told)))) refl)
             (λ ts none. ap (after s) (sym none)) makes
             (λ ts us none last. subst (λ (xs : List Transaction). IsLast (xs ++ us)) (sym none) last);
       }
@@ -87,6 +96,7 @@ module _ {D : Type 0} (tells : Type 0) (moment : D → ℕ) (left_since : D → 
     makes = record {
       transactions = serves.makes.transactions;
       any_moment = serves.makes.any_moment;
+      fit = serves.makes.fit;
       ended = λ last image left. serves.makes.ended (leads last) image left;
     };
   })

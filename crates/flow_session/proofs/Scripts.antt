@@ -35,10 +35,14 @@ module _ {J : Type 0} (tells : Type 0) (holds : J → Summary → Type 0) (momen
   one_asked input reply s s' j j' one = record {
     transactions = one.makes.transactions;
     any_moment = one.makes.any_moment;
+    fit = one.makes.fit;
     ended = (one.asked, one.makes.ended);
   }
 
-  module _ (at_rest : (journal : J) (s : Summary) (c : Image) → tells → holds journal s → left_since journal (moment journal) c → StandsFor s c) where
+  module _ (at_rest : (journal : J) (s : Summary) (c : Image) → tells → holds journal s
+      → left_since journal (moment journal) c → StandsFor s c)
+      (counts_now : (journal : J) (t : ℕ) (c : Image) → t ≤ moment journal → left_since journal (moment journal) c
+      → left_since journal t c) where
     -- all of them
     kept_whole : (s : Session) (j : J) (inputs : List Given) (replies : List (List ℕ)) (s' : Session) (j' : J) (n : ℕ) → ServesAll tells holds moment left_since place moved s j inputs replies s' j' → (tells → holds j' (summary s'.core)) → n ≡ length inputs
         → IsKeptFrom tells holds moment left_since place moved s j (take n inputs) (take n replies) s' j'
@@ -66,7 +70,7 @@ module _ {J : Type 0} (tells : Type 0) (holds : J → Summary → Type 0) (momen
           served = subst (λ (is : List Given). ServesAll tells holds moment left_since place moved s j is (take n (replies ++ reply ∷ [])) h.session h.journal) (sym these)
               (subst (λ (rs : List (List ℕ)). ServesAll tells holds moment left_since place moved s j (take n inputs) rs h.session h.journal) (sym those) h.served);
           kept = h.kept;
-          goes_on = leads_on tells moment left_since h.journal j' j'' h.session.core s'.core s''.core h.goes_on one.makes;
+          goes_on = leads_on tells moment left_since counts_now h.journal j' j'' h.session.core s'.core s''.core h.goes_on one.makes;
         }
 
     pub answered_kept : AnsweredIsKept tells holds moment left_since place moved
@@ -85,13 +89,13 @@ module _ {J : Type 0} (tells : Type 0) (holds : J → Summary → Type 0) (momen
         makes_nothing tells moment left_since holds at_rest j (summary s.core) (λ ts. LeadsBy s.core ts s.core) held_now
         (leads_none s.core)
     are_runs s j _ _ _ _ held_now (OneMore {inputs} {replies} {input} {reply} {s'} {s''} {j'} {j''} all one) =
-        leads_on tells moment left_since j j' j'' s.core s'.core s''.core
+        leads_on tells moment left_since counts_now j j' j'' s.core s'.core s''.core
         (are_runs s j inputs replies s' j' held_now all) one.makes
 
     pub make_asked : ScriptsMakeAsked tells holds moment left_since place moved
     make_asked s j _ _ _ _ held_now NoInput =
         makes_nothing tells moment left_since holds at_rest j (summary s.core) _ held_now (AskNothing, leads_none s.core)
     make_asked s j _ _ _ _ held_now (OneMore {inputs} {replies} {input} {reply} {s'} {s''} {j'} {j''} all one) =
-        makes_more tells moment left_since j j' j'' (summary s.core) (summary s'.core) _ _ _
+        makes_more tells moment left_since counts_now j j' j'' (summary s.core) (summary s'.core) _ _ _
         (make_asked s j inputs replies s' j' held_now all) (λ ts so. so.1.came) (one_asked input reply s' s'' j' j'' one)
         (λ ts us a b. (AskMore input us reply a.0 b.0 one.served, leads_more s.core s'.core s''.core ts us a.1 b.1))

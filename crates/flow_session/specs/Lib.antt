@@ -4,6 +4,7 @@ pub mod Keeping
 pub mod Runs
 pub mod Stopping
 pub mod Refusing
+pub mod Fitting
 pub mod Serving
 pub mod Leading
 pub mod Replaying

@@ -4,6 +4,7 @@ use Rattle.flow_model.specs.declared.transactions.Transaction.{Transaction}
 use Rattle.flow_disk.specs.Images.{Image}
 use Rattle.flow_disk.specs.Moments.{LeavesOnly}
 use Rattle.flow_core.specs.Summaries.{Summary, next}
+use Rattle.flow_session.specs.Fitting.{AreFitFrom, AreFitNow, HasFitRecords}
 use Rattle.flow_session.specs.Histories.{StandsFor, StandsAfterSome, after}
 use Rattle.flow_session.specs.declared.serving.Stop.{Stop}
 use Rattle.flow_session.specs.declared.serving.Stop.TheVariants.{StoreFault, NoMemory}
@@ -17,11 +18,14 @@ abbrev pub AllOrNone : List Transaction → Summary → Image → Type 0
 AllOrNone ts s image = StandsFor s image ⊎ StandsFor (after s ts) image
 
 -- A call makes these transactions, one after the other: whatever a crash during the call leaves stands for the summary
--- after a front part of them, and at the end of the call this holds of the whole list.
+-- after a front part of them, and at the end of the call this holds of the whole list. Where all records were fit and
+-- those of the transactions are, no crash during the call leaves an unfit one.
 pub record Makes {J : Type 0} (tells : Type 0) (moment : J → ℕ) (left_since : J → ℕ → Image → Type 0) (old new : J)
     (before : Summary) (IsEnd : List Transaction → Type 0) : Type 0 where
   pub transactions : List Transaction
   pub any_moment : tells → LeavesOnly moment left_since old new (StandsAfterSome before transactions)
+  pub fit : tells → AreFitNow moment left_since old → AreFitFrom before transactions
+      → LeavesOnly moment left_since old new HasFitRecords
   pub ended : IsEnd transactions
 
 -- these transactions without the last one

@@ -8,6 +8,7 @@ ghost use Rattle.flow_model.specs.declared.transactions.Transaction.{Transaction
 ghost use Rattle.flow_txn.specs.Ranges.{IsInRange};
 ghost use Rattle.flow_txn.specs.Records.{record_bytes};
 ghost use Rattle.flow_core.specs.Summaries.{Summary, summary, next};
+ghost use Rattle.flow_session.specs.Fitting.{AreFitAlone, AreFitNow, HasFitRecords, IsFitNext};
 ghost use Rattle.flow_session.specs.Histories.{StandsFor};
 ghost use Rattle.flow_session.specs.Serving.{WithOrWithout};
 ghost use Rattle.flow_session.specs.Stopping.{IsStopCause};
@@ -62,6 +63,10 @@ pub trait Journal {
         ensures any_moment { (s : Summary) (t : TransactionOf) → tells → holds self.old s
             → payload.now ≡ record_bytes (s.transactions + 1) t → IsInRange (s.transactions + 1) t
             → LeavesOnly moment left_since self.old self.new (WithOrWithout t s) }
+        ensures fit { (s : Summary) (t : TransactionOf) → tells → holds self.old s
+            → payload.now ≡ record_bytes (s.transactions + 1) t → IsInRange (s.transactions + 1) t
+            → AreFitNow moment left_since self.old → IsFitNext s t
+            → LeavesOnly moment left_since self.old self.new HasFitRecords }
         ensures place { place self.new ≡ place self.old }
         ensures undone { IfErr result (λ stop. stop ≡ NoMemory → self.new ≡ self.old) }
         ensures cause { MatchResult result (λ _. faults self.new ≡ faults self.old)
@@ -75,6 +80,8 @@ pub trait Journal {
         ensures kept { tells → OnOk result (holds self.new (summary core.now)) }
         ensures moved { OnOk result (moved self.old self.new (summary core.now)) }
         ensures any_moment { tells → LeavesOnly moment left_since self.old self.new (StandsFor (summary core.now)) }
+        ensures fit { tells → AreFitNow moment left_since self.old → AreFitAlone (summary core.now)
+            → LeavesOnly moment left_since self.old self.new HasFitRecords }
         ensures stays { IfErr result (λ stop. stop ≡ NoMemory → tells
             → (place self.new ≡ place self.old) × holds self.new (summary core.now)) }
         ensures cause { MatchResult result (λ _. faults self.new ≡ faults self.old)

@@ -22,6 +22,7 @@ ghost use Rattle.flow_session.specs.Inputs.{ServesText, ServesInside, IsServed};
 ghost use Rattle.flow_session.specs.Replying.{IsObeyed, checkpoint_text};
 ghost use Rattle.flow_session.specs.Asking.{Asks, AsksSaid, AsksOutside, AsksText, AsksInside, AsksOf};
 ghost use Rattle.flow_session.specs.Leading.{MakesAsked};
+ghost use Rattle.flow_session.specs.Fitting.{AreFitNow, HasFitRecords, IsFitNext};
 ghost use Rattle.flow_session.specs.Serving.{WithOrWithout};
 ghost use Rattle.flow_session.specs.Stopping.{IsStopCause};
 ghost use Rattle.flow_session.specs.declared.serving.Stop.TheVariants.{NoMemory};
@@ -203,6 +204,8 @@ impl Session {
         ensures undone { IfErr result (λ stop. stop ≡ NoMemory → journal.new ≡ journal.old) }
         ensures any_moment { J.tells → LeavesOnly J.moment J.left_since journal.old journal.new
             (WithOrWithout t (summary self.old.core)) }
+        ensures fit { J.tells → AreFitNow J.moment J.left_since journal.old → IsFitNext (summary self.old.core) t
+            → LeavesOnly J.moment J.left_since journal.old journal.new HasFitRecords }
     {
         let payload = journal.payload(self.core.next_number(), &t)?;
         let applied = self.core.apply(t)?;

@@ -11,6 +11,7 @@ ghost use Rattle.flow_core.specs.Summaries.{Summary, summary};
 ghost use Rattle.flow_model.specs.declared.transactions.Transaction.{Transaction as TransactionOf};
 ghost use Rattle.live_history.specs.Rows.{present};
 ghost use Rattle.flow_session.specs.Checkpoints.{IsCheckpointed};
+ghost use Rattle.flow_session.specs.Fitting.{AreFitFrom, AreFitNow, HasFitRecords};
 ghost use Rattle.flow_session.specs.Histories.{AreInRangeBehind, IsHeaderOf, after, payloads as payloads_of, payloads_behind};
 ghost use Rattle.flow_session.specs.Keeping.{IsOpen, rests};
 ghost use Rattle.flow_session.specs.Serving.{AllOrNone};
@@ -101,6 +102,10 @@ impl<D: Disk + Drop> Stored<D> {
             → IsOpen D.seen D.images self.old.log self.old.disk s → batch.now ≡ payloads_behind s.transactions ts
             → AreInRangeBehind s.transactions ts
             → LeavesOnly D.moment D.left_since self.old.disk self.new.disk (AllOrNone ts s) }
+        ensures fit { (s : Summary) (ts : List TransactionOf) → D.tells
+            → IsOpen D.seen D.images self.old.log self.old.disk s → batch.now ≡ payloads_behind s.transactions ts
+            → AreInRangeBehind s.transactions ts → AreFitNow D.moment D.left_since self.old.disk → AreFitFrom s ts
+            → LeavesOnly D.moment D.left_since self.old.disk self.new.disk HasFitRecords }
         ensures place { (self.new.log.slot ≡ self.old.log.slot)
             × (self.new.log.generation ≡ self.old.log.generation) }
         ensures undone { IfErr result (λ stop. stop ≡ NoMemory → self.new ≡ self.old) }

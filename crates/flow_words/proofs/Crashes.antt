@@ -52,6 +52,7 @@ module _ {D : Type 0} (f : Files D) (r : Result Status Status) where
     makes = record {
       transactions = serves.makes.transactions;
       any_moment = serves.makes.any_moment;
+      fit = serves.makes.fit;
       ended = λ done image left. serves.makes.ended (ended_done r done) image left;
     };
   })

@@ -1,5 +1,5 @@
 -- A script that is served input by input: what stands after each, and how the run ends.
-use Rattle.std.proofs.Common.{◌≡◌, ◌≢◌, inl, inr, ℕ, ◌+◌, Option, Some, None, IfErr, OnOk, Result, Ok, Err, Bool, true, false, ◌==◌, ◌<◌, ◌≤◌, if◌then◌else◌, List, [], ◌∷◌, ◌++◌, map, length, take, refl, sym, ap, subst, ◌∙◌, append_assoc, append-nil, eqb-true, arith}
+use Rattle.std.proofs.Common.{◌≡◌, ◌≢◌, inl, inr, ℕ, ◌+◌, Option, Some, None, IfErr, OnOk, Result, Ok, Err, Bool, true, false, ◌==◌, ◌≤◌, if◌then◌else◌, List, [], ◌∷◌, ◌++◌, map, length, take, refl, sym, ap, subst, ◌∙◌, append_assoc, append-nil, eqb-true, arith}
 use Rattle.std.specs.Io.KnownBytes.{Appends, Keeps}
 use Rattle.std.specs.List.{list_any}
 use Rattle.std.specs.Prelude.{nat_le, ◌||◌}
@@ -307,7 +307,8 @@ module _ {J : Type 0} (tells : Type 0) (holds : J → Summary → Type 0) (momen
         (ap is_last is ∙ found_going found lines'.text not_end);
   }
 
-  module _ (at_rest : (journal : J) (s : Summary) (c : Image) → tells → holds journal s → left_since journal (moment journal) c → StandsFor s c) where
+  module _ (at_rest : (journal : J) (s : Summary) (c : Image) → tells → holds journal s → left_since journal (moment journal) c → StandsFor s c)
+      (counts_now : (journal : J) (t : ℕ) (c : Image) → t ≤ moment journal → left_since journal (moment journal) c → left_since journal t c) where
     -- a run that stops before it reads an input
     pub stopped : (bytes left : Option (List ℕ)) (lines : Reading) (held held' : Option (List ℕ)) (s s' : Session) (j j' : J) (status : Status) → SoFar bytes left lines held held' s s' j j' → (tells → holds j' (summary s'.core))
         → (status ≡ ScriptTooLong → (others left lines ≡ []) × IsBeyondLimit bytes) → (tells → holds j (summary s.core))
@@ -321,7 +322,7 @@ module _ {J : Type 0} (tells : Type 0) (holds : J → Summary → Type 0) (momen
       inputs = are_first bytes left lines h.first h.inputs;
       served = h.served;
       answered = λ whole. script_replied tells holds moment left_since place moved s j h.first h.replies s' j' h.served whole;
-      leads = make_asked tells holds moment left_since place moved at_rest s j h.first h.replies s' j' began h.served;
+      leads = make_asked tells holds moment left_since place moved at_rest counts_now s j h.first h.replies s' j' began h.served;
       under_way = makes_nothing tells moment left_since holds at_rest j' (summary s'.core) _ held_now (inl refl);
       printed = all_printed held held' (all_replies h.replies) h.printed;
       whole = λ e. absurd (let f : Err status ≡ Ok tt = e in cc);
@@ -345,7 +346,7 @@ module _ {J : Type 0} (tells : Type 0) (holds : J → Summary → Type 0) (momen
           (first_behind bytes left left' lines lines' h.first found h.inputs serves));
       served = h.served;
       answered = λ whole. script_replied tells holds moment left_since place moved s j h.first h.replies s' j' h.served whole;
-      leads = make_asked tells holds moment left_since place moved at_rest s j h.first h.replies s' j' began h.served;
+      leads = make_asked tells holds moment left_since place moved at_rest counts_now s j h.first h.replies s' j' began h.served;
       under_way = makes_so tells moment left_since j' j'' (summary s'.core) _ _ makes (λ ts e. inr (record {
         input = input;
         rest = others_behind left left' lines' found;
@@ -370,7 +371,7 @@ module _ {J : Type 0} (tells : Type 0) (holds : J → Summary → Type 0) (momen
       answered = λ whole. script_replied tells holds moment left_since place moved s j
           (h.first ++ input ∷ []) (h.replies ++ reply ∷ []) s'' j'' (OneMore h.served served) whole;
       leads =
-          make_asked tells holds moment left_since place moved at_rest s j (h.first ++ input ∷ []) (h.replies ++ reply ∷ [])
+          make_asked tells holds moment left_since place moved at_rest counts_now s j (h.first ++ input ∷ []) (h.replies ++ reply ∷ [])
           s'' j'' began (OneMore h.served served);
       under_way = makes_nothing tells moment left_since holds at_rest j'' (summary s''.core) _ served.kept (inl refl);
       printed = part_printed held mid held' h.replies reply h.printed part;
@@ -399,7 +400,7 @@ module _ {J : Type 0} (tells : Type 0) (holds : J → Summary → Type 0) (momen
           answered = λ whole. script_replied tells holds moment left_since place moved s j
               (h.first ++ input ∷ []) (h.replies ++ reply ∷ []) s'' j'' (OneMore h.served served) whole;
           leads =
-              make_asked tells holds moment left_since place moved at_rest s j (h.first ++ input ∷ []) (h.replies ++ reply ∷ [])
+              make_asked tells holds moment left_since place moved at_rest counts_now s j (h.first ++ input ∷ []) (h.replies ++ reply ∷ [])
               s'' j'' began (OneMore h.served served);
           under_way = makes_nothing tells moment left_since holds at_rest j'' (summary s''.core) _ served.kept (inl refl);
           printed = all_printed held held' (all_replies (h.replies ++ reply ∷ [])) whole_text;

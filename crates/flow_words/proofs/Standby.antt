@@ -2,7 +2,6 @@
 use Rattle.std.proofs.Common.{◌≡◌, inr, ◌∙◌, ℕ, Option, List, Err, refl, subst, arith}
 use Rattle.txn_log.specs.declared.stops.LogStop.{LogStop}
 use Rattle.txn_log.specs.declared.stops.LogStop.TheVariants as log
-use Rattle.flow_session.specs.Stopping.{IsOpenCause}
 use Rattle.standby.specs.Endings.{ShipEnd}
 use Rattle.standby.specs.declared.stops.ShipStop.{ShipStop}
 use Rattle.standby.specs.declared.stops.ShipStop.TheVariants as ship

@@ -182,7 +182,7 @@ abbrev RunsTo : Status → Type 0
 RunsTo status = IsOneOf status (Store ∷ StoreFault ∷ script_ends)
 
 runs_ends : {D : Type 0} (c : Channels) (f : Files D) (ended : Status) → RunsStore c f ended → RunsTo ended
-runs_ends c f ended (inl none) = by_unserved RunsTo ended f c.held c.held' none (inl refl) (inr (inl refl)) (inr (inr (inr (inr (inl refl))))) (inr (inr (inr (inr (inr (inl refl))))))
+runs_ends c f ended (inl (none, unread, kept)) = by_unserved RunsTo ended f c.held c.held' none (inl refl) (inr (inl refl)) (inr (inr (inr (inr (inl refl))))) (inr (inr (inr (inr (inr (inl refl))))))
 runs_ends c f ended (inr (served, serves, ends)) =
     script_ends_so RunsTo served ended ends (inr (inr (inl refl))) (inr (inl refl)) (inr (inr (inr (inl refl)))) (inr (inr (inr (inr (inl refl))))) (inr (inr (inr (inr (inr (inl refl)))))) (inr (inr (inr (inr (inr (inr (inl refl)))))))
 

@@ -1,7 +1,6 @@
 -- What `follow` prints.
 use Rattle.std.specs.Prelude.{◌≡◌, ◌⊎◌, ℕ, List, Option, Result, Ok, Err, MatchResult}
 use Rattle.std.specs.Io.KnownBytes.{Keeps}
-use Rattle.flow_disk.specs.Images.{Image}
 use Rattle.flow_session.specs.Refusing.{IsUnopened}
 use Rattle.standby.specs.Followed.{FollowsOpened, IsNotOpened}
 use Rattle.standby.specs.Texts.{followed_line, follow_refusal_line}
@@ -9,7 +8,7 @@ use Rattle.standby.specs.declared.following.Followed.{Followed}
 use Rattle.standby.specs.declared.stops.FollowStop.{FollowStop}
 use Rattle.standby.specs.declared.stops.FollowStop.TheVariants as follow
 use Rattle.flow_words.specs.Openings.{RefusesStore}
-use Rattle.flow_words.specs.Outside.{Channels, Files}
+use Rattle.flow_words.specs.Outside.{Channels, Files, IfSettled, KeepsFiles}
 use Rattle.flow_words.specs.Printed.{Prints}
 use Rattle.flow_words.specs.declared.status.Status.{Status}
 use Rattle.flow_words.specs.declared.status.Status.TheVariants.{Done, ReadFault, NoMemory, ScriptTooLong, Refused}
@@ -32,15 +31,16 @@ PrintsResult (Err follow.TooLong) held held' ended = EndsSilent ScriptTooLong he
 PrintsResult (Err follow.NoMemory) held held' ended = EndsSilent NoMemory held held' ended
 PrintsResult (Err stop) held held' ended = PrintsLine (follow_refusal_line stop) Refused held held' ended
 
--- the result of following: the store isn't opened and nothing is read, or it is and the source is followed
-abbrev pub ComesToResult : Type 0 → Image → (Image → Type 0) → Option (List ℕ) → Option (List ℕ)
-    → Result Followed FollowStop → Type 0
-ComesToResult tells seen images left left' result =
-    (MatchResult result (λ _. ⊥) (IsNotOpened (λ stop. tells → IsUnopened seen stop)) × Keeps left left')
-    ⊎ FollowsOpened tells seen images left left' result
+-- the result of following: the store isn't opened, nothing is read, and a crash leaves what was there; or it is opened,
+-- and the source is followed
+abbrev pub ComesToResult : {D : Type 0} → Channels → Files D → Result Followed FollowStop → Type 0
+ComesToResult c f result =
+    (MatchResult result (λ _. ⊥) (IsNotOpened (λ stop. f.disk.tells → IsUnopened (f.disk.seen f.old) stop))
+    × Keeps c.left c.left' × IfSettled f (KeepsFiles f))
+    ⊎ FollowsOpened f.disk.tells (f.disk.seen f.old) (f.disk.images f.new) c.left c.left' result
 
 -- `follow`: the result of following is printed
 pub record PrintsFollowed {D : Type 0} (c : Channels) (f : Files D) (ended : Status) : Type 0 where
   pub result : Result Followed FollowStop
-  pub comes_to : ComesToResult f.disk.tells (f.disk.seen f.old) (f.disk.images f.new) c.left c.left' result
+  pub comes_to : ComesToResult c f result
   pub printed : PrintsResult result c.held c.held' ended

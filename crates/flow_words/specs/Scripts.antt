@@ -34,7 +34,7 @@ use Rattle.session_laws.specs.Sittings.{sitting, IsWhole}
 use Rattle.flow_words.specs.Crashes.{empty_history}
 use Rattle.flow_words.specs.Endings.{StopsScript, status_of_stop}
 use Rattle.flow_words.specs.Openings.{IsUnserved}
-use Rattle.flow_words.specs.Outside.{Channels, Files, files, KeepsFiles}
+use Rattle.flow_words.specs.Outside.{Channels, Files, files, IfSettled, KeepsFiles}
 use Rattle.flow_words.specs.Printed.{PrintsPart}
 use Rattle.flow_words.specs.declared.status.Status.{Status}
 use Rattle.flow_words.specs.declared.status.Status.TheVariants.{Done, NoMemory, ScriptTooLong}
@@ -183,10 +183,11 @@ abbrev pub status_of_word : Result Status Status → Status
 status_of_word (Ok status) = status
 status_of_word (Err status) = status
 
--- `run`: the store isn't opened, or it is, and serves the script
+-- `run`: the store isn't opened, nothing is read, and a crash leaves what was there; or it is opened, and serves the
+-- script
 abbrev pub RunsStore : {D : Type 0} → Channels → Files D → Status → Type 0
 RunsStore c f ended =
-    IsUnserved f c.held c.held' ended
+    (IsUnserved f c.held c.held' ended × (c.left' ≡ c.left) × IfSettled f (KeepsFiles f))
     ⊎ ((served : Result (Unit {0}) Status) × ServesStoreScript c f served × EndsAs served ended)
 
 -- `try`: a session over the empty history serves the script, and ends the program so

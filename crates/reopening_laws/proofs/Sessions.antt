@@ -1,5 +1,5 @@
 -- The transactions of a session are made by commands: input by input, and a DRAIN turn by turn.
-use Rattle.std.proofs.Common.{◌≡◌, inl, inr, ℕ, ◌<◌, ◌&&◌, nat_lt, nat_le, Bool, true, false, List, [], ◌∷◌, ◌++◌, Option, Some, None}
+use Rattle.std.proofs.Common.{◌≡◌, inl, inr, ℕ, ◌<◌, ◌≤◌, ◌&&◌, nat_lt, nat_le, Bool, true, false, List, [], ◌∷◌, ◌++◌, Option, Some, None}
 use Rattle.std.proofs.Common.{is_some, length, refl, sym, subst}
 use Rattle.std.specs.Prelude.{slice_get}
 use Rattle.std.proofs.lemmas.Bool.{lt-ltb}
@@ -173,6 +173,7 @@ module _ {J : Type 0} (tells : Type 0) (holds : J → Summary → Type 0) (momen
   one_made input reply s s' j j' one right = record {
     transactions = one.makes.transactions;
     any_moment = one.makes.any_moment;
+    fit = one.makes.fit;
     ended = (
       one.makes.ended,
       λ keyed.
@@ -188,13 +189,15 @@ module _ {J : Type 0} (tells : Type 0) (holds : J → Summary → Type 0) (momen
       one.right (still_right s j inputs replies s' j' all right)
 
   module _ (at_rest : (journal : J) (s : Summary) (c : Image) → tells → holds journal s
-      → left_since journal (moment journal) c → StandsFor s c) where
+      → left_since journal (moment journal) c → StandsFor s c)
+      (counts_now : (journal : J) (t : ℕ) (c : Image) → t ≤ moment journal → left_since journal (moment journal) c
+      → left_since journal t c) where
     pub made_by_commands : ScriptsMakeByCommands tells holds moment left_since place moved
     made_by_commands s j _ _ _ _ held_now NoInput whole =
         makes_nothing tells moment left_since holds at_rest j (summary s.core) _ held_now (leads_none s.core, refl)
     made_by_commands s j _ _ _ _ held_now (OneMore {inputs} {replies} {input} {reply} {s'} {s''} {j'} {j''} all one)
         whole =
-        makes_more tells moment left_since j j' j'' (summary s.core) (summary s'.core) _ _ _
+        makes_more tells moment left_since counts_now j j' j'' (summary s.core) (summary s'.core) _ _ _
         (made_by_commands s j inputs replies s' j' held_now all whole) (λ ts so. so.0.came)
         (one_made input reply s' s'' j' j'' one (still_right s j inputs replies s' j' all whole.right).0)
         (λ ts us a b. (

@@ -1,5 +1,5 @@
 -- How following goes from stage to stage, and how it ends.
-use Rattle.std.proofs.Common.{◌≡◌, ◌∙◌, inl, inr, ⊎_elim, ℕ, ◌+◌, Bool, true, false, List, [], length, Option, Result, Ok, Err, IfErr, ap, sym, subst, refl, arith}
+use Rattle.std.proofs.Common.{◌≡◌, ◌∙◌, ◌⊎◌, inl, inr, ⊎_elim, ℕ, ◌+◌, Bool, true, false, List, [], length, Option, Result, Ok, Err, IfErr, ap, sym, subst, refl, arith}
 use Rattle.std.specs.Io.KnownBytes.{prepend_known}
 use Rattle.std.specs.Result.{IsErrAnd}
 use Rattle.std.proofs.KnownBytes.{prepend_known-nil}
@@ -17,10 +17,11 @@ use Rattle.standby.specs.Frames.{StopsFrame, EndsThere}
 use Rattle.standby.specs.Fronts.{FrontJudged}
 use Rattle.standby.specs.Readers.{Reader, Gives, ahead}
 use Rattle.standby.specs.Reading.{Reads}
-use Rattle.standby.specs.Stages.{TakesPayload, StopsPayload, Stage, stage, Reaches, Further, Goes, IsEnded, StopsAt, StopsKept, FollowsFrames, FollowsHeld, ReadsFront, StopsBefore, PassesFront, IsDone, Follows, FollowsSource}
+use Rattle.standby.specs.Stages.{TakesPayload, StopsPayload, Stage, stage, Reaches, Here, Further, Goes, IsEnded, StopsAt, KeepsAt, StopsKept, FollowsFrames, FollowsHeld, ReadsFront, StopsBefore, PassesFront, IsDone, Follows, FollowsSource}
 use Rattle.standby.specs.Streams.{front_bytes, frame_bytes, end_bytes}
+use Rattle.standby.specs.Waiting.{IsKeptBy, TakesUpTo}
 use Rattle.standby.proofs.Ahead.{gives_kept}
-use Rattle.standby.proofs.Waiting.{unless_map}
+use Rattle.standby.proofs.Waiting.{reaches_on}
 
 -- ---- states
 
@@ -31,16 +32,16 @@ in_order c right = right.1.indexed
 -- ---- the end of the frames
 
 -- the frame at a stage isn't read
-pub unread_frame : (s : Stage) (after : Option (List ℕ)) (stop : FollowStop) → StopsFrame s.place s.core.number s.left after stop → StopsAt s after stop
-unread_frame s after (Store stop) stops = absurd stops
-unread_frame s after (Frame at) stops = inl stops
-unread_frame s after (Cut number) stops = stops
-unread_frame s after Other stops = absurd stops
-unread_frame s after (Gap number) stops = absurd stops
-unread_frame s after (NotAllowed number) stops = absurd stops
-unread_frame s after ReadFault stops = inl stops
-unread_frame s after TooLong stops = stops
-unread_frame s after NoMemory stops = tt
+pub unread_frame : (IsKept : Core → Type 0) (MayKeep : Core → Core → Type 0) (s : Stage) (after : Option (List ℕ)) (stop : FollowStop) → StopsFrame s.place s.core.number s.left after stop → IsKept s.core → StopsKept IsKept MayKeep s after stop
+unread_frame IsKept MayKeep s after (Store stop) stops kept = absurd stops
+unread_frame IsKept MayKeep s after (Frame at) stops kept = (inl stops, kept)
+unread_frame IsKept MayKeep s after (Cut number) stops kept = (stops, kept)
+unread_frame IsKept MayKeep s after Other stops kept = absurd stops
+unread_frame IsKept MayKeep s after (Gap number) stops kept = absurd stops
+unread_frame IsKept MayKeep s after (NotAllowed number) stops kept = absurd stops
+unread_frame IsKept MayKeep s after ReadFault stops kept = (inl stops, kept)
+unread_frame IsKept MayKeep s after TooLong stops kept = (stops, kept)
+unread_frame IsKept MayKeep s after NoMemory stops kept = (tt, kept)
 
 -- the payload at a stage isn't taken
 pub untaken_frame : (s : Stage) (after : Option (List ℕ)) (payload : List ℕ) (stop : FollowStop) → IsPayload payload → Gives s.place s.left after (frame_bytes payload) → StopsPayload s.place (s.number + 1) payload s.core stop → StopsAt s after stop
@@ -72,12 +73,54 @@ one_further first s s' given payload reached same allowed frame place number tak
       takes = subst (λ (n : ℕ). TakesPayload n payload s.core s.taken s'.core s'.taken) (sym number) (subst (λ (xs : List ℕ). TakesPayload (s.number + 1) xs s.core s.taken s'.core s'.taken) same takes);
     })
 
+-- the frame at a stage is taken, and those behind it up to a state of which this is so
+goes_up_to : (s : Stage) (reader : Reader) (left : Option (List ℕ)) (given payload : List ℕ) (IsSo : Core → Type 0) → given ≡ payload → IsPayload payload → Gives s.place s.left (ahead reader left) (frame_bytes payload) → reader.place ≡ s.place + length (frame_bytes payload) → TakesUpTo s.number given reader s.core s.taken IsSo → Goes s (λ behind. IsSo behind.core)
+goes_up_to s reader left given payload IsSo same allowed frame place on =
+    let mid : Stage = stage on.takes.mid on.takes.count (s.number + 1) reader left in
+    let last : Stage = stage on.core on.count on.number on.next left in
+    record {
+      last = last;
+      reached = reaches_on s mid last (one_further s s mid given payload Here same allowed frame place refl on.takes.first) (on.takes.behind left);
+      ended = on.so;
+    }
+
+-- where the state at a stage is kept, so much is
+keeps_at : (IsKept : Core → Type 0) (MayKeep : Core → Core → Type 0) (s : Stage) (stop : FollowStop) → IsKept s.core → MayKeep s.core s.core → KeepsAt IsKept MayKeep s stop
+keeps_at IsKept MayKeep s (Store stop) kept may = record { last = s; reached = Here; ended = may }
+keeps_at IsKept MayKeep s (Frame at) kept may = kept
+keeps_at IsKept MayKeep s (Cut number) kept may = kept
+keeps_at IsKept MayKeep s Other kept may = kept
+keeps_at IsKept MayKeep s (Gap number) kept may = kept
+keeps_at IsKept MayKeep s (NotAllowed number) kept may = kept
+keeps_at IsKept MayKeep s ReadFault kept may = kept
+keeps_at IsKept MayKeep s TooLong kept may = kept
+keeps_at IsKept MayKeep s NoMemory kept may = kept
+
+-- frames behind a stage were taken where the call stops there
+stops_behind : (IsKept : Core → Type 0) (MayKeep : Core → Core → Type 0) (first s : Stage) (after : Option (List ℕ)) (stop : FollowStop) → Reaches first s → StopsAt s after stop → Goes s (λ behind. IsKeptBy stop IsKept (MayKeep s.core) behind.core) → Goes first (λ last. StopsKept IsKept MayKeep last after stop)
+stops_behind IsKept MayKeep first s after (Store stop) reached stops goes = record { last = s; reached = reached; ended = (stops, goes) }
+stops_behind IsKept MayKeep first s after (Frame at) reached stops goes = absurd goes.ended
+stops_behind IsKept MayKeep first s after (Cut number) reached stops goes = absurd goes.ended
+stops_behind IsKept MayKeep first s after Other reached stops goes = absurd goes.ended
+stops_behind IsKept MayKeep first s after (Gap number) reached stops goes = absurd goes.ended
+stops_behind IsKept MayKeep first s after (NotAllowed number) reached stops goes = absurd goes.ended
+stops_behind IsKept MayKeep first s after ReadFault reached stops goes = absurd goes.ended
+stops_behind IsKept MayKeep first s after TooLong reached stops goes = absurd goes.ended
+stops_behind IsKept MayKeep first s after NoMemory reached stops goes = record { last = goes.last; reached = reaches_on first s goes.last reached goes.reached; ended = (tt, goes.ended) }
+
+-- the frame that was read at a stage isn't taken: all is as it was, and the state there is kept; or that frame was taken, and those behind it up to a state
+pub stops_next : (IsKept : Core → Type 0) (MayKeep : Core → Core → Type 0) (Same : Type 0) (first s : Stage) (reader : Reader) (left : Option (List ℕ)) (given payload : List ℕ) (stop : FollowStop) → Reaches first s → StopsAt s (ahead reader left) stop → given ≡ payload → IsPayload payload → Gives s.place s.left (ahead reader left) (frame_bytes payload) → reader.place ≡ s.place + length (frame_bytes payload) → (Same → IsKept s.core) → (Same → MayKeep s.core s.core) → Same ⊎ TakesUpTo s.number given reader s.core s.taken (IsKeptBy stop IsKept (MayKeep s.core)) → Goes first (λ last. StopsKept IsKept MayKeep last (ahead reader left) stop)
+stops_next IsKept MayKeep Same first s reader left given payload stop reached stops same allowed frame place kept may (inl is) =
+    record { last = s; reached = reached; ended = (stops, keeps_at IsKept MayKeep s stop (kept is) (may is)) }
+stops_next IsKept MayKeep Same first s reader left given payload stop reached stops same allowed frame place kept may (inr on) =
+    stops_behind IsKept MayKeep first s (ahead reader left) stop reached stops (goes_up_to s reader left given payload (IsKeptBy stop IsKept (MayKeep s.core)) same allowed frame place on)
+
 -- what stops at the last stage stops the call
-pub stops_frames : {T : Type 0} (IsKept : Core → Type 0) (first : Stage) (left : Option (List ℕ)) (held : List ℕ) (c : Core) (taken : ℕ) (r : Result T FollowStop) (stop : FollowStop) → IsErrAnd r (λ y. y ≡ stop) → (stop ≡ ReadFault → held ≡ []) → Goes first (λ last. StopsKept IsKept last (prepend_known held left) stop) → FollowsHeld IsKept first left c taken r
-stops_frames IsKept first left held c taken (Ok x) stop is dry goes = absurd is
-stops_frames IsKept first left held c taken (Err y) stop is dry goes = record {
+pub stops_frames : {T : Type 0} (IsKept : Core → Type 0) (MayKeep : Core → Core → Type 0) (first : Stage) (left : Option (List ℕ)) (held : List ℕ) (c : Core) (taken : ℕ) (r : Result T FollowStop) (stop : FollowStop) → IsErrAnd r (λ y. y ≡ stop) → (stop ≡ ReadFault → held ≡ []) → Goes first (λ last. StopsKept IsKept MayKeep last (prepend_known held left) stop) → FollowsHeld IsKept MayKeep first left c taken r
+stops_frames IsKept MayKeep first left held c taken (Ok x) stop is dry goes = absurd is
+stops_frames IsKept MayKeep first left held c taken (Err y) stop is dry goes = record {
   held = held;
-  follows = subst (λ (e : FollowStop). Goes first (λ last. StopsKept IsKept last (prepend_known held left) e)) (sym is) goes;
+  follows = subst (λ (e : FollowStop). Goes first (λ last. StopsKept IsKept MayKeep last (prepend_known held left) e)) (sym is) goes;
   dry = λ e. dry (sym is ∙ e);
 }
 
@@ -89,22 +132,22 @@ pub never_dry : (disk disk' : ℕ) (P : Type 0) (stop : FollowStop) → FollowEn
 never_dry disk disk' P stop end is = no_fault disk disk' P stop end is
 
 -- the end of the stream is read at a stage
-read_end : {T : Type 0} (IsKept : Core → Type 0) (first s : Stage) (at : ℕ) (mid after : Option (List ℕ)) (r : Result T FollowStop) → at ≡ s.place + 1 → Reaches first s → Gives s.place s.left mid end_bytes → IsKept s.core → EndsThere at mid after r → FollowsFrames IsKept first after s.core s.taken r
-read_end IsKept first s at mid after (Ok x) behind reached given kept ends = record { last = s; reached = reached; ended = ((gives_kept s.place s.left mid after end_bytes given ends.0, ends.1), refl, refl) }
-read_end IsKept first s at mid after (Err (Store stop)) behind reached given kept ends = absurd ends
-read_end IsKept first s at mid after (Err (Frame told)) behind reached given kept ends = record { last = s; reached = reached; ended = (inr (inr (ends.0 ∙ behind, gives_kept s.place s.left mid after end_bytes given ends.1, ends.2)), kept) }
-read_end IsKept first s at mid after (Err (Cut number)) behind reached given kept ends = absurd ends
-read_end IsKept first s at mid after (Err Other) behind reached given kept ends = absurd ends
-read_end IsKept first s at mid after (Err (Gap number)) behind reached given kept ends = absurd ends
-read_end IsKept first s at mid after (Err (NotAllowed number)) behind reached given kept ends = absurd ends
-read_end IsKept first s at mid after (Err ReadFault) behind reached given kept ends = record { last = s; reached = reached; ended = (inr (gives_kept s.place s.left mid after end_bytes given ends), kept) }
-read_end IsKept first s at mid after (Err TooLong) behind reached given kept ends = absurd ends
-read_end IsKept first s at mid after (Err NoMemory) behind reached given kept ends = absurd ends
+read_end : {T : Type 0} (IsKept : Core → Type 0) (MayKeep : Core → Core → Type 0) (first s : Stage) (at : ℕ) (mid after : Option (List ℕ)) (r : Result T FollowStop) → at ≡ s.place + 1 → Reaches first s → Gives s.place s.left mid end_bytes → IsKept s.core → EndsThere at mid after r → FollowsFrames IsKept MayKeep first after s.core s.taken r
+read_end IsKept MayKeep first s at mid after (Ok x) behind reached given kept ends = record { last = s; reached = reached; ended = ((gives_kept s.place s.left mid after end_bytes given ends.0, ends.1), refl, refl) }
+read_end IsKept MayKeep first s at mid after (Err (Store stop)) behind reached given kept ends = absurd ends
+read_end IsKept MayKeep first s at mid after (Err (Frame told)) behind reached given kept ends = record { last = s; reached = reached; ended = (inr (inr (ends.0 ∙ behind, gives_kept s.place s.left mid after end_bytes given ends.1, ends.2)), kept) }
+read_end IsKept MayKeep first s at mid after (Err (Cut number)) behind reached given kept ends = absurd ends
+read_end IsKept MayKeep first s at mid after (Err Other) behind reached given kept ends = absurd ends
+read_end IsKept MayKeep first s at mid after (Err (Gap number)) behind reached given kept ends = absurd ends
+read_end IsKept MayKeep first s at mid after (Err (NotAllowed number)) behind reached given kept ends = absurd ends
+read_end IsKept MayKeep first s at mid after (Err ReadFault) behind reached given kept ends = record { last = s; reached = reached; ended = (inr (gives_kept s.place s.left mid after end_bytes given ends), kept) }
+read_end IsKept MayKeep first s at mid after (Err TooLong) behind reached given kept ends = absurd ends
+read_end IsKept MayKeep first s at mid after (Err NoMemory) behind reached given kept ends = absurd ends
 
-pub read_end_held : {T : Type 0} (IsKept : Core → Type 0) (first s : Stage) (at : ℕ) (mid left : Option (List ℕ)) (held : List ℕ) (r : Result T FollowStop) → at ≡ s.place + 1 → Reaches first s → Gives s.place s.left mid end_bytes → IsKept s.core → EndsThere at mid (prepend_known held left) r → IfErr r (λ stop. stop ≡ ReadFault → held ≡ []) → FollowsHeld IsKept first left s.core s.taken r
-read_end_held IsKept first s at mid left held r behind reached given kept ends dry = record {
+pub read_end_held : {T : Type 0} (IsKept : Core → Type 0) (MayKeep : Core → Core → Type 0) (first s : Stage) (at : ℕ) (mid left : Option (List ℕ)) (held : List ℕ) (r : Result T FollowStop) → at ≡ s.place + 1 → Reaches first s → Gives s.place s.left mid end_bytes → IsKept s.core → EndsThere at mid (prepend_known held left) r → IfErr r (λ stop. stop ≡ ReadFault → held ≡ []) → FollowsHeld IsKept MayKeep first left s.core s.taken r
+read_end_held IsKept MayKeep first s at mid left held r behind reached given kept ends dry = record {
   held = held;
-  follows = read_end IsKept first s at mid (prepend_known held left) r behind reached given kept ends;
+  follows = read_end IsKept MayKeep first s at mid (prepend_known held left) r behind reached given kept ends;
   dry = dry;
 }
 
@@ -138,12 +181,23 @@ front_unread left after reader bytes stop new reads =
 -- ---- what is kept
 
 -- what is kept at a stage means this
-stops_as : (IsKept IsHeld : Core → Type 0) (s : Stage) (after : Option (List ℕ)) (stop : FollowStop) → ((x : Core) → IsKept x → IsHeld x) → StopsKept IsKept s after stop → StopsKept IsHeld s after stop
-stops_as IsKept IsHeld s after stop leads stops = (stops.0, unless_map stop (IsKept s.core) (IsHeld s.core) (leads s.core) stops.1)
+keeps_as : (IsKept IsHeld : Core → Type 0) (MayKeep : Core → Core → Type 0) (s : Stage) (stop : FollowStop) → (IsKept s.core → IsHeld s.core) → KeepsAt IsKept MayKeep s stop → KeepsAt IsHeld MayKeep s stop
+keeps_as IsKept IsHeld MayKeep s (Store stop) leads keeps = keeps
+keeps_as IsKept IsHeld MayKeep s (Frame at) leads keeps = leads keeps
+keeps_as IsKept IsHeld MayKeep s (Cut number) leads keeps = leads keeps
+keeps_as IsKept IsHeld MayKeep s Other leads keeps = leads keeps
+keeps_as IsKept IsHeld MayKeep s (Gap number) leads keeps = leads keeps
+keeps_as IsKept IsHeld MayKeep s (NotAllowed number) leads keeps = leads keeps
+keeps_as IsKept IsHeld MayKeep s ReadFault leads keeps = leads keeps
+keeps_as IsKept IsHeld MayKeep s TooLong leads keeps = leads keeps
+keeps_as IsKept IsHeld MayKeep s NoMemory leads keeps = leads keeps
+
+stops_as : (IsKept IsHeld : Core → Type 0) (MayKeep : Core → Core → Type 0) (s : Stage) (after : Option (List ℕ)) (stop : FollowStop) → ((x : Core) → IsKept x → IsHeld x) → StopsKept IsKept MayKeep s after stop → StopsKept IsHeld MayKeep s after stop
+stops_as IsKept IsHeld MayKeep s after stop leads stops = (stops.0, keeps_as IsKept IsHeld MayKeep s stop (leads s.core) stops.1)
 
 -- what is kept at the last stage means this
-pub follows_as : (IsKept IsHeld : Core → Type 0) (c : Core) (left left' : Option (List ℕ)) (r : Result Followed FollowStop) → ((x : Core) → IsKept x → IsHeld x) → FollowsSource IsKept c left left' r → FollowsSource IsHeld c left left' r
-follows_as IsKept IsHeld c left left' (Ok followed) leads f =
+pub follows_as : (IsKept IsHeld : Core → Type 0) (MayKeep : Core → Core → Type 0) (c : Core) (left left' : Option (List ℕ)) (r : Result Followed FollowStop) → ((x : Core) → IsKept x → IsHeld x) → FollowsSource IsKept MayKeep c left left' r → FollowsSource IsHeld MayKeep c left left' r
+follows_as IsKept IsHeld MayKeep c left left' (Ok followed) leads f =
     let p : PassesFront c left (IsDone IsKept (prepend_known f.held left') followed) = f.follows in
     let done : IsDone IsKept (prepend_known f.held left') followed p.goes.last = p.goes.ended in
     record {
@@ -161,11 +215,11 @@ follows_as IsKept IsHeld c left left' (Ok followed) leads f =
       };
       dry = f.dry;
     }
-follows_as IsKept IsHeld c left left' (Err stop) leads f = record {
+follows_as IsKept IsHeld MayKeep c left left' (Err stop) leads f = record {
   held = f.held;
   follows = ⊎_elim
-      (λ front. inl (front.0, unless_map stop (IsKept c) (IsHeld c) (leads c) front.1))
-      (λ (p : PassesFront c left (λ last. StopsKept IsKept last (prepend_known f.held left') stop)). inr (record {
+      (λ front. inl (front.0, leads c front.1))
+      (λ (p : PassesFront c left (λ last. StopsKept IsKept MayKeep last (prepend_known f.held left') stop)). inr (record {
         front = p.front;
         mid = p.mid;
         read = p.read;
@@ -173,7 +227,7 @@ follows_as IsKept IsHeld c left left' (Err stop) leads f = record {
         goes = record {
           last = p.goes.last;
           reached = p.goes.reached;
-          ended = stops_as IsKept IsHeld p.goes.last (prepend_known f.held left') stop leads p.goes.ended;
+          ended = stops_as IsKept IsHeld MayKeep p.goes.last (prepend_known f.held left') stop leads p.goes.ended;
         };
       }))
       f.follows;
@@ -181,11 +235,11 @@ follows_as IsKept IsHeld c left left' (Err stop) leads f = record {
 }
 
 -- what stops at the front, or behind it, stops the call
-pub stops_source : (IsKept : Core → Type 0) (c : Core) (left left' : Option (List ℕ)) (r : Result Followed FollowStop) (stop : FollowStop) (held : List ℕ) → IsErrAnd r (λ y. y ≡ stop) → Follows IsKept c left (prepend_known held left') (Err stop) → (stop ≡ ReadFault → held ≡ []) → FollowsSource IsKept c left left' r
-stops_source IsKept c left left' (Ok x) stop held is follows dry = absurd is
-stops_source IsKept c left left' (Err y) stop held is follows dry = record {
+pub stops_source : (IsKept : Core → Type 0) (MayKeep : Core → Core → Type 0) (c : Core) (left left' : Option (List ℕ)) (r : Result Followed FollowStop) (stop : FollowStop) (held : List ℕ) → IsErrAnd r (λ y. y ≡ stop) → Follows IsKept MayKeep c left (prepend_known held left') (Err stop) → (stop ≡ ReadFault → held ≡ []) → FollowsSource IsKept MayKeep c left left' r
+stops_source IsKept MayKeep c left left' (Ok x) stop held is follows dry = absurd is
+stops_source IsKept MayKeep c left left' (Err y) stop held is follows dry = record {
   held = held;
-  follows = subst (λ (e : FollowStop). Follows IsKept c left (prepend_known held left') (Err e)) (sym is) follows;
+  follows = subst (λ (e : FollowStop). Follows IsKept MayKeep c left (prepend_known held left') (Err e)) (sym is) follows;
   dry = λ e. let same : y ≡ ReadFault = cc in ap length (dry (sym is ∙ same));
 }
 
@@ -208,8 +262,8 @@ pub judged_dry : (s : Summary) (bytes : List ℕ) (P : Type 0) (stop : FollowSto
 judged_dry s bytes P stop judged is = let no_way : FrontJudged s bytes (Err ReadFault) = subst (λ (e : FollowStop). FrontJudged s bytes (Err e)) is judged in absurd no_way
 
 -- the stream ends, and this is told
-pub done_source : (IsKept : Core → Type 0) (c now : Core) (taken : ℕ) (left left' : Option (List ℕ)) (held : List ℕ) (followed : Followed) → followed.number ≡ now.number → followed.taken ≡ taken → IsKept now → PassesFront c left (λ last. IsEnded last (prepend_known held left') × (last.core ≡ now) × (last.taken ≡ taken)) → FollowsSource IsKept c left left' (Ok followed)
-done_source IsKept c now taken left left' held followed number count kept p =
+pub done_source : (IsKept : Core → Type 0) (MayKeep : Core → Core → Type 0) (c now : Core) (taken : ℕ) (left left' : Option (List ℕ)) (held : List ℕ) (followed : Followed) → followed.number ≡ now.number → followed.taken ≡ taken → IsKept now → PassesFront c left (λ last. IsEnded last (prepend_known held left') × (last.core ≡ now) × (last.taken ≡ taken)) → FollowsSource IsKept MayKeep c left left' (Ok followed)
+done_source IsKept MayKeep c now taken left left' held followed number count kept p =
     let e = p.goes.ended in
     record {
       held = held;

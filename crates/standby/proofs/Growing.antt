@@ -1,5 +1,5 @@
 -- How a stream grows behind what a sink held.
-use Rattle.std.proofs.Common.{◌≡◌, ◌∙◌, ◌++◌, ◌∷◌, ◌+◌, suc, Result, Ok, Err, IfErr, OnOk, ◌<◌, ◌≤◌, [], ℕ, List, Option, take, drop, refl, ap, sym, subst, append_assoc, append-nil, take-append-drop}
+use Rattle.std.proofs.Common.{◌≡◌, ◌∙◌, ◌++◌, ◌∷◌, ◌+◌, Result, Ok, Err, IfErr, OnOk, [], ℕ, List, Option, take, drop, refl, ap, sym, subst, append_assoc, append-nil, take-append-drop}
 use Rattle.std.proofs.KnownBytes.{Appends-nil, Appends-trans}
 use Rattle.std.specs.Io.KnownBytes.{Appends}
 use Rattle.std.specs.List.{flat_map}

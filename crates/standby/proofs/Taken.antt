@@ -1,17 +1,20 @@
 -- What a store that follows does to its disk.
-use Rattle.std.proofs.Common.{◌≡◌, inl, inr, ℕ, List, [], ◌+◌, ◌<◌, ap, arith}
+use Rattle.std.proofs.Common.{◌≡◌, inl, inr, ⊎_elim, ℕ, List, [], ◌+◌, ◌<◌, ◌≤◌, ap, arith, subst, sym}
 use Rattle.std.proofs.lemmas.Bool.{lt-leb}
 use Rattle.flow_disk.specs.Images.{Image}
+use Rattle.flow_disk.specs.Moments.{LeavesOnly}
 use Rattle.flow_model.specs.declared.transactions.Numbered.{Numbered}
 use Rattle.flow_model.specs.declared.transactions.Transaction.{Transaction}
 use Rattle.txn_log.specs.declared.log.Log.{Log}
 use Rattle.flow_core.specs.Summaries.{Summary, Follows, next, summary, taken_up, with_transaction}
 use Rattle.flow_core.specs.declared.state.Core.{Core}
-use Rattle.flow_session.specs.Histories.{StandsFor}
+use Rattle.flow_session.specs.Fitting.{HasFitRecords}
+use Rattle.flow_session.specs.Histories.{StandsFor, after}
 use Rattle.flow_session.specs.Keeping.{IsOpen, rests}
-use Rattle.flow_session.specs.Serving.{Makes}
+use Rattle.flow_session.specs.Serving.{AllOrNone, Makes}
 use Rattle.flow_session.proofs.Keeping.{nothing_done}
 use Rattle.flow_session.proofs.Calls.{makes_none}
+use Rattle.standby.specs.Followed.{StandsForEither}
 
 -- the disk is left alone
 pub untouched : {D : Type 0} (tells : Type 0) (moment : D → ℕ) (left_since : D → ℕ → Image → Type 0)
@@ -22,7 +25,24 @@ pub untouched : {D : Type 0} (tells : Type 0) (moment : D → ℕ) (left_since :
 untouched tells moment left_since seen images only_now log disk s IsEnd is ended =
     makes_none tells moment left_since disk disk s IsEnd
     (λ told. nothing_done moment left_since disk (StandsFor s)
-    (λ c left. rests seen images log disk s c (is told) (only_now disk c left))) ended
+    (λ c left. rests seen images log disk s c (is told) (only_now disk c left)))
+    (λ told now alone. nothing_done moment left_since disk HasFitRecords now) ended
+
+-- all of these transactions may be kept, or none
+pub stands_for_either : {D : Type 0} (tells : Type 0) (moment : D → ℕ) (left_since : D → ℕ → Image → Type 0)
+    (images : D → Image → Type 0)
+    → ((disk : D) (t : ℕ) (c : Image) → t ≤ moment disk → images disk c → left_since disk t c)
+    → (old new : D) (c c' : Core) (ts : List Transaction) → summary c' ≡ after (summary c) ts
+    → (tells → LeavesOnly moment left_since old new (AllOrNone ts (summary c)))
+    → StandsForEither tells (images new) c c'
+stands_for_either tells moment left_since images counts_now old new c c' ts came leaves = λ told image left.
+    ⊎_elim (λ stands. inl stands) (λ stands. inr (subst (λ (s : Summary). StandsFor s image) (sym came) stands))
+    ((leaves told).each image (counts_now new (moment old) image (leaves told).later left))
+
+-- a store that is open stands for its state
+pub stands_open : {D : Type 0} (tells : Type 0) (seen : D → Image) (images : D → Image → Type 0) (log : Log) (disk : D) (c : Core)
+    → (tells → IsOpen seen images log disk (summary c)) → StandsForEither tells (images disk) c c
+stands_open tells seen images log disk c is = λ told image left. inl (rests seen images log disk (summary c) image (is told) left)
 
 -- a transaction under this number is the next one, and is taken up as that
 abbrev pub IsNext : Core → ℕ → Transaction → Type 0

@@ -1,5 +1,6 @@
 -- Transactions that wait in a batch, one after the other.
-use Rattle.std.proofs.Common.{◌≡◌, ◌∙◌, ⊎_elim, ℕ, suc, ◌+◌, ◌<◌, ◌≤◌, List, [], ◌∷◌, ◌++◌, length, Option, Result, Ok, Err, IfErr, IfOk, OnOk, refl, sym, ap, subst, arith, append-nil, append_assoc}
+use Rattle.std.proofs.Common.{◌≡◌, ◌∙◌, ◌⊎◌, inl, inr, ⊎_elim, ℕ, suc, ◌+◌, ◌<◌, ◌≤◌, List, [], ◌∷◌, ◌++◌, length, Option, Result, Ok, Err, IfErr, IfOk, OnOk, refl, sym, ap, subst, arith, append-nil, append_assoc}
+use Rattle.core_laws.specs.RightStates.{IsRightCore}
 use Rattle.flow_core.specs.Admitting.{IsAdmitted}
 use Rattle.flow_core.specs.Summaries.{Summary, summary}
 use Rattle.flow_core.specs.declared.state.Core.{Core}
@@ -8,11 +9,13 @@ use Rattle.flow_txn.specs.Ranges.{IsInRange}
 use Rattle.flow_txn.specs.Records.{record_bytes}
 use Rattle.flow_session.specs.Histories.{AreInRangeBehind, after, payloads_behind}
 use Rattle.flow_session.specs.Leading.{LeadsBy}
+use Rattle.flow_session.specs.declared.serving.Stop.{Stop}
+use Rattle.flow_session.specs.declared.serving.Stop.TheVariants as journal
 use Rattle.flow_session.proofs.Histories.{after_counts}
 use Rattle.flow_session.proofs.Leading.{leads_none, leads_more}
 use Rattle.standby.specs.Readers.{Reader}
-use Rattle.standby.specs.Stages.{Stage, Reaches, Here, Further, IsRecord, StopsPayload, StopsTaking, Takes, TakesPayload, UnlessFailed, stage}
-use Rattle.standby.specs.Waiting.{IsUnchanged, TakesOn, Waits, WaitsBehind}
+use Rattle.standby.specs.Stages.{Stage, Reaches, Here, Further, IsRecord, StopsPayload, StopsTaking, Takes, TakesPayload, stage}
+use Rattle.standby.specs.Waiting.{IsKeptBy, IsUnchanged, IsUnkept, TakesOn, TakesUpTo, Waits, WaitsAt, WaitsBehind}
 use Rattle.standby.specs.declared.stops.FollowStop.{FollowStop}
 use Rattle.standby.specs.declared.stops.FollowStop.TheVariants.{Store, Frame, Cut, Other, Gap, NotAllowed, ReadFault, TooLong, NoMemory}
 
@@ -110,28 +113,6 @@ stop_reaches (Err e) first c c' taken taken' number reader same is reached = tt
 
 -- ---- stops
 
-pub unless_failed : (stop : FollowStop) (P : Type 0) → P → UnlessFailed stop P
-unless_failed (Store stop) P p = tt
-unless_failed (Frame at) P p = p
-unless_failed (Cut number) P p = p
-unless_failed Other P p = p
-unless_failed (Gap number) P p = p
-unless_failed (NotAllowed number) P p = p
-unless_failed ReadFault P p = p
-unless_failed TooLong P p = p
-unless_failed NoMemory P p = tt
-
-pub unless_map : (stop : FollowStop) (P Q : Type 0) → (P → Q) → UnlessFailed stop P → UnlessFailed stop Q
-unless_map (Store stop) P Q leads p = tt
-unless_map (Frame at) P Q leads p = leads p
-unless_map (Cut number) P Q leads p = leads p
-unless_map Other P Q leads p = leads p
-unless_map (Gap number) P Q leads p = leads p
-unless_map (NotAllowed number) P Q leads p = leads p
-unless_map ReadFault P Q leads p = leads p
-unless_map TooLong P Q leads p = leads p
-unless_map NoMemory P Q leads p = tt
-
 -- why a transaction isn't taken, as why its payload isn't
 pub payload_stops : (place number : ℕ) (payload : List ℕ) (c : Core) (t : Transaction) (stop : FollowStop) → IsRecord number t payload → StopsTaking c number t stop → StopsPayload place number payload c stop
 payload_stops place number payload c t (Store stop) is stops = (t, is, stops)
@@ -169,6 +150,34 @@ takes_on (Ok n) last number payload reader reader' c mid c' taken count taken' i
   behind = λ left. subst (λ (k : ℕ). Reaches (stage mid count k reader left) (stage c' taken' n reader' left)) is (behind left);
 }
 takes_on (Err e) last number payload reader reader' c mid c' taken count taken' is first behind = tt
+
+-- the first frame is taken, and those behind it for whose state transactions wait
+pub takes_up_to : (last number : ℕ) (payload : List ℕ) (reader reader' : Reader) (c mid : Core) (taken count : ℕ) (old new : List (List ℕ)) (IsSo : Core → Type 0)
+    → number ≡ last + 1 → TakesPayload number payload c taken mid count → IsRightCore mid
+    → (w : WaitsAt number reader mid count old reader' new) → IsSo w.core → TakesUpTo last payload reader c taken IsSo
+takes_up_to last number payload reader reader' c mid taken count old new IsSo is first right w so = record {
+  core = w.core;
+  count = w.count;
+  number = w.number;
+  next = reader';
+  takes = record {
+    mid = mid;
+    count = count;
+    first = subst (λ (k : ℕ). TakesPayload k payload c taken mid count) is first;
+    behind = λ left. subst (λ (k : ℕ). Reaches (stage mid count k reader left) (stage w.core w.count w.number reader' left)) is (w.reached right left);
+  };
+  so = so;
+}
+
+-- where there was no memory to gather more, what waited is kept
+pub kept_so : {T : Type 0} (r : Result T FollowStop) (Same : Type 0) (IsOn : (Core → Type 0) → Type 0) (IsKept MayBe : Core → Type 0) → IfErr r (λ end. end ≡ NoMemory) → IsOn IsKept → IfErr r (λ stop. Same ⊎ IsOn (IsKeptBy stop IsKept MayBe))
+kept_so (Ok x) Same IsOn IsKept MayBe is on = tt
+kept_so (Err stop) Same IsOn IsKept MayBe is on = subst (λ (e : FollowStop). Same ⊎ IsOn (IsKeptBy e IsKept MayBe)) (sym is) (inr on)
+
+-- where the journal doesn't keep what waited, it may after a fault; else nothing was done
+pub unkept_so : (stop : Stop) (end : FollowStop) (Same : Type 0) (IsOn : (Core → Type 0) → Type 0) (IsKept MayBe : Core → Type 0) → IsUnkept stop end → (stop ≡ journal.NoMemory → Same) → IsOn MayBe → Same ⊎ IsOn (IsKeptBy end IsKept MayBe)
+unkept_so journal.StoreFault end Same IsOn IsKept MayBe is same on = subst (λ (e : FollowStop). Same ⊎ IsOn (IsKeptBy e IsKept MayBe)) (sym is) (inr on)
+unkept_so journal.NoMemory end Same IsOn IsKept MayBe is same on = inl (same refl)
 
 -- ---- a payload that was read
 

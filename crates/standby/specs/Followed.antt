@@ -1,5 +1,5 @@
 -- How a stream is followed into a store.
-use Rattle.std.specs.Prelude.{◌≡◌, ℕ, ◌≤◌, List, Option, Result}
+use Rattle.std.specs.Prelude.{◌≡◌, ◌⊎◌, ℕ, ◌≤◌, List, Option, Result}
 use Rattle.flow_disk.specs.Images.{Image}
 use Rattle.flow_core.specs.Summaries.{summary}
 use Rattle.flow_core.specs.declared.state.Core.{Core}
@@ -23,9 +23,14 @@ IsEndBy stop (Store found) = found ≡ stop
 IsEndBy stop NoMemory = Unit {0}
 IsEndBy stop ended = ⊥
 
+-- whatever a disk that tells its bytes may leave stands for one of two states
+abbrev pub StandsForEither : Type 0 → (Image → Type 0) → Core → Core → Type 0
+StandsForEither tells images c c' =
+    tells → (image : Image) → images image → StandsFor (summary c) image ⊎ StandsFor (summary c') image
+
 -- A store is opened, and a stream is followed from its state on. Where the disk tells its bytes, that is what they
--- stand for, and what its records give by the steps of the machine; and where the stream ends, whatever the disk may
--- leave then stands for the state at the last stage.
+-- stand for, and what its records give by the steps of the machine. Whatever the disk may leave at the end stands for
+-- the state at the last stage; after a fault of the store, for that one or for the state at one stage behind it.
 pub record FollowsOpened (tells : Type 0) (seen : Image) (images : Image → Type 0) (left left' : Option (List ℕ))
     (result : Result Followed FollowStop) : Type 0 where
   pub core : Core
@@ -33,5 +38,5 @@ pub record FollowsOpened (tells : Type 0) (seen : Image) (images : Image → Typ
   pub state : tells → Replays seen core
   pub queued : tells → 1 ≤ (summary core).queues
   pub follows : 1 ≤ (summary core).queues
-      → FollowsSource (λ now. tells → (image : Image) → images image → StandsFor (summary now) image) core left left'
-      result
+      → FollowsSource (λ now. tells → (image : Image) → images image → StandsFor (summary now) image)
+      (StandsForEither tells images) core left left' result

@@ -134,29 +134,29 @@ StopsAt s after ReadFault = ReadsPart IsCut s.place s.left after ⊎ ReadsAt s a
 StopsAt s after NoMemory = Unit {0}
 StopsAt s after stop = StopsFrameAt s after stop
 
--- this is so where following stops, unless the store failed or there was no memory
-abbrev pub UnlessFailed : FollowStop → Type 0 → Type 0
-UnlessFailed (Store stop) P = Unit {0}
-UnlessFailed NoMemory P = Unit {0}
-UnlessFailed stop P = P
+-- What is kept where following stops at a stage: the state there, also where there was no memory; after a fault of the
+-- store that state, or the one at a stage that is reached behind it.
+abbrev pub KeepsAt : (Core → Type 0) → (Core → Core → Type 0) → Stage → FollowStop → Type 0
+KeepsAt IsKept MayKeep s (Store stop) = Goes s (λ behind. MayKeep s.core behind.core)
+KeepsAt IsKept MayKeep s stop = IsKept s.core
 
--- following ends at a stage, and unless the store failed or there was no memory, the state there is kept
-abbrev pub StopsKept : (Core → Type 0) → Stage → Option (List ℕ) → FollowStop → Type 0
-StopsKept IsKept s after stop = StopsAt s after stop × UnlessFailed stop (IsKept s.core)
+-- following ends at a stage, and what is kept is as `KeepsAt` says
+abbrev pub StopsKept : (Core → Type 0) → (Core → Core → Type 0) → Stage → Option (List ℕ) → FollowStop → Type 0
+StopsKept IsKept MayKeep s after stop = StopsAt s after stop × KeepsAt IsKept MayKeep s stop
 
 -- the frames behind a stage are followed to a last stage, where the stream ends with this state and number of
 -- transactions taken, or following stops
-abbrev pub FollowsFrames : {T : Type 0} → (Core → Type 0) → Stage → Option (List ℕ) → Core → ℕ → Result T FollowStop
-    → Type 0
-FollowsFrames IsKept s after c taken (Ok x) =
+abbrev pub FollowsFrames : {T : Type 0} → (Core → Type 0) → (Core → Core → Type 0) → Stage → Option (List ℕ) → Core → ℕ
+    → Result T FollowStop → Type 0
+FollowsFrames IsKept MayKeep s after c taken (Ok x) =
     Goes s (λ last. IsEnded last after × (last.core ≡ c) × (last.taken ≡ taken))
-FollowsFrames IsKept s after c taken (Err stop) = Goes s (λ last. StopsKept IsKept last after stop)
+FollowsFrames IsKept MayKeep s after c taken (Err stop) = Goes s (λ last. StopsKept IsKept MayKeep last after stop)
 
 -- the same for what a source has left: of the bytes taken from it some may not be read yet, but none where it failed
-pub record FollowsHeld {T : Type 0} (IsKept : Core → Type 0) (s : Stage) (left : Option (List ℕ)) (c : Core)
-    (taken : ℕ) (result : Result T FollowStop) : Type 0 where
+pub record FollowsHeld {T : Type 0} (IsKept : Core → Type 0) (MayKeep : Core → Core → Type 0) (s : Stage)
+    (left : Option (List ℕ)) (c : Core) (taken : ℕ) (result : Result T FollowStop) : Type 0 where
   pub held : List ℕ
-  pub follows : FollowsFrames IsKept s (prepend_known held left) c taken result
+  pub follows : FollowsFrames IsKept MayKeep s (prepend_known held left) c taken result
   pub dry : IfErr result (λ stop. stop ≡ ReadFault → held ≡ [])
 
 -- ---- a stream
@@ -199,18 +199,19 @@ pub record IsDone (IsKept : Core → Type 0) (after : Option (List ℕ)) (follow
   pub kept : IsKept last.core
 
 -- A stream is followed from a state on. Where the stream ends, the state at its last stage is kept; else its front
--- isn't read or is refused, or following ends at a stage, and unless the store failed or there was no memory, the state
--- there is kept.
-abbrev pub Follows : (Core → Type 0) → Core → Option (List ℕ) → Option (List ℕ) → Result Followed FollowStop → Type 0
-Follows IsKept c left after (Ok followed) = PassesFront c left (IsDone IsKept after followed)
-Follows IsKept c left after (Err stop) =
-    ((StopsBefore left after stop ⊎ RefusesFront c left stop) × UnlessFailed stop (IsKept c))
-    ⊎ PassesFront c left (λ last. StopsKept IsKept last after stop)
+-- isn't read or is refused, and the state is kept, or following ends at a stage, and what is kept is as
+-- `KeepsAt` says.
+abbrev pub Follows : (Core → Type 0) → (Core → Core → Type 0) → Core → Option (List ℕ) → Option (List ℕ)
+    → Result Followed FollowStop → Type 0
+Follows IsKept MayKeep c left after (Ok followed) = PassesFront c left (IsDone IsKept after followed)
+Follows IsKept MayKeep c left after (Err stop) =
+    ((StopsBefore left after stop ⊎ RefusesFront c left stop) × IsKept c)
+    ⊎ PassesFront c left (λ last. StopsKept IsKept MayKeep last after stop)
 
 -- the same by what a source had left and has left: of the bytes taken from it some may not be read yet, but none where
 -- it failed
-pub record FollowsSource (IsKept : Core → Type 0) (c : Core) (left left' : Option (List ℕ))
-    (result : Result Followed FollowStop) : Type 0 where
+pub record FollowsSource (IsKept : Core → Type 0) (MayKeep : Core → Core → Type 0) (c : Core)
+    (left left' : Option (List ℕ)) (result : Result Followed FollowStop) : Type 0 where
   pub held : List ℕ
-  pub follows : Follows IsKept c left (prepend_known held left') result
+  pub follows : Follows IsKept MayKeep c left (prepend_known held left') result
   pub dry : result ≡ Err ReadFault → length held ≡ 0

@@ -14,18 +14,18 @@ ghost use Rattle.flow_core.specs.declared.state.Core.{Core as CoreOf};
 ghost use Rattle.core_laws.specs.RightStates.{IsRightCore};
 ghost use Rattle.flow_session.specs.Histories.{StandsFor, after};
 ghost use Rattle.flow_session.specs.Keeping.{IsOpen};
-ghost use Rattle.flow_session.specs.Runs.{KeepsOrServes};
+ghost use Rattle.flow_session.specs.Runs.{KeepsOrServes, KeepsStore};
 ghost use Rattle.flow_session.specs.Leading.{MakesSteps};
 ghost use Rattle.flow_session.specs.Serving.{Makes};
 ghost use Rattle.flow_session.specs.Stopping.{IsStopCause};
 ghost use Rattle.standby.specs.Endings.{FollowEnd};
 ghost use Rattle.flow_session.specs.Refusing.{IsUnopened};
-ghost use Rattle.standby.specs.Followed.{FollowsOpened, IsNotOpened};
+ghost use Rattle.standby.specs.Followed.{FollowsOpened, IsNotOpened, StandsForEither};
 ghost use Rattle.standby.specs.Fronts.{FrontJudged};
 ghost use Rattle.standby.specs.Readers.{ahead};
 ghost use Rattle.standby.specs.Stages.{FollowsHeld, FollowsSource, Reaches, StopsPayload, StopsTaking, Takes};
-ghost use Rattle.standby.specs.Stages.{TakesPayload, UnlessFailed, stage};
-ghost use Rattle.standby.specs.Waiting.{IsFailure, IsUnchanged, TakesOn, WaitsBehind};
+ghost use Rattle.standby.specs.Stages.{TakesPayload, stage};
+ghost use Rattle.standby.specs.Waiting.{IsKeptBy, IsUnchanged, IsUnkept, TakesOn, TakesUpTo, WaitsAt, WaitsBehind};
 ghost use Rattle.standby.specs.declared.stops.FollowStop.TheVariants as stop;
 
 use crate::blocks::Blocks;
@@ -79,7 +79,7 @@ fn follow_from<S: Source, D: Disk + Drop>(
         (FollowEnd (S.faults src.old) (S.faults src.new) (D.faults disk) (D.faults result.1)) }
     ensures follows { IsRightCore core → FollowsSource (λ core'. D.tells
         → (c : Image) → D.images result.1 c → StandsFor (summary core') c)
-        core (S.left src.old) (S.left src.new) result.0 }
+        (StandsForEither D.tells (D.images result.1)) core (S.left src.old) (S.left src.new) result.0 }
 {
     let mut standby = Standby {
         alloc,
@@ -102,7 +102,7 @@ fn unkept(stop: Stop) -> FollowStop
     ensures cause { (source disk disk' : ℕ) → IsStopCause disk disk' stop → FollowEnd source source disk disk' result }
     ensures stops { (core : CoreOf) (number : ℕ) (t : TransactionOf) → core.number < number
         → IsAdmitted core number t → StopsTaking core number t result }
-    ensures failed { IsFailure result }
+    ensures is { IsUnkept stop result }
 {
     match stop {
         Stop::StoreFault => FollowStop::Store(LogStop::StoreFault),
@@ -224,6 +224,7 @@ impl<D: Disk + Drop> Standby<D> {
         ensures reaches { IsRightCore self.old.core → IfOk result (λ number. (left : Option (List ℕ))
             → Reaches (stage self.old.core self.old.taken last blocks.old left)
             (stage self.new.core self.new.taken number blocks.new left)) }
+        ensures waiting { WaitsAt last blocks.old self.old.core self.old.taken batch.old blocks.new batch.new }
         ensures memory { IfErr result (λ end. end ≡ stop.NoMemory) }
     {
         let mut number = last;
@@ -263,7 +264,10 @@ impl<D: Disk + Drop> Standby<D> {
         requires further { place < blocks.old.place }
         ensures kept { OnOk result (D.tells
             → IsOpen D.seen D.images self.new.journal.log self.new.journal.disk (summary self.new.core)) }
-        ensures left { IfErr result (λ stop. UnlessFailed stop (self.new.journal ≡ self.old.journal)) }
+        ensures left { IsRightCore self.old.core → IfErr result (λ stop. (self.new.journal ≡ self.old.journal)
+            ⊎ TakesUpTo last payload.now blocks.old self.old.core self.old.taken (IsKeptBy stop
+            (λ core. D.tells → IsOpen D.seen D.images self.new.journal.log self.new.journal.disk (summary core))
+            (StandsForEither D.tells (D.images self.new.journal.disk) self.old.core))) }
         ensures makes { MakesSteps D.tells D.moment D.left_since self.old.journal.disk self.new.journal.disk
             self.old.core self.new.core result }
         ensures cause { MatchResult result (λ _. D.faults self.new.journal.disk ≡ D.faults self.old.journal.disk)
@@ -334,6 +338,7 @@ impl<D: Disk + Drop> Standby<D> {
             (D.faults self.old.journal.disk) (D.faults self.new.journal.disk)) }
         ensures follows { IsRightCore self.old.core → FollowsHeld (λ core. D.tells
             → IsOpen D.seen D.images self.new.journal.log self.new.journal.disk (summary core))
+            (StandsForEither D.tells (D.images self.new.journal.disk))
             (stage self.old.core self.old.taken from blocks.old (S.left src.old))
             (S.left src.new) self.new.core self.new.taken result }
     {
@@ -363,6 +368,7 @@ impl<D: Disk + Drop> Standby<D> {
             (D.faults self.old.journal.disk) (D.faults self.new.journal.disk)) }
         ensures follows { IsRightCore self.old.core → FollowsSource (λ core. D.tells
             → IsOpen D.seen D.images self.new.journal.log self.new.journal.disk (summary core))
+            (StandsForEither D.tells (D.images self.new.journal.disk))
             self.old.core (S.left src.old) (S.left src.new) result }
     {
         let mut blocks = Blocks::new(self.alloc)?;
@@ -396,7 +402,8 @@ pub fn follow<S: Source, D: Disk + Drop>(
         × (D.faults result.1 ≡ D.faults disk))
         (FollowEnd (S.faults src.old) (S.faults src.new) (D.faults disk) (D.faults result.1)) }
     ensures follows { (MatchResult result.0 (λ _. ⊥) (IsNotOpened (λ stop. D.tells → IsUnopened (D.seen disk) stop))
-        × Keeps (S.left src.old) (S.left src.new))
+        × Keeps (S.left src.old) (S.left src.new)
+        × (D.tells → Only (D.seen disk) (D.images disk) → KeepsStore D.moment D.left_since D.seen disk result.1))
         ⊎ FollowsOpened D.tells (D.seen disk) (D.images result.1) (S.left src.old) (S.left src.new) result.0 }
 {
     let mut disk = disk;

@@ -1,4 +1,4 @@
-use Rattle.std.proofs.Common.{◌≡◌, ◌∙◌, ◌++◌, ◌∷◌, [], List, ℕ, ap, subst, sym, refl, arith, length, rules}
+use Rattle.std.proofs.Common.{◌∙◌, ◌++◌, ◌∷◌, [], ap, subst, sym, rules}
 use Rattle.flow_core.specs.Summaries.{Summary, summary}
 use Rattle.flow_session.specs.Keeping.{Brings}
 use Rattle.flow_session.specs.Refusing.{NoRecord, LeadsTo}

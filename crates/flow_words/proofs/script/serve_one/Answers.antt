@@ -36,6 +36,7 @@ returns-then-is_empty-clause-served g c = (
     makes = record {
       transactions = c.in-Ok.ensures.makes.transactions;
       any_moment = c.in-Ok.ensures.makes.any_moment;
+      fit = c.in-Ok.ensures.makes.fit;
       ended = c.in-Ok.ensures.makes.ended.leads;
     };
     asked = c.in-Ok.ensures.makes.ended.asked;
@@ -61,6 +62,7 @@ returns-else-is_empty-clause-served g c =
       makes = record {
         transactions = c.in-Ok.ensures.makes.transactions;
         any_moment = c.in-Ok.ensures.makes.any_moment;
+        fit = c.in-Ok.ensures.makes.fit;
         ended = c.in-Ok.ensures.makes.ended.leads;
       };
       asked = c.in-Ok.ensures.makes.ended.asked;

@@ -2,6 +2,7 @@ use Rattle.std.proofs.Common.{inl, inr, subst}
 use Rattle.std.proofs.KnownBytes.{Keeps-refl}
 use Rattle.flow_core.specs.Summaries.{summary}
 use Rattle.flow_session.specs.Histories.{StandsFor}
+use Rattle.flow_session.proofs.Keeping.{counts_since, seen_left}
 use Rattle.flow_session.proofs.Runs.{opened, served}
 use Rattle.flow_session.specs.Refusing.{IsUnopened}
 use Rattle.standby.proofs.Unopened.{not_opened}
@@ -14,10 +15,14 @@ returns-in-Err-clause-kept g c told only = inl (opened g.D.Disk.tells g.D.Disk.m
 pub returns-in-Ok-clause-kept : goal.returns-in-Ok-clause-kept
 returns-in-Ok-clause-kept g c told only =
     let f = c.follow_from.ensures.makes in
-    inr (served g.D.Disk.tells g.D.Disk.moment g.D.Disk.left_since g.D.Disk.seen g.D.Disk.images c.args.disk c.open.new.disk c.follow_from.result.1 (summary c.in-Ok.core) _
+    inr (served g.D.Disk.tells g.D.Disk.moment g.D.Disk.left_since g.D.Disk.seen g.D.Disk.images
+    (counts_since g.D.Disk.moment g.D.Disk.left_since g.D.Disk.images g.met.D.Disk.counts_now g.met.D.Disk.only_now)
+    c.args.disk c.open.new.disk c.follow_from.result.1
+    (seen_left g.D.Disk.moment g.D.Disk.left_since g.D.Disk.images g.met.D.Disk.counts_now g.D.Disk.tells g.D.Disk.seen g.met.D.Disk.honest c.args.disk)
+    (summary c.in-Ok.core) _
     (opened g.D.Disk.tells g.D.Disk.moment g.D.Disk.left_since g.D.Disk.seen g.D.Disk.images c.args.disk c.open.new.disk only c.open.ensures.any_moment)
     c.in-Ok.ensures.seen (c.in-Ok.ensures.open told).holds
-    (record { transactions = f.transactions; any_moment = f.any_moment; ended = λ ok image left. f.ended ok told image left }))
+    (record { transactions = f.transactions; any_moment = f.any_moment; fit = f.fit; ended = λ ok image left. f.ended ok told image left }))
 
 pub returns-in-Err-clause-cause : goal.returns-in-Err-clause-cause
 returns-in-Err-clause-cause g c = c.from.ensures.1 (g.S.Source.faults c.args.src.now) (g.D.Disk.faults c.args.disk) (g.D.Disk.faults c.open.new.disk) c.in-Err.ensures.cause
@@ -26,7 +31,11 @@ pub returns-in-Ok-clause-cause : goal.returns-in-Ok-clause-cause
 returns-in-Ok-clause-cause g c = rw c.in-Ok.ensures.cause at c.follow_from.ensures.cause
 
 pub returns-in-Err-clause-follows : goal.returns-in-Err-clause-follows
-returns-in-Err-clause-follows g c = inl (not_opened (λ stop. g.D.Disk.tells → IsUnopened (g.D.Disk.seen c.args.disk) stop) c.in-Err.stop c.from.result c.from.ensures.0 c.in-Err.ensures.refused, Keeps-refl (g.S.Source.left c.args.src.now))
+returns-in-Err-clause-follows g c = inl (
+  not_opened (λ stop. g.D.Disk.tells → IsUnopened (g.D.Disk.seen c.args.disk) stop) c.in-Err.stop c.from.result c.from.ensures.0 c.in-Err.ensures.refused,
+  Keeps-refl (g.S.Source.left c.args.src.now),
+  λ told only. opened g.D.Disk.tells g.D.Disk.moment g.D.Disk.left_since g.D.Disk.seen g.D.Disk.images c.args.disk c.open.new.disk only c.open.ensures.any_moment,
+)
 
 pub returns-in-Ok-clause-follows : goal.returns-in-Ok-clause-follows
 returns-in-Ok-clause-follows g c = inr (record {

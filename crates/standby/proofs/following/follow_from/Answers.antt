@@ -3,6 +3,7 @@ use Rattle.flow_disk.specs.Images.{Image}
 use Rattle.flow_session.specs.Histories.{StandsFor}
 use Rattle.flow_session.specs.Keeping.{IsOpen, rests}
 use Rattle.flow_session.proofs.Runs.{served_to_end}
+use Rattle.standby.specs.Followed.{StandsForEither}
 use Rattle.standby.proofs.Going.{follows_as}
 use Rattle.standby.proofs.following.follow_from.Goals as goal
 
@@ -18,6 +19,6 @@ pub returns-clause-follows : goal.returns-clause-follows
 returns-clause-follows g c right =
     let f = c.take_stream-followed in
     let d = g.D.Disk in
-    rw c.into_disk.ensures (follows_as (λ core. d.tells → IsOpen d.seen d.images f.new.self.journal.log f.new.self.journal.disk (summary core)) (λ core. d.tells → (image : Image) → d.images f.new.self.journal.disk image → StandsFor (summary core) image) c.args.core (g.S.Source.left c.args.src.now) (g.S.Source.left f.new.src) f.result
+    rw c.into_disk.ensures (follows_as (λ core. d.tells → IsOpen d.seen d.images f.new.self.journal.log f.new.self.journal.disk (summary core)) (λ core. d.tells → (image : Image) → d.images f.new.self.journal.disk image → StandsFor (summary core) image) (StandsForEither d.tells (d.images f.new.self.journal.disk)) c.args.core (g.S.Source.left c.args.src.now) (g.S.Source.left f.new.src) f.result
     (λ core is told image left. rests d.seen d.images f.new.self.journal.log f.new.self.journal.disk (summary core) image (is told) left)
     (f.ensures.follows right))

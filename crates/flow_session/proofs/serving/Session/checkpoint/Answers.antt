@@ -14,7 +14,7 @@ returns-in_err-checkpoint-clause-makes g c =
     rw (p.1, p.2) (asked_moved g.J.Journal.tells g.J.Journal.holds g.J.Journal.moment g.J.Journal.left_since
     g.met.J.Journal.at_rest g.met.J.Journal.counts_now _ c.in_err-checkpoint.field-0.0 c.args.journal.now
     c.checkpoint.new.self c.args.self.now.core (λ ts. ts ≡ []) (λ none told. (c.in_err-checkpoint.ensures.stays none told).1)
-    c.checkpoint.ensures.any_moment refl)
+    c.checkpoint.ensures.any_moment c.checkpoint.ensures.fit refl)
 
 pub returns-clause-makes : goal.returns-clause-makes
 returns-clause-makes g c =
@@ -23,7 +23,7 @@ returns-clause-makes g c =
     c.numbered.ensures.silent
     (makes_none g.J.Journal.tells g.J.Journal.moment g.J.Journal.left_since
     c.args.journal.now c.checkpoint.new.self (summary c.args.self.now.core) _ c.checkpoint.ensures.any_moment
-    (refl, leads_none c.args.self.now.core))
+    c.checkpoint.ensures.fit (refl, leads_none c.args.self.now.core))
     c.in_ok-checkpoint.ensures.kept (λ ts none. none)
 
 pub returns-clause-cause : goal.returns-clause-cause

@@ -28,7 +28,8 @@ pub loop-self-preserved : goal.loop-self-preserved
 loop-self-preserved g c = record {
   open' = c.in_ok-turn.ensures.kept;
   makes = rw c.behind-queue.ensures (turns_on g.J.Journal.tells g.J.Journal.holds g.J.Journal.moment g.J.Journal.left_since
-      _ c.args.journal.now c.loop-self.journal c.turn.new.journal c.args.self.now.core c.loop-self.self.core
+      _ g.met.J.Journal.counts_now c.args.journal.now c.loop-self.journal c.turn.new.journal c.args.self.now.core
+      c.loop-self.self.core
       c.turn.new.self.core c.loop-self.queue c.in-Some.next _ c.loop-self.invariant.makes c.in_ok-turn.ensures.makes
       c.in-Some.ensures.some);
   taken = rw c.behind-queue.ensures (taken_more c.args.self.now.core c.loop-self.self.core c.turn.new.self.core c.loop-self.turns c.saturating_add-turns.result c.loop-self.queue c.in-Some.next c.loop-self.invariant.taken c.in-Some.ensures.some c.in_ok-turn.ensures.makes.ended.asked.1.0 (search rules));
@@ -43,8 +44,8 @@ pub returns-in_err-turn-clause-makes : goal.returns-in_err-turn-clause-makes
 returns-in_err-turn-clause-makes g c =
     let p = err_from_is_err_and c.from_residual.result c.from_residual.ensures.1 in
     rw (p.1, p.2) (asked_stopped g.J.Journal.tells g.J.Journal.holds g.J.Journal.moment g.J.Journal.left_since
-    _ _ c.in_err-turn.field-0.0 c.args.journal.now c.loop-self.journal c.turn.new.journal c.args.self.now.core
-    c.loop-self.self.core c.turn.new.self.core _ _ _ c.loop-self.invariant.makes c.in_err-turn.ensures.makes
+    _ _ c.in_err-turn.field-0.0 g.met.J.Journal.counts_now c.args.journal.now c.loop-self.journal c.turn.new.journal
+    c.args.self.now.core c.loop-self.self.core c.turn.new.self.core _ _ _ c.loop-self.invariant.makes c.in_err-turn.ensures.makes
     (λ ts us taken asked. turns_stopped c.args.self.now.core c.loop-self.self.core ts us c.loop-self.queue c.in-Some.next
     taken c.in-Some.ensures.some asked.0))
 

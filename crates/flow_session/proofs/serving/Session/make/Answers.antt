@@ -3,6 +3,8 @@ use Rattle.flow_txn.specs.Ranges.{IsInRange}
 use Rattle.flow_txn.specs.Records.{record_bytes}
 use Rattle.flow_core.proofs.Moved.{front_of}
 use Rattle.flow_core.specs.Summaries.{Summary, summary}
+use Rattle.flow_session.specs.Fitting.{HasFitRecords}
+use Rattle.flow_session.proofs.Keeping.{nothing_done}
 use Rattle.flow_session.proofs.Rights.{whatever}
 use Rattle.flow_session.proofs.Stopping.{silent_stop}
 use Rattle.std.proofs.lemmas.Result.{err_from_is_err_and}
@@ -21,6 +23,24 @@ returns-clause-any_moment g c told =
     let spelled = c.deref.ensures.value ∙ c.in_ok-payload.ensures.spelled told ∙ ap (λ n. record_bytes n c.args.t) c.next_number.ensures in
     let fit = subst (λ (n : ℕ). IsInRange n c.args.t) c.next_number.ensures (c.in_ok-payload.ensures.range told) in
     c.keep.ensures.any_moment (summary c.args.self.now.core) c.args.t told (c.requires.open told) spelled fit
+
+pub returns-in_err-payload-clause-fit : goal.returns-in_err-payload-clause-fit
+returns-in_err-payload-clause-fit g c told now fit =
+    nothing_done g.J.Journal.moment g.J.Journal.left_since c.args.journal.now HasFitRecords (λ image left. now image left)
+
+pub returns-in_err-applied-clause-fit : goal.returns-in_err-applied-clause-fit
+returns-in_err-applied-clause-fit g c told now fit =
+    nothing_done g.J.Journal.moment g.J.Journal.left_since c.args.journal.now HasFitRecords (λ image left. now image left)
+
+pub returns-in_err-write_applied-clause-fit : goal.returns-in_err-write_applied-clause-fit
+returns-in_err-write_applied-clause-fit g c told now fit =
+    nothing_done g.J.Journal.moment g.J.Journal.left_since c.args.journal.now HasFitRecords (λ image left. now image left)
+
+pub returns-clause-fit : goal.returns-clause-fit
+returns-clause-fit g c told now fit =
+    let spelled = c.deref.ensures.value ∙ c.in_ok-payload.ensures.spelled told ∙ ap (λ n. record_bytes n c.args.t) c.next_number.ensures in
+    let fits = subst (λ (n : ℕ). IsInRange n c.args.t) c.next_number.ensures (c.in_ok-payload.ensures.range told) in
+    c.keep.ensures.fit (summary c.args.self.now.core) c.args.t told (c.requires.open told) spelled fits now fit
 
 pub returns-clause-applied : goal.returns-clause-applied
 returns-clause-applied g c =

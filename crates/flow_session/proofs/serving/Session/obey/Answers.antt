@@ -13,13 +13,13 @@ returns-in_err-make-in-Ok-Do-clause-makes g c =
     rw (p.1, p.2) (one_stopped g.J.Journal.tells g.J.Journal.holds g.J.Journal.moment g.J.Journal.left_since
     g.met.J.Journal.at_rest g.met.J.Journal.counts_now _ c.in_err-make-in-Ok-Do.field-0.0 c.args.journal.now
     c.make.new.journal c.args.self.now.core c.make.new.self.core c.in-Ok-Do.t _ c.requires
-    c.in_err-make-in-Ok-Do.ensures.undone c.make.ensures.any_moment NoneAsked (JudgedSo (search rules)))
+    c.in_err-make-in-Ok-Do.ensures.undone c.make.ensures.any_moment c.make.ensures.fit NoneAsked (JudgedSo (search rules)))
 
 pub returns-in_ok-make-in-Ok-Do-clause-makes : goal.returns-in_ok-make-in-Ok-Do-clause-makes
 returns-in_ok-make-in-Ok-Do-clause-makes g c =
     asked_one g.J.Journal.tells g.J.Journal.holds g.J.Journal.moment g.J.Journal.left_since
     g.met.J.Journal.at_rest g.met.J.Journal.counts_now _ c.args.journal.now c.make.new.journal c.args.self.now.core c.make.new.self.core
-    c.in-Ok-Do.t _ c.requires (search rules) c.make.ensures.any_moment (search rules) (leads_by c.args.self.now.core c.make.new.self.core c.args.command.now _ c.in-Ok-Do.t c.in-Ok-Do.ensures
+    c.in-Ok-Do.t _ c.requires (search rules) c.make.ensures.any_moment c.make.ensures.fit (search rules) (leads_by c.args.self.now.core c.make.new.self.core c.args.command.now _ c.in-Ok-Do.t c.in-Ok-Do.ensures
     c.in-Ok-Do.field-0-is c.in_ok-make-in-Ok-Do.ensures.applied c.in_ok-make-in-Ok-Do.ensures.counts) (search rules) (JudgedSo (search rules))
 
 pub returns-in-Ok-Same-clause-makes : goal.returns-in-Ok-Same-clause-makes

@@ -17,7 +17,7 @@ returns-in-Ok-Do-clause-makes g c =
     c.in-Ok-Do.ensures c.in-Ok-Do.field-0-is was) was) in
     asked_one g.J.Journal.tells g.J.Journal.holds g.J.Journal.moment g.J.Journal.left_since
     g.met.J.Journal.at_rest g.met.J.Journal.counts_now c.make.result c.args.journal.now c.make.new.journal c.args.self.now.core c.make.new.self.core
-    c.in-Ok-Do.t _ c.requires.open c.make.ensures.undone c.make.ensures.any_moment c.make.ensures.kept
+    c.in-Ok-Do.t _ c.requires.open c.make.ensures.undone c.make.ensures.any_moment c.make.ensures.fit c.make.ensures.kept
     (leads_ok c.make.result c.args.self.now.core c.make.new.self.core (TurnCommand c.args.queue) _ c.in-Ok-Do.t
     c.in-Ok-Do.ensures c.in-Ok-Do.field-0-is c.make.ensures.applied c.make.ensures.counts)
     (no_turn c.make.result c.args.self.now.core c.make.new.self.core c.args.queue)

@@ -1,11 +1,13 @@
 use Rattle.std.proofs.Common.{◌≡◌, [], inl, sym, subst, ◌∙◌, rules}
 use Rattle.flow_disk.proofs.Runs.{weaker}
 use Rattle.txn_log.specs.Standing.{HasRecords, MayHaveRecords}
+use Rattle.flow_session.specs.Fitting.{HasFitRecords}
 use Rattle.flow_session.specs.Histories.{after}
 use Rattle.flow_session.specs.Keeping.{IsOpen, rests}
 use Rattle.flow_session.specs.Serving.{AllOrNone}
+use Rattle.flow_session.proofs.Fitting.{fit_all_or_none}
 use Rattle.flow_session.proofs.Histories.{all_more, all_or_none, none_behind}
-use Rattle.flow_session.proofs.Keeping.{nothing_done}
+use Rattle.flow_session.proofs.Keeping.{nothing_done, seen_left}
 use Rattle.flow_session.proofs.store.Stored.keep_all.Goals as goal
 
 pub returns-then-is_empty-clause-kept : goal.returns-then-is_empty-clause-kept
@@ -41,3 +43,23 @@ returns-clause-kept g c s ts told is spelled fits =
       only = c.in_ok-append_all.ensures.durable;
       holds = all_more s ts (d.seen c.args.self.now.disk) (d.seen c.append_all.new.disk) is.holds fits (subst (λ ps. HasRecords ps (d.seen c.args.self.now.disk) (d.seen c.append_all.new.disk)) spelled (c.in_ok-append_all.ensures.added told));
     }
+
+pub returns-then-is_empty-clause-fit : goal.returns-then-is_empty-clause-fit
+returns-then-is_empty-clause-fit g c s ts told is spelled fits now fit =
+    nothing_done g.D.Disk.moment g.D.Disk.left_since c.args.self.now.disk HasFitRecords (λ image left. now image left)
+
+pub returns-in_err-append_all-clause-fit : goal.returns-in_err-append_all-clause-fit
+returns-in_err-append_all-clause-fit g c s ts told is spelled fits now fit =
+    let d = g.D.Disk in
+    let seen_fit = now (d.seen c.args.self.now.disk)
+    (seen_left d.moment d.left_since d.images g.met.D.Disk.counts_now d.tells d.seen g.met.D.Disk.honest c.args.self.now.disk told) in
+    weaker d.moment d.left_since d.images c.args.self.now.disk c.append_all.new.disk (MayHaveRecords c.args.batch.now (d.seen c.args.self.now.disk)) HasFitRecords (c.append_all.ensures.any_moment told is.only)
+    (λ image may. fit_all_or_none s ts (d.seen c.args.self.now.disk) image seen_fit is.holds fits fit (subst (λ ps. MayHaveRecords ps (d.seen c.args.self.now.disk) image) spelled may))
+
+pub returns-clause-fit : goal.returns-clause-fit
+returns-clause-fit g c s ts told is spelled fits now fit =
+    let d = g.D.Disk in
+    let seen_fit = now (d.seen c.args.self.now.disk)
+    (seen_left d.moment d.left_since d.images g.met.D.Disk.counts_now d.tells d.seen g.met.D.Disk.honest c.args.self.now.disk told) in
+    weaker d.moment d.left_since d.images c.args.self.now.disk c.append_all.new.disk (MayHaveRecords c.args.batch.now (d.seen c.args.self.now.disk)) HasFitRecords (c.append_all.ensures.any_moment told is.only)
+    (λ image may. fit_all_or_none s ts (d.seen c.args.self.now.disk) image seen_fit is.holds fits fit (subst (λ ps. MayHaveRecords ps (d.seen c.args.self.now.disk) image) spelled may))

@@ -7,9 +7,11 @@ use Rattle.checkpoint.specs.Compacting.{IsCompacted, MayBeCompacted}
 use Rattle.flow_core.specs.Summaries.{summary}
 use Rattle.live_history.specs.Rows.{present}
 use Rattle.live_history.specs.declared.history.History.{History}
+use Rattle.flow_session.specs.Fitting.{HasFitRecords}
 use Rattle.flow_session.specs.Histories.{StandsFor, payloads}
+use Rattle.flow_session.proofs.Fitting.{fit_compacted}
 use Rattle.flow_session.proofs.Histories.{compacted, may_be_compacted}
-use Rattle.flow_session.proofs.Keeping.{in_journal, stays_open}
+use Rattle.flow_session.proofs.Keeping.{in_journal, nothing_done, seen_left, stays_open}
 use Rattle.flow_session.proofs.store.StoredJournal.checkpoint.Goals as goal
 
 pub returns-in_err-move_log-clause-any_moment : goal.returns-in_err-move_log-clause-any_moment
@@ -71,3 +73,45 @@ returns-in_err-move_log-clause-stays g c =
       ap (λ (l : Log). (l.slot, l.generation)) stays.logged,
       stays_open d.seen d.images (summary c.args.core.now) c.args.self.now.log c.move_log.new.log c.args.self.now.disk c.move_log.new.disk (c.requires.open told) stays,
     ))
+
+pub returns-in_err-move_log-clause-fit : goal.returns-in_err-move_log-clause-fit
+returns-in_err-move_log-clause-fit g c told now fit =
+    let d = g.D.Disk in
+    let is = c.requires.open told in
+    let live = ap payloads (c.rows-rows.ensures ∙ ap (λ (h : History). h.items) c.live.ensures) in
+    let seen_fit = now (d.seen c.args.self.now.disk)
+    (seen_left d.moment d.left_since d.images g.met.D.Disk.counts_now d.tells d.seen g.met.D.Disk.honest c.args.self.now.disk told) in
+    in_journal (λ j. j.disk) d.moment d.left_since _ _ HasFitRecords
+    (weaker d.moment d.left_since d.images c.args.self.now.disk c.move_log.new.disk (MayBeCompacted (opposite c.args.self.now.log.slot) c.in-Some.header (payloads (present c.rows-rows.result.now)) (d.seen c.args.self.now.disk)) HasFitRecords (c.move_log.ensures.any_moment told is.only)
+    (λ image may. fit_compacted (summary c.args.core.now) (opposite c.args.self.now.log.slot) c.in-Some.header (d.seen c.args.self.now.disk) image seen_fit is.holds c.in-Some.ensures.2 c.in-Some.ensures.0 fit
+    (subst (λ ps. MayBeCompacted (opposite c.args.self.now.log.slot) c.in-Some.header ps (d.seen c.args.self.now.disk) image) live may)))
+
+pub returns-clause-fit : goal.returns-clause-fit
+returns-clause-fit g c told now fit =
+    let d = g.D.Disk in
+    let is = c.requires.open told in
+    let live = ap payloads (c.rows-rows.ensures ∙ ap (λ (h : History). h.items) c.live.ensures) in
+    let seen_fit = now (d.seen c.args.self.now.disk)
+    (seen_left d.moment d.left_since d.images g.met.D.Disk.counts_now d.tells d.seen g.met.D.Disk.honest c.args.self.now.disk told) in
+    in_journal (λ j. j.disk) d.moment d.left_since _ _ HasFitRecords
+    (weaker d.moment d.left_since d.images c.args.self.now.disk c.move_log.new.disk (MayBeCompacted (opposite c.args.self.now.log.slot) c.in-Some.header (payloads (present c.rows-rows.result.now)) (d.seen c.args.self.now.disk)) HasFitRecords (c.move_log.ensures.any_moment told is.only)
+    (λ image may. fit_compacted (summary c.args.core.now) (opposite c.args.self.now.log.slot) c.in-Some.header (d.seen c.args.self.now.disk) image seen_fit is.holds c.in-Some.ensures.2 c.in-Some.ensures.0 fit
+    (subst (λ ps. MayBeCompacted (opposite c.args.self.now.log.slot) c.in-Some.header ps (d.seen c.args.self.now.disk) image) live may)))
+
+pub returns-in_default-clause-fit : goal.returns-in_default-clause-fit
+returns-in_default-clause-fit g c told now fit =
+    let d = g.D.Disk in
+    in_journal (λ j. j.disk) d.moment d.left_since _ _ HasFitRecords
+    (nothing_done d.moment d.left_since c.args.self.now.disk HasFitRecords (λ image left. now image left))
+
+pub returns-in_err-count-clause-fit : goal.returns-in_err-count-clause-fit
+returns-in_err-count-clause-fit g c told now fit =
+    let d = g.D.Disk in
+    in_journal (λ j. j.disk) d.moment d.left_since _ _ HasFitRecords
+    (nothing_done d.moment d.left_since c.args.self.now.disk HasFitRecords (λ image left. now image left))
+
+pub returns-in_default-2-clause-fit : goal.returns-in_default-2-clause-fit
+returns-in_default-2-clause-fit g c told now fit =
+    let d = g.D.Disk in
+    in_journal (λ j. j.disk) d.moment d.left_since _ _ HasFitRecords
+    (nothing_done d.moment d.left_since c.args.self.now.disk HasFitRecords (λ image left. now image left))

@@ -1,9 +1,11 @@
 use Rattle.std.proofs.Common.{subst}
 use Rattle.flow_disk.proofs.Runs.{weaker}
 use Rattle.txn_log.specs.Standing.{HasRecord, MayHaveRecord}
+use Rattle.flow_session.specs.Fitting.{HasFitRecords}
 use Rattle.flow_session.specs.Serving.{WithOrWithout}
+use Rattle.flow_session.proofs.Fitting.{fit_with_or_without}
 use Rattle.flow_session.proofs.Histories.{one_more, with_or_without}
-use Rattle.flow_session.proofs.Keeping.{in_journal, same_place}
+use Rattle.flow_session.proofs.Keeping.{in_journal, same_place, seen_left}
 use Rattle.flow_session.proofs.store.StoredJournal.keep.Goals as goal
 
 pub returns-in_err-append-clause-any_moment : goal.returns-in_err-append-clause-any_moment
@@ -35,3 +37,21 @@ returns-in_err-append-clause-place g c = same_place c.append.new.log c.args.self
 
 pub returns-clause-place : goal.returns-clause-place
 returns-clause-place g c = same_place c.append.new.log c.args.self.now.log c.append.ensures.same.0 c.append.ensures.same.1
+
+pub returns-in_err-append-clause-fit : goal.returns-in_err-append-clause-fit
+returns-in_err-append-clause-fit g c s t told is spelled fits now fit =
+    let d = g.D.Disk in
+    let seen_fit = now (d.seen c.args.self.now.disk)
+    (seen_left d.moment d.left_since d.images g.met.D.Disk.counts_now d.tells d.seen g.met.D.Disk.honest c.args.self.now.disk told) in
+    in_journal (λ j. j.disk) d.moment d.left_since _ _ HasFitRecords
+    (weaker d.moment d.left_since d.images c.args.self.now.disk c.append.new.disk (MayHaveRecord c.args.payload.now (d.seen c.args.self.now.disk)) HasFitRecords (c.append.ensures.any_moment told is.only)
+    (λ image may. fit_with_or_without s t (d.seen c.args.self.now.disk) image seen_fit is.holds fits fit (subst (λ p. MayHaveRecord p (d.seen c.args.self.now.disk) image) spelled may)))
+
+pub returns-clause-fit : goal.returns-clause-fit
+returns-clause-fit g c s t told is spelled fits now fit =
+    let d = g.D.Disk in
+    let seen_fit = now (d.seen c.args.self.now.disk)
+    (seen_left d.moment d.left_since d.images g.met.D.Disk.counts_now d.tells d.seen g.met.D.Disk.honest c.args.self.now.disk told) in
+    in_journal (λ j. j.disk) d.moment d.left_since _ _ HasFitRecords
+    (weaker d.moment d.left_since d.images c.args.self.now.disk c.append.new.disk (MayHaveRecord c.args.payload.now (d.seen c.args.self.now.disk)) HasFitRecords (c.append.ensures.any_moment told is.only)
+    (λ image may. fit_with_or_without s t (d.seen c.args.self.now.disk) image seen_fit is.holds fits fit (subst (λ p. MayHaveRecord p (d.seen c.args.self.now.disk) image) spelled may)))

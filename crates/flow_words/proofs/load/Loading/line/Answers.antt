@@ -11,6 +11,7 @@ returns-in_ok-self-in-Ok c =
       makes = record {
         transactions = c.in-Ok.ensures.makes.transactions;
         any_moment = c.in-Ok.ensures.makes.any_moment;
+        fit = c.in-Ok.ensures.makes.fit;
         ended = c.in-Ok.ensures.makes.ended.leads;
       };
       asked = c.in-Ok.ensures.makes.ended.asked;

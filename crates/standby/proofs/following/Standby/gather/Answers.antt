@@ -1,6 +1,7 @@
-use Rattle.std.proofs.Common.{◌∙◌, ◌+◌, ap, length, refl, arith, rules}
+use Rattle.std.proofs.Common.{◌∙◌, ◌+◌, ap, length, refl, sym, subst, List, ℕ, arith, rules}
 use Rattle.standby.specs.Readers.{Reader}
 use Rattle.standby.specs.Stages.{Here, Further, stage}
+use Rattle.standby.specs.Waiting.{Waits}
 use Rattle.standby.proofs.Framed.{passes_held}
 use Rattle.standby.proofs.Waiting.{waits_none, waits_more, stop_unchanged, stop_waits, stop_reaches}
 use Rattle.standby.proofs.following.Standby.gather.Goals as goal
@@ -50,3 +51,28 @@ returns-in-Err-clause-reaches g c right =
     let same = stop_unchanged c.gathered.result c.in-Err.stop c.held.self.core new.core c.held.self.taken new.taken c.gathered.ensures.unchanged c.in-Err.ensures.unchanged in
     stop_reaches c.gathered.result (λ left. stage c.args.self.now.core c.args.self.now.taken c.args.last c.args.blocks.now left)
     c.held.self.core new.core c.held.self.taken new.taken c.held.number c.held.blocks same c.gathered.ensures.last (i.reached right)
+
+-- ---- what waits
+
+pub returns-in_default-clause-waiting : goal.returns-in_default-clause-waiting
+returns-in_default-clause-waiting g c = record { core = c.held.self.core; count = c.held.self.taken; number = c.held.number; waits = c.held.invariant.waits; reached = c.held.invariant.reached }
+
+pub returns-in_default-checked_add-clause-waiting : goal.returns-in_default-checked_add-clause-waiting
+returns-in_default-checked_add-clause-waiting g c = record { core = c.held.self.core; count = c.held.self.taken; number = c.held.number; waits = c.held.invariant.waits; reached = c.held.invariant.reached }
+
+pub returns-else-size-lt-BATCH_BYTES-clause-waiting : goal.returns-else-size-lt-BATCH_BYTES-clause-waiting
+returns-else-size-lt-BATCH_BYTES-clause-waiting g c = record { core = c.held.self.core; count = c.held.self.taken; number = c.held.number; waits = c.held.invariant.waits; reached = c.held.invariant.reached }
+
+pub returns-after-held-clause-waiting : goal.returns-after-held-clause-waiting
+returns-after-held-clause-waiting g c = record { core = c.held.self.core; count = c.held.self.taken; number = c.held.number; waits = c.held.invariant.waits; reached = c.held.invariant.reached }
+
+pub returns-in-Err-clause-waiting : goal.returns-in-Err-clause-waiting
+returns-in-Err-clause-waiting g c =
+    let i = c.held.invariant in
+    record {
+      core = c.held.self.core;
+      count = c.held.self.taken;
+      number = c.held.number;
+      waits = subst (λ (batch : List (List ℕ)). Waits c.args.self.now.core c.args.batch.now c.held.self.core batch) (sym c.in-Err.ensures.batch) i.waits;
+      reached = i.reached;
+    }

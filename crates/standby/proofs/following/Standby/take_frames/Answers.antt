@@ -1,16 +1,18 @@
 use Rattle.std.proofs.Common.{◌≡◌, ◌∙◌, ◌+◌, [], length, refl, rules}
 use Rattle.flow_core.specs.Summaries.{summary}
 use Rattle.flow_session.proofs.Calls.{makes_more, makes_so}
+use Rattle.flow_session.proofs.Keeping.{counts_since}
 use Rattle.flow_session.proofs.Leading.{leads_none, leads_on, leads_so}
+use Rattle.flow_session.specs.Keeping.{IsOpen}
 use Rattle.standby.specs.Endings.{FollowEnd}
+use Rattle.standby.specs.Followed.{StandsForEither}
 use Rattle.standby.specs.Readers.{ahead}
 use Rattle.standby.specs.Stages.{Stage, Here, stage}
 use Rattle.standby.specs.Streams.{frame_bytes}
-use Rattle.standby.proofs.Taken.{untouched}
+use Rattle.standby.proofs.Taken.{stands_open, untouched}
 use Rattle.standby.proofs.Ended.{end_since, stops}
-use Rattle.flow_session.specs.Keeping.{IsOpen}
-use Rattle.standby.proofs.Going.{unread_frame, untaken_at, one_further, stops_frames, never_dry, read_end_held}
-use Rattle.standby.proofs.Waiting.{reaches_on, unless_failed, unless_map}
+use Rattle.standby.proofs.Going.{unread_frame, untaken_at, one_further, stops_next, stops_frames, never_dry, read_end_held}
+use Rattle.standby.proofs.Waiting.{reaches_on}
 use Rattle.standby.proofs.following.Standby.take_frames.Goals as goal
 
 pub frames-init : goal.frames-init
@@ -26,7 +28,9 @@ frames-init g c = record {
 
 pub returns-in_err-number-clause-makes : goal.returns-in_err-number-clause-makes
 returns-in_err-number-clause-makes g c =
-    makes_more g.D.Disk.tells g.D.Disk.moment g.D.Disk.left_since c.args.self.now.journal.disk
+    makes_more g.D.Disk.tells g.D.Disk.moment g.D.Disk.left_since
+    (counts_since g.D.Disk.moment g.D.Disk.left_since g.D.Disk.images g.met.D.Disk.counts_now g.met.D.Disk.only_now)
+    c.args.self.now.journal.disk
     c.frames.self.journal.disk c.take_next.new.self.journal.disk (summary c.args.self.now.core)
     (summary c.frames.self.core) _ _ _ c.frames.invariant.makes (λ ts leads. leads.came) c.take_next.ensures.makes
     (λ ts us a b. search rules)
@@ -55,7 +59,9 @@ frames-preserved g c =
     record {
       open' = e.kept;
       makes =
-          leads_on g.D.Disk.tells g.D.Disk.moment g.D.Disk.left_since c.args.self.now.journal.disk
+          leads_on g.D.Disk.tells g.D.Disk.moment g.D.Disk.left_since
+          (counts_since g.D.Disk.moment g.D.Disk.left_since g.D.Disk.images g.met.D.Disk.counts_now g.met.D.Disk.only_now)
+          c.args.self.now.journal.disk
           c.frames.self.journal.disk c.take_next.new.self.journal.disk c.args.self.now.core c.frames.self.core
           c.take_next.new.self.core i.makes e.makes;
       source = c.in_ok-read_frame.ensures.cause ∙ i.source;
@@ -85,8 +91,16 @@ returns-in_err-read_frame-clause-follows g c right =
     let s : Stage = stage c.frames.self.core c.frames.self.taken c.frames.number c.frames.blocks (g.S.Source.left c.frames.src) in
     let after = ahead c.read_frame.new.blocks (g.S.Source.left c.read_frame.new.src) in
     let stop = c.in_err-read_frame.field-0.0 in
-    stops_frames _ first (g.S.Source.left c.read_frame.new.src) c.read_frame.new.blocks.held c.frames.self.core c.frames.self.taken c.from_residual.result stop c.from_residual.ensures.1 c.in_err-read_frame.ensures.dry
-    (record { last = s; reached = c.frames.invariant.reached right; ended = (unread_frame s after stop (rw c.number.ensures at c.in_err-read_frame.ensures.reads), unless_failed stop _ c.frames.invariant.open') })
+    let d = g.D.Disk in
+    let now = c.frames.self.journal in
+    stops_frames (λ core. d.tells → IsOpen d.seen d.images now.log now.disk (summary core)) (StandsForEither d.tells (d.images now.disk)) first (g.S.Source.left c.read_frame.new.src) c.read_frame.new.blocks.held c.frames.self.core c.frames.self.taken c.from_residual.result stop c.from_residual.ensures.1 c.in_err-read_frame.ensures.dry
+    (record {
+      last = s;
+      reached = c.frames.invariant.reached right;
+      ended =
+          unread_frame (λ core. d.tells → IsOpen d.seen d.images now.log now.disk (summary core)) (StandsForEither d.tells (d.images now.disk)) s after stop
+          (rw c.number.ensures at c.in_err-read_frame.ensures.reads) c.frames.invariant.open';
+    })
 
 pub returns-in_err-number-clause-cause : goal.returns-in_err-number-clause-cause
 returns-in_err-number-clause-cause g c =
@@ -107,10 +121,16 @@ returns-in_err-number-clause-follows g c right =
     let after = ahead c.read_frame.new.blocks (g.S.Source.left c.read_frame.new.src) in
     let stop = c.in_err-number.field-0.0 in
     let reads = rw c.if-not-branch.false at c.in_ok-read_frame.ensures.reads in
-    let kept = unless_map stop _ (d.tells → IsOpen d.seen d.images c.take_next.new.self.journal.log c.take_next.new.self.journal.disk (summary c.frames.self.core)) (λ same. rw same i.open') c.in_err-number.ensures.left in
-    stops_frames _ first (g.S.Source.left c.read_frame.new.src) c.read_frame.new.blocks.held c.take_next.new.self.core c.take_next.new.self.taken c.from_residual-in_err-number.result stop c.from_residual-in_err-number.ensures.1
+    let place : c.read_frame.new.blocks.place ≡ s.place + length (frame_bytes c.read_frame.new.payload.items) = c.in_ok-read_frame.ensures.place c.if-not-branch.false in
+    let now = c.take_next.new.self.journal in
+    stops_frames (λ core. d.tells → IsOpen d.seen d.images now.log now.disk (summary core)) (StandsForEither d.tells (d.images now.disk)) first (g.S.Source.left c.read_frame.new.src) c.read_frame.new.blocks.held c.take_next.new.self.core c.take_next.new.self.taken c.from_residual-in_err-number.result stop c.from_residual-in_err-number.ensures.1
     (never_dry (d.faults c.frames.self.journal.disk) (d.faults c.take_next.new.self.journal.disk) (c.read_frame.new.blocks.held ≡ []) stop (c.in_err-number.ensures.cause 0))
-    (record { last = s; reached = i.reached right; ended = (untaken_at s c.place-place.result after c.deref.result.now c.read_frame.new.payload.items stop c.place-place.ensures.at c.deref.ensures.value reads.0 reads.1 (c.in_err-number.ensures.stops (i.right right)), kept) })
+    (stops_next (λ core. d.tells → IsOpen d.seen d.images now.log now.disk (summary core)) (StandsForEither d.tells (d.images now.disk)) (now ≡ c.frames.self.journal)
+    first s c.read_frame.new.blocks (g.S.Source.left c.read_frame.new.src) c.deref.result.now c.read_frame.new.payload.items stop (i.reached right)
+    (untaken_at s c.place-place.result after c.deref.result.now c.read_frame.new.payload.items stop c.place-place.ensures.at c.deref.ensures.value reads.0 reads.1 (c.in_err-number.ensures.stops (i.right right)))
+    c.deref.ensures.value reads.0 reads.1 place (λ same. rw same i.open')
+    (λ same. rw same (stands_open d.tells d.seen d.images c.frames.self.journal.log c.frames.self.journal.disk s.core i.open'))
+    (c.in_err-number.ensures.left (i.right right)))
 
 pub returns-then-not-branch-clause-follows : goal.returns-then-not-branch-clause-follows
 returns-then-not-branch-clause-follows g c right =
@@ -118,4 +138,6 @@ returns-then-not-branch-clause-follows g c right =
     let s : Stage = stage c.frames.self.core c.frames.self.taken c.frames.number c.frames.blocks (g.S.Source.left c.frames.src) in
     let mid = ahead c.read_frame.new.blocks (g.S.Source.left c.read_frame.new.src) in
     let given = rw c.if-not-branch.true at c.in_ok-read_frame.ensures.reads in
-    read_end_held _ first s c.read_frame.new.blocks.place mid (g.S.Source.left c.at_end.new.src) c.at_end.new.blocks.held c.at_end.result (c.in_ok-read_frame.ensures.end c.if-not-branch.true) (c.frames.invariant.reached right) given c.frames.invariant.open' c.at_end.ensures.ends c.at_end.ensures.dry
+    let d = g.D.Disk in
+    let now = c.frames.self.journal in
+    read_end_held (λ core. d.tells → IsOpen d.seen d.images now.log now.disk (summary core)) (StandsForEither d.tells (d.images now.disk)) first s c.read_frame.new.blocks.place mid (g.S.Source.left c.at_end.new.src) c.at_end.new.blocks.held c.at_end.result (c.in_ok-read_frame.ensures.end c.if-not-branch.true) (c.frames.invariant.reached right) given c.frames.invariant.open' c.at_end.ensures.ends c.at_end.ensures.dry

@@ -1,4 +1,4 @@
-use Rattle.std.proofs.Common.{◌≡◌, ◌∙◌, ◌+◌, ◌≤◌, Bool, true, false, ℕ, List, [], OnOk, sym, subst, rules}
+use Rattle.std.proofs.Common.{◌≡◌, ◌∙◌, inl, ◌+◌, ◌≤◌, Bool, true, false, ℕ, List, [], OnOk, sym, subst, rules}
 use Rattle.flow_model.specs.declared.transactions.Transaction.{Transaction}
 use Rattle.flow_core.specs.Summaries.{Summary, summary}
 use Rattle.flow_session.specs.Histories.{AreInRangeBehind, payloads_behind}
@@ -6,9 +6,10 @@ use Rattle.flow_session.specs.Keeping.{IsOpen}
 use Rattle.flow_session.specs.Leading.{LeadsBy}
 use Rattle.flow_session.proofs.Calls.{makes_all}
 use Rattle.standby.specs.Stages.{Here, Reaches, TakesPayload, stage}
-use Rattle.standby.specs.Waiting.{Waits}
-use Rattle.standby.proofs.Taken.{untouched}
-use Rattle.standby.proofs.Waiting.{waits_behind, waits_all, waits_nothing, kept_on, takes_on, new_stops, unless_failed}
+use Rattle.standby.specs.Waiting.{TakesUpTo, Waits}
+use Rattle.standby.specs.Followed.{StandsForEither}
+use Rattle.standby.proofs.Taken.{stands_for_either, untouched}
+use Rattle.standby.proofs.Waiting.{waits_behind, waits_all, waits_nothing, kept_on, takes_on, new_stops, waits_more, takes_up_to, kept_so, unkept_so}
 use Rattle.standby.proofs.following.Standby.take_next.Given as given
 use Rattle.standby.proofs.following.Standby.take_next.Goals.{In-Ok, After-gather-end}
 use Rattle.standby.proofs.following.Standby.take_next.Goals as goal
@@ -22,7 +23,7 @@ pub returns-in-Err-clause-makes : goal.returns-in-Err-clause-makes
 returns-in-Err-clause-makes g c = rw c.take_payload.ensures.journal (untouched g.D.Disk.tells g.D.Disk.moment g.D.Disk.left_since g.D.Disk.seen g.D.Disk.images g.met.D.Disk.only_now c.args.self.now.journal.log c.args.self.now.journal.disk (summary c.args.self.now.core) _ c.requires.open (search rules))
 
 pub returns-in-Err-clause-left : goal.returns-in-Err-clause-left
-returns-in-Err-clause-left g c = unless_failed c.in-Err.stop _ c.take_payload.ensures.journal
+returns-in-Err-clause-left g c right = inl c.take_payload.ensures.journal
 
 pub returns-in-Err-clause-cause : goal.returns-in-Err-clause-cause
 returns-in-Err-clause-cause g c source = rw c.take_payload.ensures.journal (c.in-Err.ensures.cause source (g.D.Disk.faults c.args.self.now.journal.disk))
@@ -40,6 +41,13 @@ waiting : (g : given.Over) (c : goal.After-gather-end g) → Waits c.args.self.n
 waiting g c first =
     waits_all c.gather-end.result c.args.self.now.core c.gather-end.new.self.core c.gather-end.new.batch
     (waits_behind c.gather-end.result c.args.self.now.core c.take_payload.new.self.core c.gather-end.new.self.core [] c.take_payload.new.batch c.gather-end.new.batch first c.gather-end.ensures.waits)
+
+-- transactions wait that lead to the state at the stage that is reached
+led : (g : given.Over) (c : goal.After-gather-end g) → Waits c.args.self.now.core [] c.take_payload.new.self.core c.take_payload.new.batch
+    → Waits c.args.self.now.core [] c.gather-end.ensures.waiting.core c.gather-end.new.batch
+led g c first =
+    let w = c.gather-end.ensures.waiting in
+    waits_more c.args.self.now.core c.take_payload.new.self.core w.core [] c.take_payload.new.batch c.gather-end.new.batch first w.waits
 
 -- the journal is as it was
 same : (g : given.Over) (c : goal.After-gather-end g) → c.gather-end.new.self.journal ≡ c.args.self.now.journal
@@ -90,8 +98,29 @@ returns-in-Ok-keep_all-clause-makes g c =
     let here = goal.at.returns-in-Ok-keep_all-clause-makes g c in
     let w = waiting g here.After-gather-end (first g here.In-Ok) in
     let leaves = rw (same g here.After-gather-end) at c.keep_all.ensures.any_moment in
+    let fits = rw (same g here.After-gather-end) at c.keep_all.ensures.fit in
     makes_all d.tells d.moment d.left_since c.args.self.now.journal.disk c.keep_all.new.self.disk s w.0 _
-    (λ told. leaves s w.0 told (c.requires.open told) w.1 w.3) w.2
+    (λ told. leaves s w.0 told (c.requires.open told) w.1 w.3)
+    (λ told. fits s w.0 told (c.requires.open told) w.1 w.3) w.2
+
+pub returns-in-Ok-keep_all-clause-left : goal.returns-in-Ok-keep_all-clause-left
+returns-in-Ok-keep_all-clause-left g c right =
+    let d = g.D.Disk in
+    let core = c.args.self.now.core in
+    let now = c.keep_all.new.self in
+    let here = goal.at.returns-in-Ok-keep_all-clause-left g c in
+    let before = first g here.In-Ok in
+    let w = led g here.After-gather-end before in
+    let is : c.in-Some.number ≡ c.args.last + 1 = search rules in
+    let kept = rw (same g here.After-gather-end) at c.in-Ok-keep_all.ensures.kept in
+    kept_so c.gather-end.result (now ≡ c.args.self.now.journal)
+    (TakesUpTo c.args.last c.args.payload.now c.args.blocks.now core c.args.self.now.taken)
+    (λ x. d.tells → IsOpen d.seen d.images now.log now.disk (summary x)) (StandsForEither d.tells (d.images now.disk) core)
+    c.gather-end.ensures.memory
+    (takes_up_to c.args.last c.in-Some.number c.args.payload.now c.args.blocks.now c.gather-end.new.blocks core c.take_payload.new.self.core
+    c.args.self.now.taken c.take_payload.new.self.taken c.take_payload.new.batch c.gather-end.new.batch _
+    is (c.in-Ok.ensures.takes right) (before.leads.right right) c.gather-end.ensures.waiting
+    (λ told. subst (λ (s : Summary). IsOpen d.seen d.images now.log now.disk s) (sym w.leads.came) (kept (summary core) w.transactions told (c.requires.open told) w.put w.fits)))
 
 pub returns-in-Ok-keep_all-clause-takes : goal.returns-in-Ok-keep_all-clause-takes
 returns-in-Ok-keep_all-clause-takes g c right =
@@ -111,8 +140,31 @@ returns-clause-makes g c =
     let here = goal.at.returns-clause-makes g c in
     let w = waiting g here.After-gather-end (first g here.In-Ok) in
     let leaves = rw (same g here.After-gather-end) at c.keep_all.ensures.any_moment in
+    let fits = rw (same g here.After-gather-end) at c.keep_all.ensures.fit in
     makes_all d.tells d.moment d.left_since c.args.self.now.journal.disk c.keep_all.new.self.disk s w.0 _
-    (λ told. leaves s w.0 told (c.requires.open told) w.1 w.3) tt
+    (λ told. leaves s w.0 told (c.requires.open told) w.1 w.3)
+    (λ told. fits s w.0 told (c.requires.open told) w.1 w.3) tt
+
+pub returns-clause-left : goal.returns-clause-left
+returns-clause-left g c right =
+    let d = g.D.Disk in
+    let core = c.args.self.now.core in
+    let now = c.keep_all.new.self in
+    let here = goal.at.returns-clause-left g c in
+    let before = first g here.In-Ok in
+    let w = led g here.After-gather-end before in
+    let is : c.in-Some.number ≡ c.args.last + 1 = search rules in
+    let leaves = rw (same g here.After-gather-end) at c.keep_all.ensures.any_moment in
+    let undone = rw (same g here.After-gather-end) at c.in-Err-keep_all.ensures.undone in
+    unkept_so c.in-Err-keep_all.stop c.unkept.result (now ≡ c.args.self.now.journal)
+    (TakesUpTo c.args.last c.args.payload.now c.args.blocks.now core c.args.self.now.taken)
+    (λ x. d.tells → IsOpen d.seen d.images now.log now.disk (summary x)) (StandsForEither d.tells (d.images now.disk) core)
+    c.unkept.ensures.is undone
+    (takes_up_to c.args.last c.in-Some.number c.args.payload.now c.args.blocks.now c.gather-end.new.blocks core c.take_payload.new.self.core
+    c.args.self.now.taken c.take_payload.new.self.taken c.take_payload.new.batch c.gather-end.new.batch _
+    is (c.in-Ok.ensures.takes right) (before.leads.right right) c.gather-end.ensures.waiting
+    (stands_for_either d.tells d.moment d.left_since d.images g.met.D.Disk.counts_now c.args.self.now.journal.disk now.disk core c.gather-end.ensures.waiting.core w.transactions w.leads.came
+    (λ told. leaves (summary core) w.transactions told (c.requires.open told) w.put w.fits)))
 
 pub returns-clause-cause : goal.returns-clause-cause
 returns-clause-cause g c source =

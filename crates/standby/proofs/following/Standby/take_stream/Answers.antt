@@ -6,7 +6,6 @@ use Rattle.standby.proofs.Ended.{end_since, stops}
 use Rattle.standby.specs.declared.stops.FollowStop.TheVariants.{NoMemory}
 use Rattle.standby.specs.Fronts.{FrontJudged}
 use Rattle.standby.specs.Readers.{ahead}
-use Rattle.standby.proofs.Waiting.{unless_failed}
 use Rattle.standby.proofs.Going.{stops_source, front_unread, front_read, from_front, judged_dry, done_source}
 use Rattle.standby.proofs.following.Standby.take_stream.Goals as goal
 
@@ -36,15 +35,15 @@ returns-in_err-front-clause-cause g c =
 
 pub returns-in_err-blocks-clause-follows : goal.returns-in_err-blocks-clause-follows
 returns-in_err-blocks-clause-follows g c right =
-    stops_source _ c.args.self.now.core (g.S.Source.left c.args.src.now) (g.S.Source.left c.args.src.now) c.from_residual.result NoMemory [] c.from_residual.ensures.1 (inl (inl tt, tt)) (λ is. refl)
+    stops_source _ _ c.args.self.now.core (g.S.Source.left c.args.src.now) (g.S.Source.left c.args.src.now) c.from_residual.result NoMemory [] c.from_residual.ensures.1 (inl (inl tt, c.requires.open)) (λ is. refl)
 
 pub returns-in_err-read-clause-follows : goal.returns-in_err-read-clause-follows
 returns-in_err-read-clause-follows g c right =
     let left = g.S.Source.left c.args.src.now in
     let after = ahead c.read.new.self (g.S.Source.left c.read.new.src) in
     let stop = c.in_err-read.field-0.0 in
-    stops_source _ c.args.self.now.core left (g.S.Source.left c.read.new.src) c.from_residual-in_err-read.result stop c.read.new.self.held c.from_residual-in_err-read.ensures.1
-    (inl (inl (front_unread left after c.in_ok-blocks.blocks c.read.new.out.items stop c.in_ok-blocks.ensures c.in_err-read.ensures.reads), unless_failed stop _ c.requires.open)) c.in_err-read.ensures.dry
+    stops_source _ _ c.args.self.now.core left (g.S.Source.left c.read.new.src) c.from_residual-in_err-read.result stop c.read.new.self.held c.from_residual-in_err-read.ensures.1
+    (inl (inl (front_unread left after c.in_ok-blocks.blocks c.read.new.out.items stop c.in_ok-blocks.ensures c.in_err-read.ensures.reads), c.requires.open)) c.in_err-read.ensures.dry
 
 pub returns-in_err-front-clause-follows : goal.returns-in_err-front-clause-follows
 returns-in_err-front-clause-follows g c right =
@@ -53,8 +52,8 @@ returns-in_err-front-clause-follows g c right =
     let stop = c.in_err-front.field-0.0 in
     let bytes = c.read.new.out.items in
     let judged = subst (λ (xs : List ℕ). FrontJudged (summary c.args.self.now.core) xs (Err stop)) c.deref.ensures.value c.in_err-front.ensures.judged in
-    stops_source _ c.args.self.now.core left (g.S.Source.left c.read.new.src) c.from_residual-in_err-front.result stop c.read.new.self.held c.from_residual-in_err-front.ensures.1
-    (inl (inr (record { bytes = bytes; mid = after; front = front_read left after c.in_ok-blocks.blocks bytes c.in_ok-read.field-0 c.in_ok-blocks.ensures c.in_ok-read.ensures.reads; judged = judged }), unless_failed stop _ c.requires.open))
+    stops_source _ _ c.args.self.now.core left (g.S.Source.left c.read.new.src) c.from_residual-in_err-front.result stop c.read.new.self.held c.from_residual-in_err-front.ensures.1
+    (inl (inr (record { bytes = bytes; mid = after; front = front_read left after c.in_ok-blocks.blocks bytes c.in_ok-read.field-0 c.in_ok-blocks.ensures c.in_ok-read.ensures.reads; judged = judged }), c.requires.open))
     (judged_dry (summary c.args.self.now.core) bytes (c.read.new.self.held ≡ []) stop judged)
 
 pub returns-in_err-take_frames-clause-follows : goal.returns-in_err-take_frames-clause-follows
@@ -66,7 +65,7 @@ returns-in_err-take_frames-clause-follows g c right =
     let judged = subst (λ (xs : List ℕ). FrontJudged (summary c.args.self.now.core) xs (Ok c.in_ok-front.front)) c.deref.ensures.value c.in_ok-front.ensures.judged in
     let read = front_read left (ahead c.read.new.self mid) c.in_ok-blocks.blocks bytes c.in_ok-read.field-0 c.in_ok-blocks.ensures c.in_ok-read.ensures.reads in
     let frames = c.in_err-take_frames.ensures.follows right in
-    stops_source _ c.args.self.now.core left (g.S.Source.left c.take_frames.new.src) c.from_residual-in_err-take_frames.result stop frames.held c.from_residual-in_err-take_frames.ensures.1
+    stops_source _ _ c.args.self.now.core left (g.S.Source.left c.take_frames.new.src) c.from_residual-in_err-take_frames.result stop frames.held c.from_residual-in_err-take_frames.ensures.1
     (inr (from_front c.args.self.now.core c.args.self.now.taken c.read.new.self mid left bytes c.in_ok-blocks.blocks c.in_ok-front.front _ c.in_ok-blocks.ensures c.requires.none c.in_ok-read.ensures.place read judged frames.follows))
     frames.dry
 
@@ -80,4 +79,4 @@ returns-clause-follows g c right =
     let s = c.take_frames.new.self in
     let frames = c.in_ok-take_frames.ensures.follows right in
     let last = from_front c.args.self.now.core c.args.self.now.taken c.read.new.self mid left bytes c.in_ok-blocks.blocks c.in_ok-front.front _ c.in_ok-blocks.ensures c.requires.none c.in_ok-read.ensures.place read judged frames.follows in
-    done_source _ c.args.self.now.core s.core s.taken left (g.S.Source.left c.take_frames.new.src) frames.held _ c.number.ensures refl c.in_ok-take_frames.ensures.kept last
+    done_source _ _ c.args.self.now.core s.core s.taken left (g.S.Source.left c.take_frames.new.src) frames.held _ c.number.ensures refl c.in_ok-take_frames.ensures.kept last
