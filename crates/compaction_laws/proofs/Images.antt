@@ -109,7 +109,7 @@ all_taken first _ _ NoRecord =
 all_taken first _ _ (OneRecord {payloads = bytes} {payload} {c'} {c''} admits one) =
     one_taken first c' c'' bytes payload (all_taken first c' bytes admits) one
 
-leads_gives : (h : Header) (bytes : List (List ℕ)) (c : Core) → LeadsTo h bytes c → Gives h bytes (summary c)
+pub leads_gives : (h : Header) (bytes : List (List ℕ)) (c : Core) → LeadsTo h bytes c → Gives h bytes (summary c)
 leads_gives h bytes c (first, begins, admits) =
     let takes = all_taken first c bytes admits in
     record {

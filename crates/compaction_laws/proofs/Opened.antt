@@ -117,17 +117,24 @@ all_opened c _ _ NoRecord opened = opened
 all_opened c _ _ (OneRecord {payloads = bytes} {payload} {c'} {c''} admits one) opened =
     one_opened c' c'' payload (all_opened c bytes c' admits opened) one
 
-pub opened_compact : (h : Header) (bytes : List (List ℕ)) (c : Core) → 1 ≤ h.queues → LeadsTo h bytes c
-    → IsCompact (view c)
-opened_compact h bytes c some_ (first, begins, admits) =
+leads_opened : (h : Header) (bytes : List (List ℕ)) (c : Core) → 1 ≤ h.queues → LeadsTo h bytes c → IsOpened c
+leads_opened h bytes c some_ (first, begins, admits) =
     let seen = blank_seen first (under h) begins.blank begins.counts in
     let anew = blank_anew h.queues h.limit h.transactions h.roots in
     let compact = anew_compact (counting h.transactions h.roots (blank h.queues h.limit)) anew in
-    (all_opened first bytes c admits (record {
+    all_opened first bytes c admits (record {
       right = (begun_right first (under h) begins.blank begins.kept begins.counts some_).0;
       keyed = blank_keyed first begins.blank;
       compact = subst IsCompact (sym seen) compact;
-    })).compact
+    })
+
+pub opened_compact : (h : Header) (bytes : List (List ℕ)) (c : Core) → 1 ≤ h.queues → LeadsTo h bytes c
+    → IsCompact (view c)
+opened_compact h bytes c some_ leads = (leads_opened h bytes c some_ leads).compact
+
+-- and its keys are the machine's
+pub opened_keyed : (h : Header) (bytes : List (List ℕ)) (c : Core) → 1 ≤ h.queues → LeadsTo h bytes c → AreKeyed c
+opened_keyed h bytes c some_ leads = (leads_opened h bytes c some_ leads).keyed
 
 pub opened_one : (h : Header) (bytes : List (List ℕ)) (c : Core) (s : State) → 1 ≤ h.queues → LeadsTo h bytes c
     → IsCompact s → summary c ≡ summary_of s → view c ≡ s

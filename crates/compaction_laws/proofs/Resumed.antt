@@ -49,7 +49,7 @@ use Rattle.machine.specs.Steps.{started, last_root_by}
 use Rattle.flow_session.specs.Refusing.{IsBroken, IsUnopened}
 use Rattle.flow_disk.specs.Images.{Image}
 use Rattle.flow_disk.specs.declared.disk.Slot.{Slot}
-use Rattle.txn_log.specs.Stores.{StoreState, NoStore, ForeignIn, DamagedIn, Counts, store_of}
+use Rattle.txn_log.specs.Stores.{Counts, store_of}
 use Rattle.txn_log.specs.declared.stops.LogStop.{LogStop}
 use Rattle.txn_log.specs.declared.stops.LogStop.TheVariants as log
 use Rattle.compaction_laws.specs.Compact.{AreRising}
@@ -58,6 +58,7 @@ use Rattle.compaction_laws.proofs.Rising.{last_after, last_more, behind_before, 
 use Rattle.compaction_laws.proofs.Rising.{rising_append}
 use Rattle.compaction_laws.proofs.Rising.{last_counted, rising_made, all_before}
 use Rattle.compaction_laws.proofs.Since.{numbered}
+use Rattle.compaction_laws.proofs.Unopened.{fit_opens}
 
 -- ---- records that are admitted
 
@@ -182,7 +183,7 @@ not_refused c number (Terminate root) admitted refused = refused admitted
 not_refused c number (Delete root) admitted refused = refused admitted
 not_refused c number (Clock minutes) admitted refused = refused admitted
 
-not_unfit : (c : Core) (n : Numbered) (payload : List ℕ) → record_bytes n.number n.transaction ≡ payload → Ranged n
+pub not_unfit : (c : Core) (n : Numbered) (payload : List ℕ) → record_bytes n.number n.transaction ≡ payload → Ranged n
     → IsUnfit c payload → IsAdmitted c n.number n.transaction → ⊥
 not_unfit c n payload is range (inl none) admitted = none n.number n.transaction range is
 not_unfit c n payload is range (inr other) admitted =
@@ -322,11 +323,7 @@ counts_header slot slot' h h' ps ps' end end' same = (cc, cc)
 module _ (image : Image) (slot : Slot) (h : Header) (s s' : State) (ts : List Transaction) (end : ℕ)
     (counts : store_of image ≡ Counts slot h (records_since s ts) end) (is : IsCheckpointOf h s)
     (made : MadeByCommands s ts s') (fits : All TransactionFits ts) where
-  never : {X : Type 0} (state : StoreState) → store_of image ≡ state
-      → (Counts slot h (records_since s ts) end ≡ state → ⊥) → X
-  never state shows other = absurd (other (sym counts ∙ shows))
-
-  unbroken_image : (other : Slot) (place : ℕ) → IsBroken other place image → ⊥
+  pub unbroken_image : (other : Slot) (place : ℕ) → IsBroken other place image → ⊥
   unbroken_image other place broken =
       let same = counts_header slot other h broken.header (records_since s ts) broken.payloads end broken.end
       (sym counts ∙ broken.counts) in
@@ -336,10 +333,4 @@ module _ (image : Image) (slot : Slot) (h : Header) (s s' : State) (ts : List Tr
       unbroken h s s' ts is made fits place breaks
 
   pub stores_reopen : (stop : LogStop) → IsUnopened image stop → (stop ≡ log.StoreFault) ⊎ (stop ≡ log.NoMemory)
-  stores_reopen log.Unmade shows = never NoStore shows (λ e. cc)
-  stores_reopen log.Made shows = absurd shows
-  stores_reopen (log.Foreign other) shows = never (ForeignIn other) shows (λ e. cc)
-  stores_reopen (log.Damaged other place) (inl shows) = never (DamagedIn other place) shows (λ e. cc)
-  stores_reopen (log.Damaged other place) (inr broken) = absurd (unbroken_image other place broken)
-  stores_reopen log.StoreFault shows = inl refl
-  stores_reopen log.NoMemory shows = inr refl
+  stores_reopen stop shows = fit_opens image slot h (records_since s ts) end counts unbroken_image stop shows

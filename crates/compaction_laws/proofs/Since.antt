@@ -110,7 +110,7 @@ limit_stays : (number : ℕ) (s mid : State) (t : Transaction) → StepsAs numbe
 limit_stays number s mid t (next, steps, same) =
     ap (λ (x : State). x.limit) same ∙ ap (λ (x : State). x.limit) steps.next
 
-step_codes : (kept : ℕ) (s mid : State) (n : Numbered) → IsMade kept s n → StepsAs n.number s n.transaction mid
+pub step_codes : (kept : ℕ) (s mid : State) (n : Numbered) → IsMade kept s n → StepsAs n.number s n.transaction mid
     → HaveCodes (templates s) → HaveCodes (templates mid)
 step_codes kept s mid n (inl (is, count)) (next, steps, same) coded =
     let x = counting (n.number - 1) is.last s in

@@ -5,6 +5,9 @@ ghost use Rattle.compaction_laws.specs.Checkpoints.{LiveMakeTheState, LiveMakeOn
 ghost use Rattle.compaction_laws.specs.Checkpoints.{HistoriesStayCompact, AnswersStay};
 ghost use Rattle.compaction_laws.specs.Crashes.{ImagesStandForOne, ReopenedStatesAreOne, CrashesResume, CallsResume};
 ghost use Rattle.compaction_laws.specs.Crashes.{ScriptsResume, SessionsAreCompact};
+ghost use Rattle.compaction_laws.specs.OwnStores.{HistoriesAreFit, CrashesAreFit, ScriptsReopen, FitImagesReopen};
+ghost use Rattle.compaction_laws.specs.OwnStores.{OwnStoresReopen, OwnStoresStay, OwnStoresGoOn, OwnScriptsStay};
+ghost use Rattle.compaction_laws.specs.OwnStores.{NewStoresAreOwn};
 ghost use Rattle.compaction_laws.specs.Resuming.{OpenedAreCompact, OpenedAreOne, KeptAreAdmitted};
 ghost use Rattle.compaction_laws.specs.Resuming.{LiveStayInRange, CheckpointsAreResumed, CheckpointsReopen};
 ghost use Rattle.compaction_laws.specs.Resuming.{CheckpointedStoresReopen};
@@ -129,4 +132,49 @@ pub fn scripts_resume<J: Journal>()
 /// Law: the state with which a session begins is compact, and so is each to which commands lead from there.
 pub fn sessions_are_compact()
     ensures { SessionsAreCompact }
+{}
+
+/// Law: the records of transactions that commands make are fit, from a state on whose live ones are made again.
+pub fn histories_are_fit()
+    ensures { HistoriesAreFit }
+{}
+
+/// Law: whatever a crash leaves at any moment of a call whose transactions commands make has fit records.
+pub fn crashes_are_fit<J: Journal>()
+    ensures { CrashesAreFit J.tells J.moment J.left_since }
+{}
+
+/// Law: so it has at any moment of a script.
+pub fn scripts_reopen<J: Journal>()
+    ensures { ScriptsReopen J.tells J.holds J.moment J.left_since J.place J.moved }
+{}
+
+/// Law: an image with fit records is opened, unless a fault or want of memory comes.
+pub fn fit_images_reopen()
+    ensures { FitImagesReopen }
+{}
+
+/// Law: an own image is opened, to no state but the one whose own it is.
+pub fn own_stores_reopen()
+    ensures { OwnStoresReopen }
+{}
+
+/// Law: whatever a crash leaves of an own store at any moment of a call is an own image.
+pub fn own_stores_stay<J: Journal>()
+    ensures { OwnStoresStay J.tells J.moment J.left_since }
+{}
+
+/// Law: at the end of the call it is an own one of the state to which the call led.
+pub fn own_stores_go_on<J: Journal>()
+    ensures { OwnStoresGoOn J.tells J.holds J.moment J.left_since }
+{}
+
+/// Law: whatever a crash leaves of an own store at any moment of a script is an own image.
+pub fn own_scripts_stay<J: Journal>()
+    ensures { OwnScriptsStay J.tells J.holds J.moment J.left_since J.place J.moved }
+{}
+
+/// Law: a new store is a blank state's own.
+pub fn new_stores_are_own()
+    ensures { NewStoresAreOwn }
 {}
