@@ -1,0 +1,4 @@
+pub mod Left
+pub mod Runs
+pub mod Making
+pub mod Lives
