@@ -60,7 +60,7 @@ live_fit s anew h place range counts live breaks =
 -- ---- the next one
 
 -- a state to which records lead has the number up to which they are kept ones of their header
-admits_kept : (first c : Core) (bytes : List (List ℕ)) → Admits first bytes c → c.kept ≡ first.kept
+pub admits_kept : (first c : Core) (bytes : List (List ℕ)) → Admits first bytes c → c.kept ≡ first.kept
 admits_kept first _ _ NoRecord = refl
 admits_kept first _ _ (OneRecord {payloads = bytes} {payload} {c'} {c''} admits one) =
     one.kept ∙ admits_kept first c' bytes admits
@@ -76,7 +76,7 @@ made_codes kept (n ∷ ns) s s' (mid, is, steps, others) coded =
     made_codes kept ns mid s' others (step_codes kept s mid n is steps coded)
 
 -- so they do in a state whose live transactions are made again
-anew_codes : (s : State) → IsMadeAnew s → HaveCodes (templates s)
+pub anew_codes : (s : State) → IsMadeAnew s → HaveCodes (templates s)
 anew_codes s anew =
     made_codes s.transactions (all_since s []) (counted_blank s) s
     (since_made s (counted_blank s) s [] refl anew.remade refl)

@@ -89,7 +89,8 @@ one_reached first c c' payload ns n reached one number transaction =
           (subst (λ (u : Transaction). StepsAs one.number (view c) u (view c')) transaction adopted.steps));
     }
 
-empty_is : (ns : List Numbered) → payloads ns ≡ [] → ns ≡ []
+-- there is no payload only where there is no record
+pub empty_is : (ns : List Numbered) → payloads ns ≡ [] → ns ≡ []
 empty_is [] is = refl
 empty_is (n ∷ ns) is = let never : ⊥ = cc in absurd never
 

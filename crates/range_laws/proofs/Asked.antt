@@ -1,20 +1,14 @@
 -- What an input of a session asks for is made by commands with words in range: that of its line, that of a text which is
 -- ended, and a TURN for each message that a DRAIN takes.
-use Rattle.std.proofs.Common.{◌≡◌, inl, inr, ℕ, zero, suc, ◌<◌, ◌≤◌, ◌&&◌, nat_lt, nat_le, Bool, true, false, List, [], ◌∷◌, ◌++◌}
-use Rattle.std.proofs.Common.{Option, Some, None, is_some, length, option_map, refl, sym, subst, arith}
-use Rattle.std.specs.Prelude.{slice_get}
-use Rattle.std.proofs.lemmas.Bool.{lt-ltb}
+use Rattle.std.proofs.Common.{◌≡◌, inl, inr, ℕ, zero, suc, ◌≤◌, Bool, List, [], ◌∷◌, ◌++◌}
+use Rattle.std.proofs.Common.{Option, Some, None, option_map, refl, sym, subst, arith}
 use Rattle.std.proofs.lemmas.Option.{none-some}
 use Rattle.core_laws.specs.RightStates.{IsRightCore}
-use Rattle.flow_core.specs.Answers.{has_message}
-use Rattle.flow_core.specs.Verdicts.{IsFront}
 use Rattle.flow_core.specs.declared.judging.Verdict.TheVariants.{Do}
-use Rattle.flow_core.specs.declared.refusals.Refusal.{Refusal}
 use Rattle.flow_core.specs.declared.refusals.Refusal.TheVariants as refused
 use Rattle.flow_core.specs.declared.state.Core.{Core}
 use Rattle.flow_model.specs.declared.commands.Command.{Command}
 use Rattle.flow_model.specs.declared.commands.Command.TheVariants as asked
-use Rattle.flow_model.specs.declared.instances.Message.{Message}
 use Rattle.flow_model.specs.declared.instances.Mode.{Mode}
 use Rattle.flow_model.specs.declared.transactions.Transaction.{Transaction}
 use Rattle.flow_model.specs.declared.transactions.Transaction.TheVariants as made
@@ -30,9 +24,9 @@ use Rattle.machine.specs.Verdicts as machine
 use Rattle.machine_laws.specs.Viewed.{view}
 use Rattle.machine_verdicts.proofs.Verdicts.{verdict_seen}
 use Rattle.machine_verdicts.specs.Keyed.{AreKeyed}
-use Rattle.recover_queue.specs.Queues.{queue as messages_of}
 use Rattle.reopening_laws.specs.Ranges.{IsWorded}
 use Rattle.reopening_laws.proofs.Admitted.{both_none}
+use Rattle.reopening_laws.proofs.Sessions.{runs_cut, turn_judged}
 use Rattle.range_laws.specs.Lines.{NamesNoZero}
 use Rattle.range_laws.specs.Standing.{HasNoZero, StaysInBounds}
 use Rattle.range_laws.specs.Words.{MadeByWords}
@@ -52,14 +46,6 @@ more_worded s (t ∷ ts) us mid s' first second =
 worded_runs : (s : State) (ts : List Transaction) (s' : State) → MadeByWords s ts s' → Runs s ts s'
 worded_runs s [] s' all = all
 worded_runs s (t ∷ ts) s' all = (all.1, all.4, worded_runs all.1 ts s' all.5)
-
--- a run is cut behind its first transactions
-runs_cut : (s : State) (ts us : List Transaction) (s' : State) → Runs s (ts ++ us) s'
-    → (mid : State) × Runs s ts mid × Runs mid us s'
-runs_cut s [] us s' run = (s, refl, run)
-runs_cut s (t ∷ ts) us s' run =
-    let rest = runs_cut run.0 ts us s' run.2 in
-    (rest.0, (run.0, run.1, rest.1), rest.2)
 
 one_worded : (s : State) (command : Command) (t : Transaction) (s' : State) → IsWorded command
     → machine.IsVerdict s command (Do t) → Runs s (t ∷ []) s' → MadeByWords s (t ∷ []) s'
@@ -106,26 +92,6 @@ judged_from_one s asked.Checkpoint t from is = tt
 judged_from_one s (asked.Ask query) t from is = tt
 
 -- ---- a turn
-
-none_refuses : (a b d room : Bool) (queue empty full : Refusal) → (a && b && d) ≡ true → room ≡ true
-    → None ≡ machine.first_of (machine.unless (a && b) queue ∷ machine.unless d empty ∷ machine.unless room full ∷ [])
-none_refuses true true true true queue empty full has free = refl
-none_refuses true true true false queue empty full has free = absurd (cc)
-none_refuses true true false room queue empty full has free = absurd (cc)
-none_refuses true false d room queue empty full has free = absurd (cc)
-none_refuses false b d room queue empty full has free = absurd (cc)
-
--- a TURN of a queue that has a message is judged to that, below the limit
-turn_judged : (c : Core) (queue : ℕ) (message : Message) → has_message c queue ≡ true → IsFront c queue message
-    → c.number < c.limit → machine.IsVerdict (view c) (asked.Turn queue) (Do (made.Turn queue message))
-turn_judged c queue message has front room = (
-  refl,
-  none_refuses (nat_le 1 queue) (nat_le queue (length c.queues))
-      (is_some (slice_get (messages_of c.queues queue) 0)) (nat_lt c.number c.limit)
-      (refused.Queue (length c.queues)) (refused.Empty queue) (refused.Full c.limit) has
-      (lt-ltb c.number c.limit room),
-  (message, front, refl),
-)
 
 -- turns of a right state
 turns_worded : (c : Core) (ts : List Transaction) (from : ℕ) (d : Core) → AreTurns c ts from d → IsRightCore c

@@ -237,7 +237,7 @@ module _ (ts : List Template) (levels : ℕ) (g : Graph) (here : IsInBounds ts (
 
   -- ---- an attempt begins
 
-  -- the activity at a place has another state that has had so many scopes
+  -- the activity at a place has another state, which has had no more scopes than its bound
   stands_fits : (most : ℕ → ℕ) (a : ℕ) (y : Standing) (x : Scene) → scopes_had y ≤ most a → SceneFits most n x
       → SceneFits most n (with_row_of (record x.row { standings = slice_set x.row.standings a y }) x)
   stands_fits most a y x le ok =

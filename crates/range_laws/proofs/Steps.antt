@@ -56,7 +56,7 @@ Brings (Clock minutes) = Unit {0}
 abbrev RootFits : ℕ → Option Root → Type 0
 RootFits n o = (r : Root) → o ≡ Some r → HaveHadAtMost n r.scopes
 
--- so is what becomes of it, and what is given fits
+-- so is the root after a step, and the messages that the step gives fit
 abbrev AfterFits : ℕ → After → Type 0
 AfterFits n x = RootFits n x.root × All MessageFits x.given
 
@@ -97,7 +97,7 @@ module _ (ts : List Template) (all : All (IsBounded ts) ts) (before : ℕ) (smal
       let ok = moves g refl in
       (one_fits (before + 1) (record r { scopes = (move g).scopes }) ok.0, ok.1)
 
-  -- ---- what becomes of a root
+  -- ---- a root after a step
 
   started_fits : (root : ℕ) (starter : Name) (settings : List Setting) (o : Option ℕ) (r : Option Root)
       → IsCounted root → RootFits before r → AfterFits (before + 1) (started_at ts root starter settings o r)

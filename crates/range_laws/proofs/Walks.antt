@@ -49,7 +49,7 @@ module _ (ts : List Template) where
   -- ---- to the scope of a path
 
   module _ (change : Change) (before after : ℕ) (le : before ≤ after) where
-    -- what the change does in the scope to which so many parts lead
+    -- what the change does in the scope to which this number of parts leads
     abbrev Last : ℕ → ℕ → Type 0
     Last long levels =
         (rest : ℕ) (h : Graph) (u : Scopes) → levels ≡ long + rest → IsInBounds ts rest h → HaveHadAtMost before u

@@ -70,7 +70,7 @@ scans_few text at (t ∷ ts) end s =
     let some = s.0.some in
     omega (arith, less, behind, some)
 
--- ---- what is left behind a form is fine where the whole is, and so many tokens fewer
+-- ---- what is left behind a form is fine where the whole is, and it is some tokens fewer
 
 record Leaves (n : ℕ) (a b : Tokens) : Type 0 where
   pub fine : AreFine a → AreFine b
@@ -224,7 +224,7 @@ who_fine (grammar.ByTake h j) q = number_fine j ((token_leaves h).fine q)
 
 -- ---- commands
 
--- so many tokens are left behind a form
+-- no more tokens are left behind a form than a line has
 fewer_left : {n : ℕ} {a b : Tokens} → Leaves n a b → length a ≤ 65536 → length b ≤ 65536
 fewer_left h few = let fewer = h.fewer in omega (arith, few, fewer)
 

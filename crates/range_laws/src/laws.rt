@@ -53,8 +53,8 @@ pub fn read_commands_are_worded()
     ensures { ReadCommandsAreWorded }
 {}
 
-/// Law: commands with words in range make the transactions for which an input of a session asks, and which lead from its
-/// state to another one.
+/// Law: commands with words in range make the transactions for which an input of a session asks, and which lead from
+/// its state to another one.
 pub fn asked_are_worded()
     ensures { AskedAreWorded }
 {}
@@ -64,8 +64,8 @@ pub fn asked_are_in_range()
     ensures { AskedAreInRange }
 {}
 
-/// Law: commands with words in range make those of a script, each of which is in range; and a crash at any moment leaves
-/// a front part of them.
+/// Law: commands with words in range make those of a script, each of which is in range; and a crash at any moment
+/// leaves a front part of them.
 pub fn scripts_make_in_range<J: Journal>()
     ensures { ScriptsMakeInRange J.tells J.holds J.moment J.left_since J.place J.moved }
 {}

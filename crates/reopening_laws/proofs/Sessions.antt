@@ -42,7 +42,7 @@ use Rattle.reopening_laws.specs.Sessions.{ScriptsMakeByCommands}
 
 -- ---- histories
 
-made_more : (s : State) (ts us : List Transaction) (mid s' : State) → MadeByCommands s ts mid → MadeByCommands mid us s'
+pub made_more : (s : State) (ts us : List Transaction) (mid s' : State) → MadeByCommands s ts mid → MadeByCommands mid us s'
     → MadeByCommands s (ts ++ us) s'
 made_more s [] us mid s' first second = subst (λ (x : State). MadeByCommands x us s') first second
 made_more s (t ∷ ts) us mid s' first second =
@@ -54,7 +54,7 @@ made_runs s [] s' all = all
 made_runs s (t ∷ ts) s' all = (all.1, all.3, made_runs all.1 ts s' all.4)
 
 -- a run is cut behind its first transactions
-runs_cut : (s : State) (ts us : List Transaction) (s' : State) → Runs s (ts ++ us) s'
+pub runs_cut : (s : State) (ts us : List Transaction) (s' : State) → Runs s (ts ++ us) s'
     → (mid : State) × Runs s ts mid × Runs mid us s'
 runs_cut s [] us s' run = (s, refl, run)
 runs_cut s (t ∷ ts) us s' run =
@@ -76,7 +76,7 @@ none_refuses true false d room queue empty full has free = absurd (cc)
 none_refuses false b d room queue empty full has free = absurd (cc)
 
 -- a TURN of a queue that has a message is judged to that, below the limit
-turn_judged : (c : Core) (queue : ℕ) (message : Message) → has_message c queue ≡ true → IsFront c queue message
+pub turn_judged : (c : Core) (queue : ℕ) (message : Message) → has_message c queue ≡ true → IsFront c queue message
     → c.number < c.limit → machine.IsVerdict (view c) (asked.Turn queue) (Do (made.Turn queue message))
 turn_judged c queue message has front room = (
   refl,
@@ -88,7 +88,7 @@ turn_judged c queue message has front room = (
 )
 
 -- turns of a right state
-turns_made : (c : Core) (ts : List Transaction) (from : ℕ) (d : Core) → AreTurns c ts from d → IsRightCore c
+pub turns_made : (c : Core) (ts : List Transaction) (from : ℕ) (d : Core) → AreTurns c ts from d → IsRightCore c
     → MadeByCommands (view c) ts (view d) × IsRightCore d
 turns_made c _ _ _ NoneTaken right = (refl, right)
 turns_made c _ _ _ (OneTaken {ts} {us} {from} {queue} {c'} {c''} turns next turn) right =

@@ -11,7 +11,6 @@ use Rattle.flow_core.specs.declared.judging.Verdict.TheVariants.{Do}
 use Rattle.flow_core.specs.declared.state.Core.{Core}
 use Rattle.flow_disk.specs.Images.{Image}
 use Rattle.flow_model.specs.declared.commands.Command.{Command}
-use Rattle.flow_model.specs.declared.graphs.Template.{Template}
 use Rattle.flow_model.specs.declared.transactions.Numbered.{Numbered}
 use Rattle.flow_model.specs.declared.transactions.Transaction.{Transaction}
 use Rattle.flow_model.specs.declared.transactions.Transaction.TheVariants.{Import}
@@ -27,7 +26,7 @@ use Rattle.machine.specs.Verdicts.{IsVerdict}
 use Rattle.machine_laws.specs.Viewed.{view}
 use Rattle.reopening_laws.proofs.Limits.{keeps_within}
 use Rattle.reopening_laws.proofs.Spelled.{one_record}
-use Rattle.reopening_laws.specs.Codes.{HasCodes, HaveCodes}
+use Rattle.reopening_laws.specs.Codes.{HaveCodes}
 use Rattle.txn_log.specs.Stored.{InRange}
 use Rattle.txn_log.specs.declared.header.Header.{Header}
 use Rattle.compaction_laws.specs.Checkpoints.{summary_of}
@@ -37,14 +36,14 @@ use Rattle.compaction_laws.specs.Resuming.{IsCheckpointOf}
 use Rattle.compaction_laws.proofs.Compact.{remade_lasts, recounted, one_remade, anew_compact, step_anew, one_state}
 use Rattle.compaction_laws.proofs.Compact.{states_of}
 use Rattle.compaction_laws.proofs.Crashed.{summary_next}
-use Rattle.compaction_laws.proofs.Fitted.{live_fit, next_fit}
+use Rattle.compaction_laws.proofs.Fitted.{admits_kept, anew_codes, live_fit, next_fit}
 use Rattle.compaction_laws.proofs.Images.{opened_summary}
 use Rattle.compaction_laws.proofs.Kept.{kept_admitted}
 use Rattle.compaction_laws.proofs.Opened.{opened_compact, opened_keyed}
 use Rattle.compaction_laws.proofs.OwnStores.{fit_reopens}
-use Rattle.compaction_laws.proofs.Resumed.{not_unfit, resumed}
+use Rattle.compaction_laws.proofs.Resumed.{empty_is, not_unfit, resumed}
 use Rattle.compaction_laws.proofs.Rising.{all_before}
-use Rattle.compaction_laws.proofs.Since.{Ranged, AreMade, all_since, since_made, step_codes, Cut, cut}
+use Rattle.compaction_laws.proofs.Since.{Ranged, Cut, cut}
 use Rattle.compaction_laws.proofs.Stepping.{to_kept}
 use Rattle.run_laws.specs.Left.{IsOwnOf, OpensOwn, IsOwnBehind}
 
@@ -72,10 +71,6 @@ ends (m ∷ ns) n (b ∷ before) here rest is = go (ends ns n before here rest (
     go (inl both) = inl ((λ i. sym same i ∷ both.0 i), both.1)
     go (inr more) = inr (more.0, λ i. same i ∷ more.1 i)
 
-empty_is : (ns : List Numbered) → payloads ns ≡ [] → ns ≡ []
-empty_is [] is = refl
-empty_is (n ∷ ns) is = let never : ⊥ = cc in absurd never
-
 -- ---- the last kept record
 
 -- the number of the last kept record is no greater than those of the records
@@ -101,11 +96,6 @@ admits_low most first _ _ (OneRecord {payloads = bytes} {payload} {c'} {c''} adm
     go true number here last = here
     go false number here last = last
 
-admits_kept : (first c : Core) (bytes : List (List ℕ)) → Admits first bytes c → c.kept ≡ first.kept
-admits_kept first _ _ NoRecord = refl
-admits_kept first _ _ (OneRecord {payloads = bytes} {payload} {c'} {c''} admits one) =
-    one.kept ∙ admits_kept first c' bytes admits
-
 -- records in their places have numbers that are counted
 placed_low : (ns : List Numbered) (s s' : State) → LeadBy IsInPlace s ns s'
     → All (λ (n : Numbered). n.number ≤ s.transactions) ns
@@ -115,20 +105,6 @@ placed_low (n ∷ ns) s s' (mid, is, steps, others) =
     let count : mid.transactions ≡ s.transactions = ap (λ (x : State). x.transactions) stands.next in
     All-cons (λ (m : Numbered). m.number ≤ s.transactions) n ns is.counted
     (subst (λ (k : ℕ). All (λ (m : Numbered). m.number ≤ k) ns) count (placed_low ns mid s' others))
-
--- ---- outputs begin with a return code
-
-made_codes : (kept : ℕ) (ns : List Numbered) (s s' : State) → AreMade kept s ns s' → HaveCodes (templates s)
-    → HaveCodes (templates s')
-made_codes kept [] s s' all coded = subst HaveCodes (sym (ap templates all)) coded
-made_codes kept (n ∷ ns) s s' (mid, is, steps, others) coded =
-    made_codes kept ns mid s' others (step_codes kept s mid n is steps coded)
-
-anew_codes : (s : State) → IsMadeAnew s → HaveCodes (templates s)
-anew_codes s anew =
-    made_codes s.transactions (all_since s []) (counted_blank s) s
-    (since_made s (counted_blank s) s [] refl anew.remade refl)
-    (All-nil (λ (t : Template). HasCodes t.graph))
 
 -- ---- records that lead to a state
 

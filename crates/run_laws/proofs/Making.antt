@@ -25,12 +25,12 @@ use Rattle.compaction_laws.specs.OwnStores.{IsOwn}
 use Rattle.compaction_laws.proofs.OwnStores.{new_own}
 use Rattle.run_laws.specs.Making.{MayBeOwn, MadeStoresAreOwn, CorrectNewsAreOwn}
 
--- ---- records that come to nothing
+-- ---- records after which nothing is counted
 
 abbrev Ranged : Numbered → Type 0
 Ranged n = IsInRange n.number n.transaction
 
--- a record that is taken up is counted, where it wasn't among those that are kept of so many transactions
+-- a record that is taken up is counted, where it isn't one of the kept ones
 one_counted : (kept : ℕ) (n : Numbered) (s : Summary) → IsInRange n.number n.transaction → kept ≤ s.transactions
     → (1 ≤ (taken_up kept n s).transactions) × (kept ≤ (taken_up kept n s).transactions)
 one_counted kept n s range less = go (nat_le n.number kept) refl

@@ -37,7 +37,7 @@ use Rattle.machine_laws.specs.Viewed.{view}
 use Rattle.machine_verdicts.specs.Keyed.{AreKeyed}
 use Rattle.session_laws.specs.Sittings.{IsWhole}
 use Rattle.reopening_laws.specs.Making.{MadeByCommands}
-use Rattle.reopening_laws.proofs.Sessions.{made_by_commands}
+use Rattle.reopening_laws.proofs.Sessions.{made_more, made_by_commands}
 use Rattle.compaction_laws.specs.Compact.{IsMadeAnew}
 use Rattle.compaction_laws.specs.OwnStores.{IsOwn, IsOwnAfterSome, AreOwnNow}
 use Rattle.compaction_laws.proofs.Compact.{history_anew}
@@ -46,7 +46,7 @@ use Rattle.run_laws.specs.Left.{AreOfLastCall, OpensOwn, IsOwnBehind}
 use Rattle.run_laws.specs.Runs.{IsAnswered, RunKeepsOwn}
 use Rattle.run_laws.specs.Runs.{RunsKeepOwn, RunsReopen, RunsGoOn, CorrectRunsKeepOwn}
 use Rattle.run_laws.proofs.Left.{import_fit, import_left}
-use Rattle.run_laws.proofs.UnderWay.{made_more, input_asks}
+use Rattle.run_laws.proofs.UnderWay.{input_asks}
 
 -- ---- front parts
 

@@ -1,13 +1,8 @@
 -- The transactions of the call in which a run stops: what an input asks for is made by commands, or is an IMPORT.
-use Rattle.std.proofs.Common.{◌≡◌, ◌⊎◌, inl, inr, ℕ, ◌<◌, ◌&&◌, nat_lt, nat_le, Bool, true, false, List, [], ◌∷◌, ◌++◌}
-use Rattle.std.proofs.Common.{Option, Some, None, is_some, length, refl, sym, ap, subst}
-use Rattle.std.specs.Prelude.{slice_get}
-use Rattle.std.proofs.lemmas.Bool.{lt-ltb}
+use Rattle.std.proofs.Common.{◌≡◌, ◌⊎◌, inl, inr, ℕ, List, [], ◌∷◌, ◌++◌}
+use Rattle.std.proofs.Common.{Option, Some, None, refl, sym, ap, subst}
 use Rattle.core_laws.specs.RightStates.{IsRightCore}
-use Rattle.flow_core.specs.Answers.{has_message}
-use Rattle.flow_core.specs.Verdicts.{IsFront}
 use Rattle.flow_core.specs.declared.judging.Verdict.TheVariants.{Do}
-use Rattle.flow_core.specs.declared.refusals.Refusal.{Refusal}
 use Rattle.flow_core.specs.declared.refusals.Refusal.TheVariants as refused
 use Rattle.flow_core.specs.declared.state.Core.{Core}
 use Rattle.flow_model.specs.declared.commands.Command.{Command}
@@ -16,27 +11,21 @@ use Rattle.flow_model.specs.declared.graphs.Library.{Library}
 use Rattle.flow_model.specs.declared.instances.Message.{Message}
 use Rattle.flow_model.specs.declared.transactions.Transaction.{Transaction}
 use Rattle.flow_model.specs.declared.transactions.Transaction.TheVariants as made
-use Rattle.flow_session.specs.Asking.{AreTurns, NoneTaken, OneTaken, Asks, NoneAsked, JudgedSo, TurnsSoFar, OneMoreTurn}
+use Rattle.flow_session.specs.Asking.{Asks, NoneAsked, JudgedSo, TurnsSoFar, OneMoreTurn}
 use Rattle.flow_session.specs.Asking.{AsksSaid, AsksOutside, AsksText, AsksInside, AsksInput}
 use Rattle.flow_session.specs.Inputs.{Given, Line, Long, End, Unended}
 use Rattle.machine.specs.Imports.{Adds, nothing_added}
 use Rattle.machine.specs.States.{State}
-use Rattle.machine.specs.Steps.{Runs, after}
+use Rattle.machine.specs.Steps.{after}
 use Rattle.machine.specs.Verdicts as machine
 use Rattle.machine_laws.specs.Viewed.{view}
 use Rattle.machine_verdicts.proofs.Verdicts.{verdict_seen}
 use Rattle.machine_verdicts.specs.Keyed.{AreKeyed}
-use Rattle.recover_queue.specs.Queues.{queue as messages_of}
 use Rattle.reopening_laws.specs.Making.{MadeByCommands}
+use Rattle.reopening_laws.proofs.Sessions.{made_more, turn_judged, turns_made}
 use Rattle.run_laws.specs.Left.{AreOfLastCall}
 
 -- ---- histories
-
-pub made_more : (s : State) (ts us : List Transaction) (mid s' : State) → MadeByCommands s ts mid
-    → MadeByCommands mid us s' → MadeByCommands s (ts ++ us) s'
-made_more s [] us mid s' first second = subst (λ (x : State). MadeByCommands x us s') first second
-made_more s (t ∷ ts) us mid s' first second =
-    (first.0, first.1, first.2, first.3, made_more first.1 ts us mid s' first.4 second)
 
 made_none : (s : State) (ts : List Transaction) → ts ≡ [] → AreOfLastCall s ts
 made_none s ts none =
@@ -63,45 +52,6 @@ one_judged s command t judged = go (adds_or_not t)
         inl (next, (command, next, judged, record { added = nothing_added; adds = adds s.library; next = refl }, refl))
 
 -- ---- turns
-
-none_refuses : (a b d room : Bool) (queue empty full : Refusal) → (a && b && d) ≡ true → room ≡ true
-    → None ≡ machine.first_of (machine.unless (a && b) queue ∷ machine.unless d empty ∷ machine.unless room full ∷ [])
-none_refuses true true true true queue empty full has free = refl
-none_refuses true true true false queue empty full has free = absurd (cc)
-none_refuses true true false room queue empty full has free = absurd (cc)
-none_refuses true false d room queue empty full has free = absurd (cc)
-none_refuses false b d room queue empty full has free = absurd (cc)
-
--- a TURN of a queue that has a message is judged to that, below the limit
-turn_judged : (c : Core) (queue : ℕ) (message : Message) → has_message c queue ≡ true → IsFront c queue message
-    → c.number < c.limit → machine.IsVerdict (view c) (asked.Turn queue) (Do (made.Turn queue message))
-turn_judged c queue message has front room = (
-  refl,
-  none_refuses (nat_le 1 queue) (nat_le queue (length c.queues))
-      (is_some (slice_get (messages_of c.queues queue) 0)) (nat_lt c.number c.limit)
-      (refused.Queue (length c.queues)) (refused.Empty queue) (refused.Full c.limit) has
-      (lt-ltb c.number c.limit room),
-  (message, front, refl),
-)
-
-one_made : (s : State) (command : Command) (t : Transaction) (s' : State) → machine.IsVerdict s command (Do t)
-    → Runs s (t ∷ []) s' → MadeByCommands s (t ∷ []) s'
-one_made s command t s' judged run = (command, run.0, judged, run.1, run.2)
-
--- turns of a right state
-turns_made : (c : Core) (ts : List Transaction) (from : ℕ) (d : Core) → AreTurns c ts from d → IsRightCore c
-    → MadeByCommands (view c) ts (view d) × IsRightCore d
-turns_made c _ _ _ NoneTaken right = (refl, right)
-turns_made c _ _ _ (OneTaken {ts} {us} {from} {queue} {c'} {c''} turns next turn) right =
-    let before = turns_made c ts from c' turns right in
-    let taken = turn.0 in
-    let t = made.Turn queue taken.message in
-    let judged = turn_judged c' queue taken.message next.has taken.front taken.room in
-    let one = one_made (view c') (asked.Turn queue) t (view c'') judged (taken.leads.steps before.1) in (
-      made_more (view c) ts us (view c') (view c'') before.0
-          (subst (λ (xs : List Transaction). MadeByCommands (view c') xs (view c'')) (sym turn.1) one),
-      taken.leads.right before.1,
-    )
 
 -- one turn more
 turn_more : (s : State) (ts : List Transaction) (mid : State) (queue : ℕ) (message : Message) → MadeByCommands s ts mid
