@@ -13,7 +13,9 @@ use Rattle.flow_session.specs.declared.journal.NoJournal.{NoJournal}
 use Rattle.flow_session.specs.declared.serving.Session.{Session}
 use Rattle.flow_session.proofs.Present.{present_some, present_none}
 use Rattle.live_history.specs.Rows.{HistoryRow, present}
-use Rattle.flow_words.specs.Loading.{ServesInMemory, Serves, lines, next_number, number_of, amount_by, is_above, above, root_script, roots_script, import_script, is_turn, turns_of, done_in, load_line, IsSummary, IsLoaded}
+use Rattle.flow_words.specs.Loading.{ServesInMemory, Serves, lines, next_number, number_of, amount_by, root_script, roots_script}
+use Rattle.flow_words.specs.Loading.{import_script, is_turn, turns_of, done_in, AreFinished, load_line}
+use Rattle.flow_words.specs.Loading.{IsSummary, IsLoaded}
 use Rattle.flow_words.specs.Scripts.{all_replies, IsFresh}
 use Rattle.flow_words.specs.declared.load.Loading.{Loading}
 
@@ -65,12 +67,6 @@ serves_line ls i d old mid new within before one =
 pub number_more : (seed root x x' : ℕ) → x' ≡ next_number x → x ≡ number_of seed root → x' ≡ number_of seed (root + 1)
 number_more seed root x x' next is = next ∙ ap next_number is ∙ ap (number_of seed) (sym (add-one root))
 
-pub above_more : (seed root count count' amount : ℕ) → amount ≡ amount_by (number_of seed (root + 1)) → count ≡ above seed root → count' ≡ count + (if is_above amount then 1 else 0) → count' ≡ above seed (root + 1)
-above_more seed root count count' amount given is more =
-    more ∙ ap (λ (n : ℕ). n + (if is_above amount then 1 else 0)) is
-    ∙ ap (λ (a : ℕ). above seed root + (if is_above a then 1 else 0)) (given ∙ ap (λ (r : ℕ). amount_by (number_of seed r)) (add-one root))
-    ∙ ap (above seed) (sym (add-one root))
-
 pub serves_root : (seed root amount : ℕ) (old mid new : Loading) → amount ≡ amount_by (number_of seed (root + 1)) → Serves (roots_script seed root) old mid → Serves (root_script (root + 1) amount) mid new → Serves (roots_script seed (root + 1)) old new
 serves_root seed root amount old mid new given before one =
     let here : Serves (root_script (suc root) (amount_by (number_of seed (suc root)))) mid new =
@@ -97,18 +93,25 @@ pub turns_same : (rows : List HistoryRow) (i : ℕ) (row : HistoryRow) → i < l
     → (count : ℕ) → count ≡ turns_of (present (take i rows)) → count ≡ turns_of (present (take (i + 1) rows))
 turns_same rows i row less is none count before = before ∙ ap turns_of (sym (present_none rows i row less is none))
 
-pub sums_up : {E : Type 0} (r : Result (Vec ℕ) E) (load : Loading) (core : Core) (seed roots number turns done over : ℕ) → core ≡ load.session.core → number ≡ core.number → turns ≡ turns_of core.live.items → done ≡ done_in core
-    → IfOk r (λ text. text.items ≡ load_line (seed ∷ roots ∷ number ∷ turns ∷ done ∷ over ∷ load.bytes ∷ [])) → IfOk r (λ text. IsSummary seed roots over load text.items)
-sums_up (Ok text) load core seed roots number turns done over same is taken ended line =
-    line
-    ∙ ap (λ (n : ℕ). load_line (seed ∷ roots ∷ n ∷ turns ∷ done ∷ over ∷ load.bytes ∷ [])) (is ∙ ap (λ (c : Core). c.number) same)
-    ∙ ap (λ (n : ℕ). load_line (seed ∷ roots ∷ load.session.core.number ∷ n ∷ done ∷ over ∷ load.bytes ∷ [])) (taken ∙ ap (λ (c : Core). turns_of c.live.items) same)
-    ∙ ap (λ (n : ℕ). load_line (seed ∷ roots ∷ load.session.core.number ∷ turns_of load.session.core.live.items ∷ n ∷ over ∷ load.bytes ∷ [])) (ended ∙ ap done_in same)
-sums_up (Err e) load core seed roots number turns done over same is taken ended line = tt
+pub sums_up : {E : Type 0} (r : Result (Vec ℕ) E) (load : Loading) (core : Core) (seed roots number turns done finished : ℕ)
+    → core ≡ load.session.core → number ≡ core.number → turns ≡ turns_of core.live.items → AreFinished core roots finished
+    → done ≡ done_in core
+    → IfOk r (λ text. text.items ≡ load_line (seed ∷ roots ∷ number ∷ turns ∷ done ∷ finished ∷ load.bytes ∷ []))
+    → IfOk r (λ text. IsSummary seed roots load text.items)
+sums_up (Ok text) load core seed roots number turns done finished same is taken so ended line = record {
+  finished = finished;
+  counted = subst (λ (c : Core). AreFinished c roots finished) same so;
+  told = line
+      ∙ ap (λ (n : ℕ). load_line (seed ∷ roots ∷ n ∷ turns ∷ done ∷ finished ∷ load.bytes ∷ [])) (is ∙ ap (λ (c : Core). c.number) same)
+      ∙ ap (λ (n : ℕ). load_line (seed ∷ roots ∷ load.session.core.number ∷ n ∷ done ∷ finished ∷ load.bytes ∷ [])) (taken ∙ ap (λ (c : Core). turns_of c.live.items) same)
+      ∙ ap (λ (n : ℕ). load_line (seed ∷ roots ∷ load.session.core.number ∷ turns_of load.session.core.live.items ∷ n ∷ finished ∷ load.bytes ∷ [])) (ended ∙ ap done_in same);
+}
+sums_up (Err e) load core seed roots number turns done finished same is taken so ended line = tt
 
-pub loaded : {E : Type 0} (r : Result (Vec ℕ) E) (seed roots over : ℕ) (first mid last : Loading) → IsFresh 4 10000000 first.session → first.bytes ≡ 0 → Serves import_script first mid → Serves (roots_script seed roots) mid last → over ≡ above seed roots → IfOk r (λ text. IsSummary seed roots over last text.items)
-    → IfOk r (λ text. IsLoaded seed roots text.items)
-loaded (Ok text) seed roots over first mid last fresh none imports serves is told =
+pub loaded : {E : Type 0} (r : Result (Vec ℕ) E) (seed roots : ℕ) (first mid last : Loading) → IsFresh 4 10000000 first.session
+    → first.bytes ≡ 0 → Serves import_script first mid → Serves (roots_script seed roots) mid last
+    → IfOk r (λ text. IsSummary seed roots last text.items) → IfOk r (λ text. IsLoaded seed roots text.items)
+loaded (Ok text) seed roots first mid last fresh none imports serves sums =
     let all = serves_behind import_script (roots_script seed roots) first mid last imports serves in
     record {
       before = first.session;
@@ -118,8 +121,9 @@ loaded (Ok text) seed roots over first mid last fresh none imports serves is tol
       replies = all.replies;
       fresh = fresh;
       served = all.served;
-      told = told
-          ∙ ap (λ (n : ℕ). load_line (seed ∷ roots ∷ last.session.core.number ∷ turns_of last.session.core.live.items ∷ done_in last.session.core ∷ n ∷ last.bytes ∷ [])) is
-          ∙ ap (λ (n : ℕ). load_line (seed ∷ roots ∷ last.session.core.number ∷ turns_of last.session.core.live.items ∷ done_in last.session.core ∷ above seed roots ∷ n ∷ [])) (all.counted ∙ (let e : first.bytes + length (all_replies all.replies) ≡ length (all_replies all.replies) = omega (arith, none) in e));
+      finished = sums.finished;
+      counted = sums.counted;
+      told = sums.told
+          ∙ ap (λ (n : ℕ). load_line (seed ∷ roots ∷ last.session.core.number ∷ turns_of last.session.core.live.items ∷ done_in last.session.core ∷ sums.finished ∷ n ∷ [])) (all.counted ∙ (let e : first.bytes + length (all_replies all.replies) ≡ length (all_replies all.replies) = omega (arith, none) in e));
     }
-loaded (Err e) seed roots over first mid last fresh none imports serves is line = tt
+loaded (Err e) seed roots first mid last fresh none imports serves sums = tt

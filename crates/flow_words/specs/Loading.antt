@@ -1,11 +1,14 @@
 -- What `load` serves and prints: a script that two numbers make, and the line that sums it up.
 use Rattle.std.specs.Prelude.{◌≡◌, ◌⊎◌, ℕ, zero, suc, ◌+◌, ◌*◌, ◌/◌, ◌%◌, ◌-◌, ◌^◌, min, nat_lt, Bool, true, false}
-use Rattle.std.specs.Prelude.{if◌then◌else◌, count_by, Option, List, [], ◌∷◌, ◌++◌, length, map, codes}
-use Rattle.std.specs.Prelude.{decimal}
-use Rattle.std.specs.List.{flat_map}
+use Rattle.std.specs.Prelude.{◌==◌, ◌&&◌, if◌then◌else◌, count_by, Option, Some, None, List, [], ◌∷◌, ◌++◌, length, map}
+use Rattle.std.specs.Prelude.{bytes_eq, codes, decimal}
+use Rattle.std.specs.List.{flat_map, list_any}
 use Rattle.std.specs.Io.KnownBytes.{Keeps}
-use Rattle.flow_core.specs.Answers.{done_roots}
+use Rattle.flow_core.specs.Answers.{done_roots, instance_of, AreBegun}
 use Rattle.flow_core.specs.declared.state.Core.{Core}
+use Rattle.flow_model.specs.declared.instances.Fate.{Fate}
+use Rattle.flow_model.specs.declared.instances.Fate.TheVariants.{Finished}
+use Rattle.flow_model.specs.declared.instances.FateRow.{FateRow}
 use Rattle.flow_model.specs.declared.transactions.Numbered.{Numbered}
 use Rattle.flow_model.specs.declared.transactions.Transaction.{Transaction}
 use Rattle.flow_model.specs.declared.transactions.Transaction.TheVariants.{Turn}
@@ -38,11 +41,6 @@ amount_by x = x / 65536 % 201
 -- an amount takes the way of those above 100
 abbrev pub is_above : ℕ → Bool
 is_above amount = nat_lt 100 amount
-
--- how many of this number of first roots have an amount above 100
-abbrev pub above : ℕ → ℕ → ℕ
-above seed zero = 0
-above seed (suc root) = above seed root + (if is_above (amount_by (number_of seed (suc root))) then 1 else 0)
 
 -- ---- the script
 
@@ -108,7 +106,7 @@ abbrev pub ServesInMemory : Session → NoJournal → List Given → List (List 
 ServesInMemory s j inputs replies s' j' = ServesAll ⊥ (λ _ _. ⊥) (λ _. 0) (λ _ _ _. ⊥) (λ _. (A, 0))
     (λ _ _ _. Unit {0}) s j inputs replies s' j'
 
--- ---- the line
+-- ---- what is counted
 
 abbrev pub is_turn : Transaction → Bool
 is_turn (Turn queue message) = true
@@ -122,14 +120,35 @@ turns_of live = count_by (λ n. is_turn n.transaction) live
 abbrev pub done_in : Core → ℕ
 done_in c = min (done_roots c) (2 ^ 64 - 1)
 
+abbrev pub is_finished : Fate → Bool
+is_finished (Finished attempt) = true
+is_finished fate = false
+
+-- a row says that B is finished, in the scope of the root itself
+abbrev pub finishes_b : FateRow → Bool
+finishes_b row = (length row.scope.parts == 0) && bytes_eq row.name (codes "B") && is_finished row.fate
+
+-- one of the rows of a root says so; there are none where it isn't live
+abbrev pub has_finished_b : Option (List FateRow) → Bool
+has_finished_b None = false
+has_finished_b (Some rows) = list_any finishes_b rows
+
+-- of this number of first roots, by what the state shows of each, so many have a finished B
+abbrev pub AreFinished : Core → ℕ → ℕ → Type 0
+AreFinished c zero count = count ≡ 0
+AreFinished c (suc root) count = (before : ℕ) × (shown : Option (List FateRow)) × AreFinished c root before
+    × AreBegun c.store.catalog.library (instance_of c (suc root)) shown
+    × (count ≡ before + (if has_finished_b shown then 1 else 0))
+
+-- ---- the line
+
 -- the line of a load: seed, roots, and what is counted, with a space before each number
 abbrev pub load_line : List ℕ → List ℕ
 load_line numbers = codes "ok LOAD" ++ flat_map (λ n. 32 ∷ decimal n) numbers ++ 10 ∷ []
 
 -- The script of a load was served over the empty history of a store with 4 queues and a limit of 10,000,000, and the
--- text sums it up:
--- the transactions, the turns, the roots that are done, the roots whose amount is above 100, and the bytes of all
--- replies.
+-- text sums it up: the transactions, the turns, the roots that are done, the roots whose B is finished, and the bytes
+-- of all replies.
 pub record IsLoaded (seed roots : ℕ) (text : List ℕ) : Type 0 where
   pub before : Session
   pub after : Session
@@ -138,8 +157,10 @@ pub record IsLoaded (seed roots : ℕ) (text : List ℕ) : Type 0 where
   pub replies : List (List ℕ)
   pub fresh : IsFresh 4 10000000 before
   pub served : ServesInMemory before journal (load_script seed roots) replies after journal'
+  pub finished : ℕ
+  pub counted : AreFinished after.core roots finished
   pub told : text ≡ load_line (seed ∷ roots ∷ after.core.number ∷ turns_of after.core.live.items ∷ done_in after.core ∷
-      above seed roots ∷ length (all_replies replies) ∷ [])
+      finished ∷ length (all_replies replies) ∷ [])
 
 -- ---- the steps of a load
 
@@ -149,11 +170,12 @@ pub record Serves (inputs : List Given) (old new : Loading) : Type 0 where
   pub served : ServesInMemory old.session old.journal inputs replies new.session new.journal
   pub counted : new.bytes ≡ old.bytes + length (all_replies replies)
 
--- the line of a load that has come so far, where this number of amounts is above 100
-abbrev pub IsSummary : ℕ → ℕ → ℕ → Loading → List ℕ → Type 0
-IsSummary seed roots over load text = text ≡ load_line
-    (seed ∷ roots ∷ load.session.core.number ∷ turns_of load.session.core.live.items ∷ done_in load.session.core ∷ over
-    ∷ load.bytes ∷ [])
+-- the line of a load that has come so far
+pub record IsSummary (seed roots : ℕ) (load : Loading) (text : List ℕ) : Type 0 where
+  pub finished : ℕ
+  pub counted : AreFinished load.session.core roots finished
+  pub told : text ≡ load_line (seed ∷ roots ∷ load.session.core.number ∷ turns_of load.session.core.live.items
+      ∷ done_in load.session.core ∷ finished ∷ load.bytes ∷ [])
 
 -- ---- what is printed
 

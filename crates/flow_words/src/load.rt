@@ -1,16 +1,18 @@
 //! The word `load`: a made script over a history in memory, and one line that sums it up.
 ghost use Rattle.std.specs.Prelude.{◌≡◌, ◌+◌, ◌<◌, ◌^◌, ◌++◌, ◌∷◌, [], List, ℕ, map, OnOk, IfOk, if◌then◌else◌};
-ghost use Rattle.std.specs.List.{flat_map};
+ghost use Rattle.std.specs.List.{flat_map, list_any};
 ghost use Rattle.flow_session.specs.Inputs.{Line as LineOf};
 ghost use Rattle.flow_words.specs.Loading.{next_number as number_behind, amount_by, is_above as above_test};
-ghost use Rattle.flow_words.specs.Loading.{above as above_in, drained as drained_lines, force_line as force_of};
-ghost use Rattle.flow_words.specs.Loading.{force_with, start_line as start_of, root_script, roots_script};
+ghost use Rattle.flow_words.specs.Loading.{drained as drained_lines, force_line as force_of, force_with};
+ghost use Rattle.flow_words.specs.Loading.{start_line as start_of, root_script, roots_script};
+ghost use Rattle.flow_words.specs.Loading.{finishes_b as finishing, AreFinished};
 ghost use Rattle.flow_words.specs.Loading.{import_script, lines as lines_of, is_turn as turn_test, turns_of, load_line};
 ghost use Rattle.flow_words.specs.Loading.{Serves, IsSummary, IsLoaded};
 ghost use Rattle.flow_words.specs.Scripts.{IsFresh};
 ghost use Rattle.live_history.specs.Rows.{present};
 
-use flow_model::{Numbered, Transaction};
+use flow_core::Core;
+use flow_model::{Fate, FateRow, Numbered, Transaction};
 use flow_session::{Input, NoJournal, Session};
 use flow_text::decimal;
 use std::alloc::{AllocError, Global};
@@ -72,13 +74,6 @@ fn way(amount: u64) -> u8
     ensures { result ≡ (if above_test amount then 66 else 67) }
 {
     if is_above(amount) { b'B' } else { b'C' }
-}
-
-/// What an amount adds to the count of those above 100.
-fn count_of(amount: u64) -> u64
-    ensures { result ≡ (if above_test amount then 1 else 0) }
-{
-    if is_above(amount) { 1 } else { 0 }
 }
 
 /// A count with more; one of 2^64 or more has no memory.
@@ -214,19 +209,16 @@ impl Loading {
         Ok(())
     }
 
-    /// So many roots, one after the other; tells how many have an amount above 100.
-    fn roots(&mut self, seed: u64, roots: u64) -> Result<u64, AllocError>
-        ensures served { OnOk result (Serves (roots_script seed roots) self.old self.new) }
-        ensures above { IfOk result (λ above. above ≡ above_in seed roots) }
+    /// This number of roots, one after the other.
+    fn roots(&mut self, seed: u64, roots: u64) -> Result<(), AllocError>
+        ensures { OnOk result (Serves (roots_script seed roots) self.old self.new) }
     {
         let mut x = seed;
-        let mut above = 0u64;
         for before in 0..roots {
             x = next_number(x);
             self.root(before + 1, amount(x))?;
-            above = with_more(above, count_of(amount(x)))?;
         }
-        Ok(above)
+        Ok(())
     }
 }
 
@@ -254,6 +246,38 @@ fn turns(rows: &[Option<Numbered>]) -> Result<u64, AllocError>
     Ok(turns)
 }
 
+/// Whether a row says that B is finished, in the scope of the root itself.
+fn finishes_b(row: &FateRow) -> bool
+    ensures { result ≡ finishing row.now }
+{
+    row.scope.parts.is_empty()
+        && row.name.as_slice() == b"B".as_slice()
+        && matches!(row.fate, Fate::Finished(_))
+}
+
+/// Whether one of the rows of a root says so.
+fn has_finished_b(rows: &[FateRow]) -> bool
+    ensures { result ≡ list_any finishing rows.now }
+{
+    rows.iter().any(|row| finishes_b(row))
+}
+
+/// How many of this number of first roots have a finished B; one that isn't live has none.
+fn finished_roots(alloc: Global, core: &Core, roots: u64) -> Result<u64, AllocError>
+    ensures { IfOk result (AreFinished core.now roots) }
+{
+    let mut finished = 0u64;
+    for before in 0..roots {
+        let Some(rows) = core.begun_rows(alloc, before + 1)? else {
+            continue;
+        };
+        if has_finished_b(rows.as_slice()) {
+            finished = with_more(finished, 1)?;
+        }
+    }
+    Ok(finished)
+}
+
 /// The line of a load with these numbers.
 fn line_of(alloc: Global, numbers: &[u64]) -> Result<Vec<u8>, AllocError>
     ensures { IfOk result (λ text. text.items ≡ load_line numbers.now) }
@@ -267,20 +291,21 @@ fn line_of(alloc: Global, numbers: &[u64]) -> Result<Vec<u8>, AllocError>
     Ok(text)
 }
 
-/// The line that sums a load up: seed, roots, transactions, turns, roots that are done, roots above 100, bytes of
-/// replies.
-fn summary(load: &Loading, seed: u64, roots: u64, above: u64) -> Result<Vec<u8>, AllocError>
-    ensures { IfOk result (λ text. IsSummary seed roots above load.now text.items) }
+/// The line that sums a load up: seed, roots, transactions, turns, roots that are done, roots whose B is finished,
+/// bytes of replies.
+fn summary(load: &Loading, seed: u64, roots: u64) -> Result<Vec<u8>, AllocError>
+    ensures { IfOk result (λ text. IsSummary seed roots load.now text.items) }
 {
     let core = load.session.core();
     let taken = turns(core.live().rows())?;
+    let finished = finished_roots(load.alloc, core, roots)?;
     let numbers = [
         seed,
         roots,
         core.number(),
         taken,
         core.done_count(),
-        above,
+        finished,
         load.bytes,
     ];
     line_of(load.alloc, &numbers)
@@ -292,6 +317,6 @@ pub fn load(alloc: Global, seed: u64, roots: u64) -> Result<Vec<u8>, AllocError>
 {
     let mut load = Loading::new(alloc)?;
     load.import()?;
-    let above = load.roots(seed, roots)?;
-    summary(&load, seed, roots, above)
+    load.roots(seed, roots)?;
+    summary(&load, seed, roots)
 }

@@ -3,5 +3,4 @@ use Rattle.flow_words.proofs.load.load.Goals as goal
 
 pub returns : goal.returns
 returns c =
-    loaded c.summary.result c.args.seed c.args.roots c.in_ok-above.above c.in_ok-load.load c.import.new.self c.roots.new.self c.in_ok-load.ensures.fresh c.in_ok-load.ensures.none c.in_ok-import.ensures c.in_ok-above.ensures.served c.in_ok-above.ensures.above
-    c.summary.ensures
+    loaded c.summary.result c.args.seed c.args.roots c.in_ok-load.load c.import.new.self c.roots.new.self c.in_ok-load.ensures.fresh c.in_ok-load.ensures.none c.in_ok-import.ensures c.in_ok-roots.ensures c.summary.ensures

@@ -1,10 +1,10 @@
-use Rattle.std.proofs.Common.{◌+◌, ◌∙◌, refl, ap}
+use Rattle.std.proofs.Common.{◌∙◌, refl, ap}
 use Rattle.flow_words.specs.Loading.{amount_by}
-use Rattle.flow_words.proofs.Loads.{serves_none, serves_root, number_more, above_more}
+use Rattle.flow_words.proofs.Loads.{serves_none, serves_root, number_more}
 use Rattle.flow_words.proofs.load.Loading.roots.Goals as goal
 
 pub loop-before-init : goal.loop-before-init
-loop-before-init c = record { number = refl; served = serves_none c.args.self.now; counted = refl }
+loop-before-init c = record { number = refl; served = serves_none c.args.self.now }
 
 pub loop-before-preserved : goal.loop-before-preserved
 loop-before-preserved c =
@@ -15,5 +15,4 @@ loop-before-preserved c =
     record {
       number = number;
       served = serves_root seed root c.amount.result c.args.self.now c.loop-before.self c.root.new.self (c.amount.ensures ∙ ap amount_by number) i.served c.in_ok-root.ensures;
-      counted = above_more seed root c.loop-before.above c.in_ok-above.above c.amount-in-loop-before.result (c.amount-in-loop-before.ensures ∙ ap amount_by number) i.counted (c.in_ok-above.ensures ∙ ap (λ n. c.loop-before.above + n) c.count_of.ensures);
     }
