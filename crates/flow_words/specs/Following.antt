@@ -37,7 +37,8 @@ abbrev pub ComesToResult : {D : Type 0} → Channels → Files D → Result Foll
 ComesToResult c f result =
     (MatchResult result (λ _. ⊥) (IsNotOpened (λ stop. f.disk.tells → IsUnopened (f.disk.seen f.old) stop))
     × Keeps c.left c.left' × IfSettled f (KeepsFiles f))
-    ⊎ FollowsOpened f.disk.tells (f.disk.seen f.old) (f.disk.images f.new) c.left c.left' result
+    ⊎ FollowsOpened f.disk.tells f.disk.moment f.disk.left_since f.disk.seen f.disk.images f.old f.new
+    c.left c.left' result
 
 -- `follow`: the result of following is printed
 pub record PrintsFollowed {D : Type 0} (c : Channels) (f : Files D) (ended : Status) : Type 0 where

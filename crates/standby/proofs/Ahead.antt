@@ -3,8 +3,8 @@ use Rattle.std.proofs.Common.{◌≡◌, ◌∙◌, ℕ, ◌+◌, ◌-◌, ◌<�
 use Rattle.std.specs.Io.KnownBytes.{Consumes, Keeps, IsAtEnd, prepend_known}
 use Rattle.std.specs.List.{slice_range}
 use Rattle.std.proofs.KnownBytes.{prepend_known-read, Consumes-kept, Consumes-nil, Consumes-trans}
-use Rattle.std.proofs.lemmas.List.{drop-take, drop-drop, length-take-le}
-use Rattle.standby.specs.Readers.{GoesOn, Gives}
+use Rattle.std.proofs.lemmas.List.{drop-take, drop-drop, length-drop, length-take-le}
+use Rattle.standby.specs.Readers.{GoesOn, Gives, HandsOut, HoldsBlock, Reader}
 use Rattle.standby.specs.Reading.{Looks, Grows}
 
 -- ---- bytes that are read
@@ -91,3 +91,32 @@ gives_more place at n before mid after old new behind gives grows =
 -- nothing was read behind those that were
 pub gives_same : (place : ℕ) (before mid after : Option (List ℕ)) (old new : List ℕ) → Gives place before mid old → Keeps mid after → new ≡ old → Gives place before after new
 gives_same place before mid after old new gives keeps same = subst (Gives place before after) (sym same) (gives_kept place before mid after old gives keeps)
+
+-- ---- what is held
+
+-- nothing is handed out
+pub hands_none : (reader : Reader) → HandsOut reader reader
+hands_none reader = record { on = omega arith; same = refl }
+
+-- some held bytes more are handed out
+pub hands_more : (first old new : Reader) (n : ℕ) → n ≤ length old.held
+    → new ≡ record { held = drop n old.held; place = old.place + n } → HandsOut first old → HandsOut first new
+hands_more first old new n fits is hands =
+    let place : new.place ≡ old.place + n = ap (λ (r : Reader). r.place) is in
+    let size : length new.held ≡ length (drop n old.held) = ap (λ (r : Reader). length r.held) is in
+    record {
+      on = omega (arith, hands.on, place);
+      same = omega (arith, hands.same, fits, place, size, length-drop n old.held);
+    }
+
+-- a block stays one where bytes of it are handed out
+pub hands_block : (old new : Reader) → HandsOut old new → HoldsBlock old → HoldsBlock new
+hands_block old new hands block = omega (arith, hands.on, hands.same, block)
+
+pub drops_block : (old new : Reader) (n : ℕ) → new ≡ record { held = drop n old.held; place = old.place + n }
+    → HoldsBlock old → HoldsBlock new
+drops_block old new n is block = omega (arith, block, ap (λ (r : Reader). length r.held) is, length-drop n old.held)
+
+-- a reader that holds nothing yet
+pub new_block : (reader : Reader) → reader ≡ record { held = []; place = 0 } → HoldsBlock reader
+new_block reader is = omega (arith, ap (λ (r : Reader). length r.held) is)

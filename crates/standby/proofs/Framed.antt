@@ -30,6 +30,17 @@ framed_is bytes four payload len long first is_four spells is some most fits =
 pub frame_long : (payload : List ℕ) → length (frame_bytes payload) ≡ 5 + length payload
 frame_long payload = let four : length (to_be_bytes w32 (min (length payload) (2 ^ 32 - 1))) ≡ 4 = refl in simp length-append (omega arith)
 
+-- a frame that is held lies in what is held
+pub frame_fits : (reader : Reader) (payload : List ℕ) → HoldsFrame reader payload
+    → 5 + length payload ≤ length reader.held
+frame_fits reader payload holds = omega (
+  arith,
+  ap length holds.begins.whole,
+  length-append (frame_bytes payload)
+      holds.begins.rest,
+  frame_long payload,
+)
+
 -- the first of the bytes that are held
 pub held_front : (items : List ℕ) (from to n : ℕ) → n ≤ to - from → take (from + n - from) (drop from items) ≡ take n (slice_range items from to)
 held_front items from to n fits =

@@ -1,26 +1,32 @@
 -- How following goes from stage to stage, and how it ends.
-use Rattle.std.proofs.Common.{◌≡◌, ◌∙◌, ◌⊎◌, inl, inr, ⊎_elim, ℕ, ◌+◌, Bool, true, false, List, [], length, Option, Result, Ok, Err, IfErr, ap, sym, subst, refl, arith}
-use Rattle.std.specs.Io.KnownBytes.{prepend_known}
+use Rattle.std.proofs.Common.{◌≡◌, ◌∙◌, ◌⊎◌, inl, inr, ⊎_elim, ℕ, ◌+◌, ◌≤◌, Bool, true, false, List, [], length, Option, Result, Ok, Err, IfErr, ap, sym, subst, refl, arith}
+use Rattle.std.specs.Io.KnownBytes.{Keeps, prepend_known}
 use Rattle.std.specs.Result.{IsErrAnd}
-use Rattle.std.proofs.KnownBytes.{prepend_known-nil}
+use Rattle.std.proofs.KnownBytes.{Keeps-refl, prepend_known-nil}
 use Rattle.core_laws.specs.RightStates.{IsRightCore}
 use Rattle.flow_core.specs.Refusals.{IsInOrder}
 use Rattle.flow_core.specs.Summaries.{Summary, summary}
 use Rattle.flow_core.specs.declared.state.Core.{Core}
+use Rattle.flow_disk.specs.Images.{Image}
+use Rattle.flow_disk.specs.Moments.{LeavesOnly}
+use Rattle.flow_disk.proofs.Runs.{joined, weaker}
+use Rattle.flow_session.specs.Histories.{StandsFor}
 use Rattle.txn_log.specs.Records.{IsPayload}
 use Rattle.standby.specs.declared.following.Followed.{Followed}
 use Rattle.standby.specs.declared.stops.FollowStop.{FollowStop}
 use Rattle.standby.specs.declared.stops.FollowStop.TheVariants.{Store, Frame, Cut, Other, Gap, NotAllowed, ReadFault, TooLong, NoMemory}
 use Rattle.standby.specs.declared.frames.Front.{Front}
 use Rattle.standby.specs.Endings.{FollowEnd}
-use Rattle.standby.specs.Frames.{StopsFrame, EndsThere}
+use Rattle.standby.specs.Followed.{StandsBehind}
+use Rattle.standby.specs.Frames.{StopsFrame, EndsThere, most_frame}
 use Rattle.standby.specs.Fronts.{FrontJudged}
-use Rattle.standby.specs.Readers.{Reader, Gives, ahead}
+use Rattle.standby.specs.Readers.{Reader, Gives, HoldsBlock, ahead, most_held}
 use Rattle.standby.specs.Reading.{Reads}
 use Rattle.standby.specs.Stages.{TakesPayload, StopsPayload, Stage, stage, Reaches, Here, Further, Goes, IsEnded, StopsAt, KeepsAt, StopsKept, FollowsFrames, FollowsHeld, ReadsFront, StopsBefore, PassesFront, IsDone, Follows, FollowsSource}
 use Rattle.standby.specs.Streams.{front_bytes, frame_bytes, end_bytes}
-use Rattle.standby.specs.Waiting.{IsKeptBy, TakesUpTo}
-use Rattle.standby.proofs.Ahead.{gives_kept}
+use Rattle.standby.specs.Waiting.{IsKeptBy, StandsUpTo, TakesUpTo}
+use Rattle.standby.proofs.Ahead.{gives_kept, gives_none, hands_block}
+use Rattle.standby.proofs.Framed.{frame_long}
 use Rattle.standby.proofs.Waiting.{reaches_on}
 
 -- ---- states
@@ -41,7 +47,7 @@ unread_frame IsKept MayKeep s after (Gap number) stops kept = absurd stops
 unread_frame IsKept MayKeep s after (NotAllowed number) stops kept = absurd stops
 unread_frame IsKept MayKeep s after ReadFault stops kept = (inl stops, kept)
 unread_frame IsKept MayKeep s after TooLong stops kept = (stops, kept)
-unread_frame IsKept MayKeep s after NoMemory stops kept = (tt, kept)
+unread_frame IsKept MayKeep s after NoMemory stops kept = (inl stops, kept)
 
 -- the payload at a stage isn't taken
 pub untaken_frame : (s : Stage) (after : Option (List ℕ)) (payload : List ℕ) (stop : FollowStop) → IsPayload payload → Gives s.place s.left after (frame_bytes payload) → StopsPayload s.place (s.number + 1) payload s.core stop → StopsAt s after stop
@@ -53,7 +59,12 @@ untaken_frame s after payload (Gap number) allowed frame stops = absurd stops.2
 untaken_frame s after payload (NotAllowed number) allowed frame stops = record { payload = payload; allowed = allowed; frame = frame; stops = stops }
 untaken_frame s after payload ReadFault allowed frame stops = absurd stops.2
 untaken_frame s after payload TooLong allowed frame stops = absurd stops.2
-untaken_frame s after payload NoMemory allowed frame stops = tt
+untaken_frame s after payload NoMemory allowed frame stops = inr (record {
+  payload = payload;
+  allowed = allowed;
+  frame = frame;
+  stops = stops;
+})
 
 -- the payload that was read at a stage isn't taken
 pub untaken_at : (s : Stage) (at : ℕ) (after : Option (List ℕ)) (given payload : List ℕ) (stop : FollowStop) → at ≡ s.place → given ≡ payload → IsPayload payload → Gives s.place s.left after (frame_bytes payload) → StopsPayload at (s.number + 1) given s.core stop → StopsAt s after stop
@@ -73,20 +84,63 @@ one_further first s s' given payload reached same allowed frame place number tak
       takes = subst (λ (n : ℕ). TakesPayload n payload s.core s.taken s'.core s'.taken) (sym number) (subst (λ (xs : List ℕ). TakesPayload (s.number + 1) xs s.core s.taken s'.core s'.taken) same takes);
     })
 
--- the frame at a stage is taken, and those behind it up to a state of which this is so
-goes_up_to : (s : Stage) (reader : Reader) (left : Option (List ℕ)) (given payload : List ℕ) (IsSo : Core → Type 0) → given ≡ payload → IsPayload payload → Gives s.place s.left (ahead reader left) (frame_bytes payload) → reader.place ≡ s.place + length (frame_bytes payload) → TakesUpTo s.number given reader s.core s.taken IsSo → Goes s (λ behind. IsSo behind.core)
+-- the frame at a stage is taken, and those behind it that are held
+goes_up_to : (s : Stage) (reader : Reader) (left : Option (List ℕ)) (given payload : List ℕ) (IsSo : Core → Type 0)
+    → given ≡ payload → IsPayload payload → Gives s.place s.left (ahead reader left) (frame_bytes payload)
+    → reader.place ≡ s.place + length (frame_bytes payload)
+    → (on : TakesUpTo s.number given reader s.core s.taken IsSo) → Reaches s
+    (stage on.core on.count on.number on.next left)
 goes_up_to s reader left given payload IsSo same allowed frame place on =
     let mid : Stage = stage on.takes.mid on.takes.count (s.number + 1) reader left in
     let last : Stage = stage on.core on.count on.number on.next left in
+    reaches_on s mid last (one_further s s mid given payload Here same allowed frame place refl on.takes.first)
+    (on.takes.behind left)
+
+-- an image stands for the state at a stage that is reached, or for one up to which frames are taken from there on
+pub stands_further : (first s : Stage) (reader : Reader) (left : Option (List ℕ)) (given payload : List ℕ)
+    (image : Image) → Reaches first s → given ≡ payload → IsPayload payload
+    → Gives s.place s.left (ahead reader left) (frame_bytes payload)
+    → reader.place ≡ s.place + length (frame_bytes payload)
+    → StandsUpTo s.number given reader s.core s.taken image → StandsBehind first image
+stands_further first s reader left given payload image reached same allowed frame place (inl stands) = record {
+  last = s;
+  reached = reached;
+  ended = stands;
+}
+stands_further first s reader left given payload image reached same allowed frame place (inr on) =
+    let last : Stage = stage on.core on.count on.number on.next left in
     record {
       last = last;
-      reached = reaches_on s mid last (one_further s s mid given payload Here same allowed frame place refl on.takes.first) (on.takes.behind left);
+      reached = reaches_on first s last reached
+          (goes_up_to s reader left given payload (λ core. StandsFor (summary core) image) same allowed frame place
+          on);
       ended = on.so;
     }
 
+-- so does whatever a crash leaves
+pub leaves_further : {D : Type 0} (moment : D → ℕ) (left_since : D → ℕ → Image → Type 0) (old mid new : D)
+    (first s : Stage) (reader : Reader) (left : Option (List ℕ)) (given payload : List ℕ) → Reaches first s
+    → given ≡ payload → IsPayload payload → Gives s.place s.left (ahead reader left) (frame_bytes payload)
+    → reader.place ≡ s.place + length (frame_bytes payload)
+    → LeavesOnly moment left_since old mid (StandsBehind first) → LeavesOnly moment left_since mid new
+    (StandsUpTo s.number given reader s.core s.taken) → LeavesOnly moment left_since old new (StandsBehind first)
+leaves_further moment left_since old mid new first s reader left given payload reached same allowed frame place before
+    now =
+    joined moment left_since (λ disk image. left_since disk 0 image) old mid new (StandsBehind first) before
+    (weaker moment left_since (λ disk image. left_since disk 0 image) mid new
+    (StandsUpTo s.number given reader s.core s.taken) (StandsBehind first) now
+    (λ image may. stands_further first s reader left given payload image reached same allowed frame place may))
+
+-- they lie in a frame and a block
+not_far : (s : Stage) (reader : Reader) (given payload : List ℕ) (IsSo : Core → Type 0) → IsPayload payload
+    → reader.place ≡ s.place + length (frame_bytes payload) → HoldsBlock reader
+    → (on : TakesUpTo s.number given reader s.core s.taken IsSo) → on.next.place ≤ s.place + most_frame + most_held
+not_far s reader given payload IsSo allowed place block on = omega
+    (arith, place, frame_long payload, allowed.1, block, on.hands.same)
+
 -- where the state at a stage is kept, so much is
 keeps_at : (IsKept : Core → Type 0) (MayKeep : Core → Core → Type 0) (s : Stage) (stop : FollowStop) → IsKept s.core → MayKeep s.core s.core → KeepsAt IsKept MayKeep s stop
-keeps_at IsKept MayKeep s (Store stop) kept may = record { last = s; reached = Here; ended = may }
+keeps_at IsKept MayKeep s (Store stop) kept may = record { last = s; reached = Here; ended = (may, omega arith) }
 keeps_at IsKept MayKeep s (Frame at) kept may = kept
 keeps_at IsKept MayKeep s (Cut number) kept may = kept
 keeps_at IsKept MayKeep s Other kept may = kept
@@ -96,31 +150,102 @@ keeps_at IsKept MayKeep s ReadFault kept may = kept
 keeps_at IsKept MayKeep s TooLong kept may = kept
 keeps_at IsKept MayKeep s NoMemory kept may = kept
 
+-- following stops behind a stage, and so many of the bytes that were taken aren't read yet
+pub record StopsHeld (IsKept : Core → Type 0) (MayKeep : Core → Core → Type 0) (first : Stage)
+    (left : Option (List ℕ)) (stop : FollowStop) : Type 0 where
+  pub held : List ℕ
+  pub block : length held ≤ most_held
+  pub goes : Goes first (λ last. StopsKept IsKept MayKeep last (prepend_known held left) stop)
+
 -- frames behind a stage were taken where the call stops there
-stops_behind : (IsKept : Core → Type 0) (MayKeep : Core → Core → Type 0) (first s : Stage) (after : Option (List ℕ)) (stop : FollowStop) → Reaches first s → StopsAt s after stop → Goes s (λ behind. IsKeptBy stop IsKept (MayKeep s.core) behind.core) → Goes first (λ last. StopsKept IsKept MayKeep last after stop)
-stops_behind IsKept MayKeep first s after (Store stop) reached stops goes = record { last = s; reached = reached; ended = (stops, goes) }
-stops_behind IsKept MayKeep first s after (Frame at) reached stops goes = absurd goes.ended
-stops_behind IsKept MayKeep first s after (Cut number) reached stops goes = absurd goes.ended
-stops_behind IsKept MayKeep first s after Other reached stops goes = absurd goes.ended
-stops_behind IsKept MayKeep first s after (Gap number) reached stops goes = absurd goes.ended
-stops_behind IsKept MayKeep first s after (NotAllowed number) reached stops goes = absurd goes.ended
-stops_behind IsKept MayKeep first s after ReadFault reached stops goes = absurd goes.ended
-stops_behind IsKept MayKeep first s after TooLong reached stops goes = absurd goes.ended
-stops_behind IsKept MayKeep first s after NoMemory reached stops goes = record { last = goes.last; reached = reaches_on first s goes.last reached goes.reached; ended = (tt, goes.ended) }
+stops_behind : (IsKept : Core → Type 0) (MayKeep : Core → Core → Type 0) (first s : Stage) (reader : Reader)
+    (left : Option (List ℕ)) (given payload : List ℕ) (stop : FollowStop) → Reaches first s
+    → StopsAt s (ahead reader left) stop → given ≡ payload → IsPayload payload
+    → Gives s.place s.left (ahead reader left) (frame_bytes payload)
+    → reader.place ≡ s.place + length (frame_bytes payload) → HoldsBlock reader
+    → TakesUpTo s.number given reader s.core s.taken (IsKeptBy stop IsKept (MayKeep s.core))
+    → StopsHeld IsKept MayKeep first left stop
+stops_behind IsKept MayKeep first s reader left given payload (Store stop) reached stops same allowed frame place
+    block on = record {
+      held = reader.held;
+      block = block;
+      goes = record {
+        last = s;
+        reached = reached;
+        ended = (
+          stops,
+          record {
+            last = stage on.core on.count on.number on.next left;
+            reached = goes_up_to s reader left given payload (MayKeep s.core) same allowed frame place on;
+            ended = (on.so, not_far s reader given payload (MayKeep s.core) allowed place block on);
+          },
+        );
+      };
+    }
+stops_behind IsKept MayKeep first s reader left given payload (Frame at) reached stops same allowed frame place block
+    on = absurd on.so
+stops_behind IsKept MayKeep first s reader left given payload (Cut number) reached stops same allowed frame place
+    block on = absurd on.so
+stops_behind IsKept MayKeep first s reader left given payload Other reached stops same allowed frame place block on =
+    absurd on.so
+stops_behind IsKept MayKeep first s reader left given payload (Gap number) reached stops same allowed frame place
+    block on = absurd on.so
+stops_behind IsKept MayKeep first s reader left given payload (NotAllowed number) reached stops same allowed frame
+    place block on = absurd on.so
+stops_behind IsKept MayKeep first s reader left given payload ReadFault reached stops same allowed frame place block
+    on = absurd on.so
+stops_behind IsKept MayKeep first s reader left given payload TooLong reached stops same allowed frame place block on
+    = absurd on.so
+stops_behind IsKept MayKeep first s reader left given payload NoMemory reached stops same allowed frame place block on =
+    let last : Stage = stage on.core on.count on.number on.next left in
+    record {
+      held = on.next.held;
+      block = hands_block reader on.next on.hands block;
+      goes = record {
+        last = last;
+        reached = reaches_on first s last reached
+            (goes_up_to s reader left given payload IsKept same allowed frame place on);
+        ended = (
+          inl (record {
+            part = [];
+            given = gives_none on.next.place (ahead on.next left) (ahead on.next left)
+                (Keeps-refl (ahead on.next left));
+            is = inl refl;
+          }),
+          on.so,
+        );
+      };
+    }
 
 -- the frame that was read at a stage isn't taken: all is as it was, and the state there is kept; or that frame was taken, and those behind it up to a state
-pub stops_next : (IsKept : Core → Type 0) (MayKeep : Core → Core → Type 0) (Same : Type 0) (first s : Stage) (reader : Reader) (left : Option (List ℕ)) (given payload : List ℕ) (stop : FollowStop) → Reaches first s → StopsAt s (ahead reader left) stop → given ≡ payload → IsPayload payload → Gives s.place s.left (ahead reader left) (frame_bytes payload) → reader.place ≡ s.place + length (frame_bytes payload) → (Same → IsKept s.core) → (Same → MayKeep s.core s.core) → Same ⊎ TakesUpTo s.number given reader s.core s.taken (IsKeptBy stop IsKept (MayKeep s.core)) → Goes first (λ last. StopsKept IsKept MayKeep last (ahead reader left) stop)
-stops_next IsKept MayKeep Same first s reader left given payload stop reached stops same allowed frame place kept may (inl is) =
-    record { last = s; reached = reached; ended = (stops, keeps_at IsKept MayKeep s stop (kept is) (may is)) }
-stops_next IsKept MayKeep Same first s reader left given payload stop reached stops same allowed frame place kept may (inr on) =
-    stops_behind IsKept MayKeep first s (ahead reader left) stop reached stops (goes_up_to s reader left given payload (IsKeptBy stop IsKept (MayKeep s.core)) same allowed frame place on)
+pub stops_next : (IsKept : Core → Type 0) (MayKeep : Core → Core → Type 0) (Same : Type 0) (first s : Stage)
+    (reader : Reader) (left : Option (List ℕ)) (given payload : List ℕ) (stop : FollowStop) → Reaches first s
+    → StopsAt s (ahead reader left) stop → given ≡ payload → IsPayload payload
+    → Gives s.place s.left (ahead reader left) (frame_bytes payload)
+    → reader.place ≡ s.place + length (frame_bytes payload) → HoldsBlock reader → (Same → IsKept s.core)
+    → (Same → MayKeep s.core s.core) → Same ⊎ TakesUpTo s.number given reader s.core s.taken
+    (IsKeptBy stop IsKept (MayKeep s.core)) → StopsHeld IsKept MayKeep first left stop
+stops_next IsKept MayKeep Same first s reader left given payload stop reached stops same allowed frame place block
+    kept may (inl is) = record {
+      held = reader.held;
+      block = block;
+      goes = record { last = s; reached = reached; ended = (stops, keeps_at IsKept MayKeep s stop (kept is) (may is)) };
+    }
+stops_next IsKept MayKeep Same first s reader left given payload stop reached stops same allowed frame place block
+    kept may (inr on) =
+    stops_behind IsKept MayKeep first s reader left given payload stop reached stops same allowed frame place block on
 
 -- what stops at the last stage stops the call
-pub stops_frames : {T : Type 0} (IsKept : Core → Type 0) (MayKeep : Core → Core → Type 0) (first : Stage) (left : Option (List ℕ)) (held : List ℕ) (c : Core) (taken : ℕ) (r : Result T FollowStop) (stop : FollowStop) → IsErrAnd r (λ y. y ≡ stop) → (stop ≡ ReadFault → held ≡ []) → Goes first (λ last. StopsKept IsKept MayKeep last (prepend_known held left) stop) → FollowsHeld IsKept MayKeep first left c taken r
-stops_frames IsKept MayKeep first left held c taken (Ok x) stop is dry goes = absurd is
-stops_frames IsKept MayKeep first left held c taken (Err y) stop is dry goes = record {
-  held = held;
-  follows = subst (λ (e : FollowStop). Goes first (λ last. StopsKept IsKept MayKeep last (prepend_known held left) e)) (sym is) goes;
+pub stops_frames : {T : Type 0} (IsKept : Core → Type 0) (MayKeep : Core → Core → Type 0) (first : Stage)
+    (left : Option (List ℕ)) (c : Core) (taken : ℕ) (r : Result T FollowStop) (stop : FollowStop)
+    → IsErrAnd r (λ y. y ≡ stop) → (stopped : StopsHeld IsKept MayKeep first left stop)
+    → (stop ≡ ReadFault → stopped.held ≡ []) → FollowsHeld IsKept MayKeep first left c taken r
+stops_frames IsKept MayKeep first left c taken (Ok x) stop is stopped dry = absurd is
+stops_frames IsKept MayKeep first left c taken (Err y) stop is stopped dry = record {
+  held = stopped.held;
+  block = stopped.block;
+  follows = subst (λ (e : FollowStop). Goes first
+      (λ last. StopsKept IsKept MayKeep last (prepend_known stopped.held left) e)) (sym is) stopped.goes;
   dry = λ e. dry (sym is ∙ e);
 }
 
@@ -144,9 +269,14 @@ read_end IsKept MayKeep first s at mid after (Err ReadFault) behind reached give
 read_end IsKept MayKeep first s at mid after (Err TooLong) behind reached given kept ends = absurd ends
 read_end IsKept MayKeep first s at mid after (Err NoMemory) behind reached given kept ends = absurd ends
 
-pub read_end_held : {T : Type 0} (IsKept : Core → Type 0) (MayKeep : Core → Core → Type 0) (first s : Stage) (at : ℕ) (mid left : Option (List ℕ)) (held : List ℕ) (r : Result T FollowStop) → at ≡ s.place + 1 → Reaches first s → Gives s.place s.left mid end_bytes → IsKept s.core → EndsThere at mid (prepend_known held left) r → IfErr r (λ stop. stop ≡ ReadFault → held ≡ []) → FollowsHeld IsKept MayKeep first left s.core s.taken r
-read_end_held IsKept MayKeep first s at mid left held r behind reached given kept ends dry = record {
+pub read_end_held : {T : Type 0} (IsKept : Core → Type 0) (MayKeep : Core → Core → Type 0) (first s : Stage) (at : ℕ)
+    (mid left : Option (List ℕ)) (held : List ℕ) (r : Result T FollowStop) → at ≡ s.place + 1 → Reaches first s
+    → Gives s.place s.left mid end_bytes → IsKept s.core → EndsThere at mid (prepend_known held left) r
+    → length held ≤ most_held → IfErr r (λ stop. stop ≡ ReadFault → held ≡ [])
+    → FollowsHeld IsKept MayKeep first left s.core s.taken r
+read_end_held IsKept MayKeep first s at mid left held r behind reached given kept ends block dry = record {
   held = held;
+  block = block;
   follows = read_end IsKept MayKeep first s at mid (prepend_known held left) r behind reached given kept ends;
   dry = dry;
 }
@@ -166,7 +296,16 @@ front_stops left after bytes (Gap number) reads = absurd reads
 front_stops left after bytes (NotAllowed number) reads = absurd reads
 front_stops left after bytes ReadFault reads = record { part = bytes; given = reads.0; is = reads.1 }
 front_stops left after bytes TooLong reads = absurd (omega (arith, reads.1, reads.2))
-front_stops left after bytes NoMemory reads = tt
+front_stops left after bytes NoMemory reads = record { part = bytes; given = reads.0; is = reads.1 }
+
+-- nothing of the front is read, since there was no memory
+pub front_none : (left : Option (List ℕ)) → StopsBefore left (prepend_known [] left) NoMemory
+front_none left = record {
+  part = [];
+  given = gives_none 0 left (prepend_known [] left)
+      (subst (Keeps left) (sym (prepend_known-nil left)) (Keeps-refl left));
+  is = omega arith;
+}
 
 -- the front is read
 pub front_read : (left mid : Option (List ℕ)) (reader : Reader) (bytes : List ℕ) (whole : Bool) → reader ≡ record { held = []; place = 0 } → Reads 25 reader.place (ahead reader left) mid bytes (Ok whole) → ReadsFront left mid bytes
@@ -202,6 +341,7 @@ follows_as IsKept IsHeld MayKeep c left left' (Ok followed) leads f =
     let done : IsDone IsKept (prepend_known f.held left') followed p.goes.last = p.goes.ended in
     record {
       held = f.held;
+      block = f.block;
       follows = record {
         front = p.front;
         mid = p.mid;
@@ -217,6 +357,7 @@ follows_as IsKept IsHeld MayKeep c left left' (Ok followed) leads f =
     }
 follows_as IsKept IsHeld MayKeep c left left' (Err stop) leads f = record {
   held = f.held;
+  block = f.block;
   follows = ⊎_elim
       (λ front. inl (front.0, leads c front.1))
       (λ (p : PassesFront c left (λ last. StopsKept IsKept MayKeep last (prepend_known f.held left') stop)). inr (record {
@@ -235,10 +376,14 @@ follows_as IsKept IsHeld MayKeep c left left' (Err stop) leads f = record {
 }
 
 -- what stops at the front, or behind it, stops the call
-pub stops_source : (IsKept : Core → Type 0) (MayKeep : Core → Core → Type 0) (c : Core) (left left' : Option (List ℕ)) (r : Result Followed FollowStop) (stop : FollowStop) (held : List ℕ) → IsErrAnd r (λ y. y ≡ stop) → Follows IsKept MayKeep c left (prepend_known held left') (Err stop) → (stop ≡ ReadFault → held ≡ []) → FollowsSource IsKept MayKeep c left left' r
-stops_source IsKept MayKeep c left left' (Ok x) stop held is follows dry = absurd is
-stops_source IsKept MayKeep c left left' (Err y) stop held is follows dry = record {
+pub stops_source : (IsKept : Core → Type 0) (MayKeep : Core → Core → Type 0) (c : Core) (left left' : Option (List ℕ))
+    (r : Result Followed FollowStop) (stop : FollowStop) (held : List ℕ) → IsErrAnd r (λ y. y ≡ stop)
+    → Follows IsKept MayKeep c left (prepend_known held left') (Err stop) → length held ≤ most_held
+    → (stop ≡ ReadFault → held ≡ []) → FollowsSource IsKept MayKeep c left left' r
+stops_source IsKept MayKeep c left left' (Ok x) stop held is follows block dry = absurd is
+stops_source IsKept MayKeep c left left' (Err y) stop held is follows block dry = record {
   held = held;
+  block = block;
   follows = subst (λ (e : FollowStop). Follows IsKept MayKeep c left (prepend_known held left') (Err e)) (sym is) follows;
   dry = λ e. let same : y ≡ ReadFault = cc in ap length (dry (sym is ∙ same));
 }
@@ -262,11 +407,16 @@ pub judged_dry : (s : Summary) (bytes : List ℕ) (P : Type 0) (stop : FollowSto
 judged_dry s bytes P stop judged is = let no_way : FrontJudged s bytes (Err ReadFault) = subst (λ (e : FollowStop). FrontJudged s bytes (Err e)) is judged in absurd no_way
 
 -- the stream ends, and this is told
-pub done_source : (IsKept : Core → Type 0) (MayKeep : Core → Core → Type 0) (c now : Core) (taken : ℕ) (left left' : Option (List ℕ)) (held : List ℕ) (followed : Followed) → followed.number ≡ now.number → followed.taken ≡ taken → IsKept now → PassesFront c left (λ last. IsEnded last (prepend_known held left') × (last.core ≡ now) × (last.taken ≡ taken)) → FollowsSource IsKept MayKeep c left left' (Ok followed)
-done_source IsKept MayKeep c now taken left left' held followed number count kept p =
+pub done_source : (IsKept : Core → Type 0) (MayKeep : Core → Core → Type 0) (c now : Core) (taken : ℕ)
+    (left left' : Option (List ℕ)) (held : List ℕ) (followed : Followed) → followed.number ≡ now.number
+    → followed.taken ≡ taken → IsKept now → length held ≤ most_held
+    → PassesFront c left (λ last. IsEnded last (prepend_known held left') × (last.core ≡ now) × (last.taken ≡ taken))
+    → FollowsSource IsKept MayKeep c left left' (Ok followed)
+done_source IsKept MayKeep c now taken left left' held followed number count kept block p =
     let e = p.goes.ended in
     record {
       held = held;
+      block = block;
       follows = record {
         front = p.front;
         mid = p.mid;

@@ -7,4 +7,5 @@ mod Parts
 mod Going
 mod Unopened
 mod Framed
+mod Adopting
 mod Waiting

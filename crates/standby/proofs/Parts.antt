@@ -33,7 +33,11 @@ stops_length place at number first mid after out TooLong behind taken reads = re
   all = omega (arith, behind, reads.2);
   more = reads.3;
 }
-stops_length place at number first mid after out NoMemory behind taken reads = tt
+stops_length place at number first mid after out NoMemory behind taken reads = record {
+  part = 1 ∷ out;
+  given = gives_then place at first mid after (1 ∷ []) out behind taken reads.0;
+  is = cut_length out reads.1;
+}
 
 -- the source ends within a length
 pub ends_in_length : (place at : ℕ) (first mid after : Option (List ℕ)) (out : List ℕ) (whole : Bool) → at ≡ place + 1 → Gives place first mid (1 ∷ []) → Reads 4 at mid after out (Ok whole) → (length out ≡ 4 → ⊥) → ReadsPart IsCut place first after × IsAtEnd after
@@ -63,7 +67,11 @@ stops_payload len place at number first mid after out TooLong allowed behind tak
   all = let long : length (head_bytes len) ≡ 5 = refl in simp length-append (omega (arith, behind, reads.2));
   more = reads.3;
 }
-stops_payload len place at number first mid after out NoMemory allowed behind taken reads = tt
+stops_payload len place at number first mid after out NoMemory allowed behind taken reads = record {
+  part = head_bytes len ++ out;
+  given = gives_then place at first mid after (head_bytes len) out behind taken reads.0;
+  is = cut_payload len out allowed reads.1;
+}
 
 -- the source ends within a payload
 pub ends_in_payload : (len place at : ℕ) (first mid after : Option (List ℕ)) (out : List ℕ) → IsLength len → at ≡ place + 5 → Gives place first mid (head_bytes len) → Reads len at mid after out (Ok false) → ReadsPart IsCut place first after × IsAtEnd after

@@ -4,33 +4,39 @@ use Rattle.core_laws.specs.RightStates.{IsRightCore}
 use Rattle.flow_core.specs.Admitting.{IsAdmitted}
 use Rattle.flow_core.specs.Summaries.{Summary, summary}
 use Rattle.flow_core.specs.declared.state.Core.{Core}
+use Rattle.flow_disk.specs.Images.{Image}
+use Rattle.flow_disk.specs.Moments.{LeavesOnly}
+use Rattle.flow_disk.proofs.Runs.{weaker}
 use Rattle.flow_model.specs.declared.transactions.Transaction.{Transaction}
 use Rattle.flow_txn.specs.Ranges.{IsInRange}
 use Rattle.flow_txn.specs.Records.{record_bytes}
-use Rattle.flow_session.specs.Histories.{AreInRangeBehind, after, payloads_behind}
+use Rattle.flow_session.specs.Histories.{AreInRangeBehind, StandsFor, after, payloads_behind}
+use Rattle.flow_session.specs.Serving.{AllOrNone}
 use Rattle.flow_session.specs.Leading.{LeadsBy}
 use Rattle.flow_session.specs.declared.serving.Stop.{Stop}
 use Rattle.flow_session.specs.declared.serving.Stop.TheVariants as journal
 use Rattle.flow_session.proofs.Histories.{after_counts}
-use Rattle.flow_session.proofs.Leading.{leads_none, leads_more}
+use Rattle.standby.specs.Adopting.{EndsTaken, TakesAll}
 use Rattle.standby.specs.Readers.{Reader}
-use Rattle.standby.specs.Stages.{Stage, Reaches, Here, Further, IsRecord, StopsPayload, StopsTaking, Takes, TakesPayload, stage}
-use Rattle.standby.specs.Waiting.{IsKeptBy, IsUnchanged, IsUnkept, TakesOn, TakesUpTo, Waits, WaitsAt, WaitsBehind}
+use Rattle.standby.specs.Stages.{Adopts, Stage, Reaches, Here, Further, IsRecord, StopsPayload, StopsTaking, Takes, TakesPayload, stage}
+use Rattle.standby.specs.Waiting.{IsKeptBy, IsUnchanged, IsUnkept, StandsUpTo, TakesOn, TakesUpTo, Waits, WaitsAt, WaitsBehind}
 use Rattle.standby.specs.declared.stops.FollowStop.{FollowStop}
 use Rattle.standby.specs.declared.stops.FollowStop.TheVariants.{Store, Frame, Cut, Other, Gap, NotAllowed, ReadFault, TooLong, NoMemory}
+use Rattle.standby.proofs.Adopting.{adopts_one, takes_more, takes_none}
 
 -- ---- a batch
 
 pub waits_none : (c : Core) (batch : List (List ℕ)) → Waits c batch c batch
-waits_none c batch = record { transactions = []; leads = leads_none c; fits = tt; put = sym (append-nil batch) }
+waits_none c batch = record { transactions = []; takes = takes_none c; fits = tt; put = sym (append-nil batch) }
 
 -- the record of the next transaction is put behind the others
 pub waits_one : (c c' : Core) (number : ℕ) (t : Transaction) (payload : List ℕ) (old new : List (List ℕ)) → number ≡ c.number + 1
-    → record_bytes number t ≡ payload → IsInRange number t → LeadsBy c (t ∷ []) c' → new ≡ old ++ payload ∷ []
-    → Waits c old c' new
-waits_one c c' number t payload old new is spelled fit leads put = record {
+    → record_bytes number t ≡ payload → IsInRange number t → LeadsBy c (t ∷ []) c' →
+    (IsRightCore c → Adopts c number t c')
+    → new ≡ old ++ payload ∷ [] → Waits c old c' new
+waits_one c c' number t payload old new is spelled fit leads adopts put = record {
   transactions = t ∷ [];
-  leads = leads;
+  takes = record { leads = leads; adopts = λ right. adopts_one c c' number t is fit (adopts right) };
   fits = (subst (λ (n : ℕ). IsInRange n t) is fit, tt);
   put = put ∙ ap (λ (p : List ℕ). old ++ p ∷ []) (sym spelled ∙ ap (λ (n : ℕ). record_bytes n t) is);
 }
@@ -53,10 +59,11 @@ fits_append k (t ∷ ts) us first second =
 
 pub waits_more : (c d e : Core) (old mid new : List (List ℕ)) → Waits c old d mid → Waits d mid e new → Waits c old e new
 waits_more c d e old mid new first second =
-    let counted : d.number ≡ c.number + length first.transactions = ap (λ (s : Summary). s.transactions) first.leads.came ∙ after_counts (summary c) first.transactions in
+    let counted : d.number ≡ c.number + length first.transactions = ap (λ (s : Summary). s.transactions)
+    first.takes.leads.came ∙ after_counts (summary c) first.transactions in
     record {
       transactions = first.transactions ++ second.transactions;
-      leads = leads_more c d e first.transactions second.transactions first.leads second.leads;
+      takes = takes_more c d e first.transactions second.transactions first.takes second.takes;
       fits = fits_append c.number first.transactions second.transactions first.fits
           (subst (λ (n : ℕ). AreInRangeBehind n second.transactions) counted second.fits);
       put = second.put
@@ -71,17 +78,28 @@ pub waits_behind : {T E : Type 0} (r : Result T E) (c d e : Core) (old mid new :
 waits_behind (Ok x) c d e old mid new first second = waits_more c d e old mid new first second
 waits_behind (Err x) c d e old mid new first second = (second.0, waits_more c d second.0 old mid new first second.1)
 
--- what waits where there was nothing before: the payloads of the next transactions, in range, which lead to the state
--- where the call succeeds
+-- what waits where there was nothing before: the payloads of the next transactions, in range, which are taken up to
+-- the state where the call succeeds
 pub waits_all : {T E : Type 0} (r : Result T E) (c e : Core) (new : List (List ℕ)) → WaitsBehind c [] e new r
-    → (ts : List Transaction) × (new ≡ payloads_behind c.number ts) × OnOk r (LeadsBy c ts e)
+    → (ts : List Transaction) × (new ≡ payloads_behind c.number ts) × EndsTaken c e r ts
     × AreInRangeBehind c.number ts
-waits_all (Ok x) c e new waits = (waits.transactions, waits.put, waits.leads, waits.fits)
-waits_all (Err x) c e new waits = (waits.1.transactions, waits.1.put, tt, waits.1.fits)
+waits_all (Ok x) c e new waits = (
+  waits.transactions,
+  waits.put,
+  record { last = e; takes = waits.takes; done = refl },
+  waits.fits,
+)
+waits_all (Err x) c e new waits = (
+  waits.1.transactions,
+  waits.1.put,
+  record { last = waits.0; takes = waits.1.takes; done = tt },
+  waits.1.fits,
+)
 
 -- nothing waits, so nothing was adopted
-pub waits_nothing : (c e : Core) (new : List (List ℕ)) → new ≡ [] → Waits c [] e new → LeadsBy c [] e
-waits_nothing c e new none waits = subst (λ (ts : List Transaction). LeadsBy c ts e) (no_payload c.number waits.transactions (sym waits.put ∙ none)) waits.leads
+pub waits_nothing : (c e : Core) (new : List (List ℕ)) → new ≡ [] → Waits c [] e new → TakesAll c [] e
+waits_nothing c e new none waits = subst (λ (ts : List Transaction). TakesAll c ts e)
+    (no_payload c.number waits.transactions (sym waits.put ∙ none)) waits.takes
   where
     no_payload : (k : ℕ) (ts : List Transaction) → payloads_behind k ts ≡ [] → ts ≡ []
     no_payload k [] is = refl
@@ -134,9 +152,11 @@ new_stops place number payload c taken c' taken' stop takes fresh stops =
 -- ---- a batch that is kept
 
 -- what is kept holds of the state after the call, where it succeeds
-pub kept_on : {T E : Type 0} (r : Result T E) (c e : Core) (ts : List Transaction) (IsHeld : Summary → Type 0) → IsHeld (after (summary c) ts) → OnOk r (LeadsBy c ts e) → OnOk r (IsHeld (summary e))
-kept_on (Ok x) c e ts IsHeld held leads = subst IsHeld (sym leads.came) held
-kept_on (Err x) c e ts IsHeld held leads = tt
+pub kept_on : {T E : Type 0} (r : Result T E) (c e : Core) (ts : List Transaction) (IsHeld : Summary → Type 0)
+    → IsHeld (after (summary c) ts) → EndsTaken c e r ts → OnOk r (IsHeld (summary e))
+kept_on (Ok x) c e ts IsHeld held ends = subst (λ (d : Core). IsHeld (summary d)) ends.done
+    (subst IsHeld (sym ends.takes.leads.came) held)
+kept_on (Err x) c e ts IsHeld held ends = tt
 
 -- the first frame is taken, and those behind it that are held
 pub takes_on : {E : Type 0} (r : Result ℕ E) (last number : ℕ) (payload : List ℕ) (reader reader' : Reader) (c mid c' : Core) (taken count taken' : ℕ)
@@ -160,6 +180,7 @@ takes_up_to last number payload reader reader' c mid taken count old new IsSo is
   count = w.count;
   number = w.number;
   next = reader';
+  hands = w.hands;
   takes = record {
     mid = mid;
     count = count;
@@ -168,6 +189,24 @@ takes_up_to last number payload reader reader' c mid taken count old new IsSo is
   };
   so = so;
 }
+
+-- a crash leaves the state before them, or the one for which transactions wait
+pub leaves_up_to : {D : Type 0} (moment : D → ℕ) (left_since : D → ℕ → Image → Type 0) (before now : D)
+    (last number : ℕ) (payload : List ℕ) (reader reader' : Reader) (c mid : Core) (taken count : ℕ)
+    (old new : List (List ℕ)) (ts : List Transaction)
+    → number ≡ last + 1 → TakesPayload number payload c taken mid count → IsRightCore mid
+    → (w : WaitsAt number reader mid count old reader' new) → summary w.core ≡ after (summary c) ts
+    → LeavesOnly moment left_since before now (AllOrNone ts (summary c)) → LeavesOnly moment left_since before now
+    (StandsUpTo last payload reader c taken)
+leaves_up_to moment left_since before now last number payload reader reader' c mid taken count old new ts is first
+    right w came leaves =
+    weaker moment left_since (λ disk image. left_since disk 0 image) before now (AllOrNone ts (summary c))
+    (StandsUpTo last payload reader c taken) leaves
+    (λ image. ⊎_elim
+    (λ stands. inl stands)
+    (λ stands. inr (takes_up_to last number payload reader reader' c mid taken count old new
+    (λ core. StandsFor (summary core) image) is first right w
+    (subst (λ (s : Summary). StandsFor s image) (sym came) stands))))
 
 -- where there was no memory to gather more, what waited is kept
 pub kept_so : {T : Type 0} (r : Result T FollowStop) (Same : Type 0) (IsOn : (Core → Type 0) → Type 0) (IsKept MayBe : Core → Type 0) → IfErr r (λ end. end ≡ NoMemory) → IsOn IsKept → IfErr r (λ stop. Same ⊎ IsOn (IsKeptBy stop IsKept MayBe))

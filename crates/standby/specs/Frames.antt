@@ -15,6 +15,10 @@ use Rattle.standby.specs.declared.stops.FollowStop.TheVariants as follow
 abbrev pub IsLength : ℕ → Type 0
 IsLength len = (0 < len) × (len ≤ 2097152)
 
+-- the greatest length of a frame: a byte, four with the length of the payload, and the payload
+abbrev pub most_frame : ℕ
+most_frame = 2097157
+
 -- a frame with a payload of this length begins so
 abbrev pub head_bytes : ℕ → List ℕ
 head_bytes len = 1 ∷ to_be_bytes w32 len
@@ -80,7 +84,7 @@ StopsFrame place number before after (follow.Cut told) =
     (told ≡ number) × ReadsPart IsCut place before after × IsAtEnd after
 StopsFrame place number before after follow.TooLong = ReadsAll place before after
 StopsFrame place number before after follow.ReadFault = ReadsPart IsCut place before after
-StopsFrame place number before after follow.NoMemory = Unit {0}
+StopsFrame place number before after follow.NoMemory = ReadsPart IsCut place before after
 StopsFrame place number before after stop = ⊥
 
 -- the byte that begins a frame is read, or the end of the stream instead

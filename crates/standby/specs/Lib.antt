@@ -7,5 +7,6 @@ pub mod Readers
 pub mod Reading
 pub mod Frames
 pub mod Stages
+pub mod Adopting
 pub mod Followed
 pub mod Waiting

@@ -26,7 +26,7 @@ ReadsSome most place before after old new (Ok count) =
 ReadsSome most place before after old new (Err follow.TooLong) =
     Keeps before after × (new ≡ old) × (place ≡ 268435456) × GoesOn after
 ReadsSome most place before after old new (Err follow.ReadFault) = Keeps before after × (new ≡ old)
-ReadsSome most place before after old new (Err follow.NoMemory) = Unit {0}
+ReadsSome most place before after old new (Err follow.NoMemory) = Keeps before after × (new ≡ old)
 ReadsSome most place before after old new (Err stop) = ⊥
 
 -- So many bytes are read: all of them, or fewer where there are no more. `TooLong` comes where one is asked for and is
@@ -37,5 +37,5 @@ Reads count place before after out (Ok false) = Gives place before after out × 
 Reads count place before after out (Err follow.TooLong) =
     Gives place before after out × (length out < count) × (place + length out ≡ 268435456) × GoesOn after
 Reads count place before after out (Err follow.ReadFault) = Gives place before after out × (length out < count)
-Reads count place before after out (Err follow.NoMemory) = Unit {0}
+Reads count place before after out (Err follow.NoMemory) = Gives place before after out × (length out < count)
 Reads count place before after out (Err stop) = ⊥

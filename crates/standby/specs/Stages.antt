@@ -13,9 +13,9 @@ use Rattle.core_laws.specs.RightStates.{Makes}
 use Rattle.machine.specs.Steps.{Steps}
 use Rattle.machine_laws.specs.Applied.{Applied}
 use Rattle.machine_laws.specs.Viewed.{view}
-use Rattle.standby.specs.Frames.{IsCut, IsBroken, ReadsPart, ReadsAll}
+use Rattle.standby.specs.Frames.{IsCut, IsBroken, ReadsPart, ReadsAll, most_frame}
 use Rattle.standby.specs.Fronts.{FrontJudged}
-use Rattle.standby.specs.Readers.{Reader, GoesOn, Gives, ahead}
+use Rattle.standby.specs.Readers.{Reader, GoesOn, Gives, ahead, most_held}
 use Rattle.standby.specs.Streams.{front_bytes, frame_bytes, end_bytes}
 use Rattle.standby.specs.declared.following.Followed.{Followed}
 use Rattle.standby.specs.declared.frames.Front.{Front}
@@ -131,13 +131,14 @@ StopsAt s after (Frame at) =
 StopsAt s after (Cut number) = (number ≡ s.core.number) × ReadsPart IsCut s.place s.left after × IsAtEnd after
 StopsAt s after TooLong = ReadsAll s.place s.left after
 StopsAt s after ReadFault = ReadsPart IsCut s.place s.left after ⊎ ReadsAt s after end_bytes
-StopsAt s after NoMemory = Unit {0}
+StopsAt s after NoMemory = ReadsPart IsCut s.place s.left after ⊎ StopsFrameAt s after NoMemory
 StopsAt s after stop = StopsFrameAt s after stop
 
 -- What is kept where following stops at a stage: the state there, also where there was no memory; after a fault of the
--- store that state, or the one at a stage that is reached behind it.
+-- store that state, or the one at a stage that is reached behind it, at most a frame and a block further.
 abbrev pub KeepsAt : (Core → Type 0) → (Core → Core → Type 0) → Stage → FollowStop → Type 0
-KeepsAt IsKept MayKeep s (Store stop) = Goes s (λ behind. MayKeep s.core behind.core)
+KeepsAt IsKept MayKeep s (Store stop) =
+    Goes s (λ behind. MayKeep s.core behind.core × (behind.place ≤ s.place + most_frame + most_held))
 KeepsAt IsKept MayKeep s stop = IsKept s.core
 
 -- following ends at a stage, and what is kept is as `KeepsAt` says
@@ -152,10 +153,12 @@ FollowsFrames IsKept MayKeep s after c taken (Ok x) =
     Goes s (λ last. IsEnded last after × (last.core ≡ c) × (last.taken ≡ taken))
 FollowsFrames IsKept MayKeep s after c taken (Err stop) = Goes s (λ last. StopsKept IsKept MayKeep last after stop)
 
--- the same for what a source has left: of the bytes taken from it some may not be read yet, but none where it failed
+-- the same for what a source has left: of the bytes taken from it at most a block may not be read yet, but none where
+-- it failed
 pub record FollowsHeld {T : Type 0} (IsKept : Core → Type 0) (MayKeep : Core → Core → Type 0) (s : Stage)
     (left : Option (List ℕ)) (c : Core) (taken : ℕ) (result : Result T FollowStop) : Type 0 where
   pub held : List ℕ
+  pub block : length held ≤ most_held
   pub follows : FollowsFrames IsKept MayKeep s (prepend_known held left) c taken result
   pub dry : IfErr result (λ stop. stop ≡ ReadFault → held ≡ [])
 
@@ -173,10 +176,10 @@ pub record RefusesFront (c : Core) (left : Option (List ℕ)) (stop : FollowStop
   pub front : ReadsFront left mid bytes
   pub judged : FrontJudged (summary c) bytes (Err stop)
 
--- a fault comes before the front of a stream is read
+-- a fault, or want of memory, comes before the front of a stream is read
 abbrev pub StopsBefore : Option (List ℕ) → Option (List ℕ) → FollowStop → Type 0
 StopsBefore left after ReadFault = ReadsPart (λ part. length part < 25) 0 left after
-StopsBefore left after NoMemory = Unit {0}
+StopsBefore left after NoMemory = ReadsPart (λ part. length part < 25) 0 left after
 StopsBefore left after stop = ⊥
 
 -- the stage behind a front
@@ -208,10 +211,11 @@ Follows IsKept MayKeep c left after (Err stop) =
     ((StopsBefore left after stop ⊎ RefusesFront c left stop) × IsKept c)
     ⊎ PassesFront c left (λ last. StopsKept IsKept MayKeep last after stop)
 
--- the same by what a source had left and has left: of the bytes taken from it some may not be read yet, but none where
--- it failed
+-- the same by what a source had left and has left: of the bytes taken from it at most a block may not be read yet, but
+-- none where it failed
 pub record FollowsSource (IsKept : Core → Type 0) (MayKeep : Core → Core → Type 0) (c : Core)
     (left left' : Option (List ℕ)) (result : Result Followed FollowStop) : Type 0 where
   pub held : List ℕ
+  pub block : length held ≤ most_held
   pub follows : Follows IsKept MayKeep c left (prepend_known held left') result
   pub dry : result ≡ Err ReadFault → length held ≡ 0

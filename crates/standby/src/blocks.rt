@@ -3,7 +3,7 @@ ghost use Rattle.std.specs.Prelude.{◌≡◌, ◌≤◌, ◌<◌, ◌+◌, ◌-
 ghost use Rattle.std.specs.Prelude.{IfOk, IfSome, OnOk, OnErr, IfErr, MatchResult};
 ghost use Rattle.standby.specs.Endings.{FollowEnd};
 ghost use Rattle.standby.specs.Frames.{HoldsFrame};
-ghost use Rattle.standby.specs.Readers.{ahead};
+ghost use Rattle.standby.specs.Readers.{HoldsBlock, ahead};
 ghost use Rattle.standby.specs.Reading.{Looks, ReadsSome, Reads};
 ghost use Rattle.standby.specs.declared.stops.FollowStop.TheVariants as stop;
 
@@ -58,13 +58,15 @@ impl Blocks {
     pub fn place(&self) -> u64
         ensures at { result ≡ self.now.place }
         ensures within { self.now.place ≤ 268435456 }
+        ensures block { HoldsBlock self.now }
     {
         self.place
     }
 
     /// How many bytes are held.
     fn held_len(&self) -> usize
-        ensures { result ≡ length self.now.held }
+        ensures is { result ≡ length self.now.held }
+        ensures block { HoldsBlock self.now }
     {
         self.to - self.from
     }
@@ -96,6 +98,7 @@ impl Blocks {
         ensures looks { Looks (ahead self.old (S.left src.old)) (ahead self.new (S.left src.new)) result }
         ensures held { IfOk result (λ more. IsTrue more → 0 < length self.new.held) }
         ensures dry { OnErr result (self.new.held ≡ []) }
+        ensures block { HoldsBlock self.new }
         ensures place { self.new.place ≡ self.old.place }
     {
         self.from = 0;
@@ -116,6 +119,7 @@ impl Blocks {
         ensures looks { Looks (ahead self.old (S.left src.old)) (ahead self.new (S.left src.new)) result }
         ensures held { IfOk result (λ more. IsTrue more → 0 < length self.new.held) }
         ensures dry { OnErr result (self.new.held ≡ []) }
+        ensures block { HoldsBlock self.new }
         ensures place { self.new.place ≡ self.old.place }
     {
         if self.held_len() > 0 {
@@ -130,6 +134,8 @@ impl Blocks {
         ensures given { IfOk result (λ n. out.new.items ≡ out.old.items ++ take n self.old.held) }
         ensures after { IfOk result
             (λ n. self.new ≡ record { held = drop n self.old.held; place = self.old.place + n }) }
+        ensures none { OnErr result (self.new ≡ self.old) }
+        ensures same { OnErr result (out.new.items ≡ out.old.items) }
     {
         let room = usize::try_from(MOST_BYTES.saturating_sub(self.place)).unwrap_or(usize::MAX);
         let count = most.min(self.to - self.from).min(room);
@@ -153,6 +159,7 @@ impl Blocks {
         ensures reads { ReadsSome most self.old.place (ahead self.old (S.left src.old))
             (ahead self.new (S.left src.new)) out.old.items out.new.items result }
         ensures dry { IfErr result (λ e. e ≡ stop.ReadFault → self.new.held ≡ []) }
+        ensures block { HoldsBlock self.new }
         ensures place { IfOk result (λ n. self.new.place ≡ self.old.place + n) }
     {
         if !self.has_more(src)? {
@@ -176,6 +183,7 @@ impl Blocks {
         ensures reads { Reads count self.old.place (ahead self.old (S.left src.old))
             (ahead self.new (S.left src.new)) out.new.items result }
         ensures dry { IfErr result (λ e. e ≡ stop.ReadFault → self.new.held ≡ []) }
+        ensures block { HoldsBlock self.old → HoldsBlock self.new }
         ensures place { OnOk result (self.new.place ≡ self.old.place + length out.new.items) }
     {
         out.clear();

@@ -3,7 +3,7 @@ ghost use Rattle.std.specs.Prelude.{◌≡◌, ◌⊎◌, ℕ, Option, List, ◌
 ghost use Rattle.std.specs.Prelude.{MatchResult, OnErr, OnOk};
 ghost use Rattle.std.specs.Io.KnownBytes.{Keeps};
 ghost use Rattle.flow_disk.specs.Images.{Image};
-ghost use Rattle.flow_disk.specs.Moments.{Only};
+ghost use Rattle.flow_disk.specs.Moments.{LeavesOnly, Only};
 ghost use Rattle.flow_txn.specs.Ranges.{IsInRange};
 ghost use Rattle.flow_txn.specs.Records.{record_bytes};
 ghost use Rattle.txn_log.specs.Records.{IsPayload};
@@ -15,17 +15,18 @@ ghost use Rattle.core_laws.specs.RightStates.{IsRightCore};
 ghost use Rattle.flow_session.specs.Histories.{StandsFor, after};
 ghost use Rattle.flow_session.specs.Keeping.{IsOpen};
 ghost use Rattle.flow_session.specs.Runs.{KeepsOrServes, KeepsStore};
-ghost use Rattle.flow_session.specs.Leading.{MakesSteps};
 ghost use Rattle.flow_session.specs.Serving.{Makes};
 ghost use Rattle.flow_session.specs.Stopping.{IsStopCause};
+ghost use Rattle.standby.specs.Adopting.{AdoptsAll, MakesTaken};
 ghost use Rattle.standby.specs.Endings.{FollowEnd};
 ghost use Rattle.flow_session.specs.Refusing.{IsUnopened};
-ghost use Rattle.standby.specs.Followed.{FollowsOpened, IsNotOpened, StandsForEither};
+ghost use Rattle.standby.specs.Followed.{FollowsOpened, IsAtStage, IsNotOpened, StandsBehind, StandsForEither};
 ghost use Rattle.standby.specs.Fronts.{FrontJudged};
 ghost use Rattle.standby.specs.Readers.{ahead};
 ghost use Rattle.standby.specs.Stages.{FollowsHeld, FollowsSource, Reaches, StopsPayload, StopsTaking, Takes};
 ghost use Rattle.standby.specs.Stages.{TakesPayload, stage};
-ghost use Rattle.standby.specs.Waiting.{IsKeptBy, IsUnchanged, IsUnkept, TakesOn, TakesUpTo, WaitsAt, WaitsBehind};
+ghost use Rattle.standby.specs.Waiting.{IsKeptBy, IsUnchanged, IsUnkept, StandsUpTo, TakesOn, TakesUpTo, WaitsAt};
+ghost use Rattle.standby.specs.Waiting.{WaitsBehind};
 ghost use Rattle.standby.specs.declared.stops.FollowStop.TheVariants as stop;
 
 use crate::blocks::Blocks;
@@ -74,6 +75,10 @@ fn follow_from<S: Source, D: Disk + Drop>(
     requires open { D.tells → IsOpen D.seen D.images log disk (summary core) }
     ensures makes { Makes D.tells D.moment D.left_since disk result.1 (summary core) (λ ts. IsOk result.0
         → D.tells → (c : Image) → D.images result.1 c → StandsFor (after (summary core) ts) c) }
+    ensures adopts { IsRightCore core → Makes D.tells D.moment D.left_since disk result.1 (summary core)
+        (λ ts. (last : CoreOf) × AdoptsAll core ts last) }
+    ensures stages { IsRightCore core → D.tells → LeavesOnly D.moment D.left_since disk result.1
+        (IsAtStage core (S.left src.old)) }
     ensures cause { MatchResult result.0 (λ _. (S.faults src.new ≡ S.faults src.old)
         × (D.faults result.1 ≡ D.faults disk))
         (FollowEnd (S.faults src.old) (S.faults src.new) (D.faults disk) (D.faults result.1)) }
@@ -268,8 +273,11 @@ impl<D: Disk + Drop> Standby<D> {
             ⊎ TakesUpTo last payload.now blocks.old self.old.core self.old.taken (IsKeptBy stop
             (λ core. D.tells → IsOpen D.seen D.images self.new.journal.log self.new.journal.disk (summary core))
             (StandsForEither D.tells (D.images self.new.journal.disk) self.old.core))) }
-        ensures makes { MakesSteps D.tells D.moment D.left_since self.old.journal.disk self.new.journal.disk
+        ensures makes { MakesTaken D.tells D.moment D.left_since self.old.journal.disk self.new.journal.disk
             self.old.core self.new.core result }
+        ensures stages { IsRightCore self.old.core → D.tells → LeavesOnly D.moment D.left_since self.old.journal.disk
+            self.new.journal.disk
+            (StandsUpTo last payload.now blocks.old self.old.core self.old.taken) }
         ensures cause { MatchResult result (λ _. D.faults self.new.journal.disk ≡ D.faults self.old.journal.disk)
             (λ stop. (source : ℕ) → FollowEnd source source
             (D.faults self.old.journal.disk) (D.faults self.new.journal.disk) stop) }
@@ -330,8 +338,11 @@ impl<D: Disk + Drop> Standby<D> {
         requires counted { self.old.taken ≤ blocks.old.place }
         ensures kept { OnOk result (D.tells
             → IsOpen D.seen D.images self.new.journal.log self.new.journal.disk (summary self.new.core)) }
-        ensures makes { MakesSteps D.tells D.moment D.left_since self.old.journal.disk self.new.journal.disk
+        ensures makes { MakesTaken D.tells D.moment D.left_since self.old.journal.disk self.new.journal.disk
             self.old.core self.new.core result }
+        ensures stages { IsRightCore self.old.core → D.tells → LeavesOnly D.moment D.left_since self.old.journal.disk
+            self.new.journal.disk
+            (StandsBehind (stage self.old.core self.old.taken from blocks.old (S.left src.old))) }
         ensures cause { MatchResult result (λ _. (S.faults src.new ≡ S.faults src.old)
             × (D.faults self.new.journal.disk ≡ D.faults self.old.journal.disk))
             (FollowEnd (S.faults src.old) (S.faults src.new)
@@ -360,8 +371,10 @@ impl<D: Disk + Drop> Standby<D> {
         requires none { self.old.taken ≡ 0 }
         ensures kept { OnOk result (D.tells
             → IsOpen D.seen D.images self.new.journal.log self.new.journal.disk (summary self.new.core)) }
-        ensures makes { MakesSteps D.tells D.moment D.left_since self.old.journal.disk self.new.journal.disk
+        ensures makes { MakesTaken D.tells D.moment D.left_since self.old.journal.disk self.new.journal.disk
             self.old.core self.new.core result }
+        ensures stages { IsRightCore self.old.core → D.tells → LeavesOnly D.moment D.left_since self.old.journal.disk
+            self.new.journal.disk (IsAtStage self.old.core (S.left src.old)) }
         ensures cause { MatchResult result (λ _. (S.faults src.new ≡ S.faults src.old)
             × (D.faults self.new.journal.disk ≡ D.faults self.old.journal.disk))
             (FollowEnd (S.faults src.old) (S.faults src.new)
@@ -404,7 +417,8 @@ pub fn follow<S: Source, D: Disk + Drop>(
     ensures follows { (MatchResult result.0 (λ _. ⊥) (IsNotOpened (λ stop. D.tells → IsUnopened (D.seen disk) stop))
         × Keeps (S.left src.old) (S.left src.new)
         × (D.tells → Only (D.seen disk) (D.images disk) → KeepsStore D.moment D.left_since D.seen disk result.1))
-        ⊎ FollowsOpened D.tells (D.seen disk) (D.images result.1) (S.left src.old) (S.left src.new) result.0 }
+        ⊎ FollowsOpened D.tells D.moment D.left_since D.seen D.images disk result.1 (S.left src.old) (S.left src.new)
+        result.0 }
 {
     let mut disk = disk;
     match open(alloc, &mut disk) {

@@ -3,7 +3,7 @@ ghost use Rattle.std.specs.Prelude.{◌≡◌, ◌∷◌, [], ◌+◌, ◌<◌, 
 ghost use Rattle.std.specs.Prelude.{OnOk, MatchResult};
 ghost use Rattle.standby.specs.Endings.{FollowEnd};
 ghost use Rattle.standby.specs.Frames.{EndsThere, IsLength, ReadsFirst, ReadsFrame, StopsFrame, head_bytes};
-ghost use Rattle.standby.specs.Readers.{Gives, ahead};
+ghost use Rattle.standby.specs.Readers.{Gives, HoldsBlock, ahead};
 ghost use Rattle.standby.specs.Streams.{frame_bytes};
 ghost use Rattle.standby.specs.declared.stops.FollowStop.TheVariants as stop;
 
@@ -25,6 +25,7 @@ fn read_first<S: Source>(
     ensures reads { ReadsFirst blocks.old.place number (ahead blocks.old (S.left src.old))
         (ahead blocks.new (S.left src.new)) result }
     ensures dry { IfErr result (λ e. e ≡ stop.ReadFault → blocks.new.held ≡ []) }
+    ensures block { HoldsBlock blocks.old → HoldsBlock blocks.new }
     ensures place { OnOk result (blocks.new.place ≡ blocks.old.place + 1) }
 {
     let place = blocks.place();
@@ -53,6 +54,7 @@ fn read_length<S: Source>(
         (StopsFrame place number before (ahead blocks.new (S.left src.new))) }
     ensures allowed { IfOk result IsLength }
     ensures dry { IfErr result (λ e. e ≡ stop.ReadFault → blocks.new.held ≡ []) }
+    ensures block { HoldsBlock blocks.old → HoldsBlock blocks.new }
     ensures place { OnOk result (blocks.new.place ≡ place + 5) }
 {
     let _ = blocks.read(src, 4, bytes)?;
@@ -84,6 +86,7 @@ fn read_payload<S: Source>(
         (StopsFrame place number before (ahead blocks.new (S.left src.new))) }
     ensures whole { OnOk result (length payload.new.items ≡ len) }
     ensures dry { IfErr result (λ e. e ≡ stop.ReadFault → blocks.new.held ≡ []) }
+    ensures block { HoldsBlock blocks.old → HoldsBlock blocks.new }
     ensures place { OnOk result (blocks.new.place ≡ blocks.old.place + len) }
 {
     if !blocks.read(src, len, payload)? {
@@ -104,6 +107,7 @@ pub fn read_frame<S: Source>(
     ensures reads { ReadsFrame blocks.old.place number (ahead blocks.old (S.left src.old))
         (ahead blocks.new (S.left src.new)) payload.new.items result }
     ensures dry { IfErr result (λ e. e ≡ stop.ReadFault → blocks.new.held ≡ []) }
+    ensures block { HoldsBlock blocks.new }
     ensures place { IfOk result (λ more. IsTrue more
         → blocks.new.place ≡ blocks.old.place + length (frame_bytes payload.new.items)) }
     ensures end { IfOk result (λ more. more ≡ false → blocks.new.place ≡ blocks.old.place + 1) }
@@ -124,6 +128,7 @@ pub fn at_end<S: Source>(src: &mut S, blocks: &mut Blocks) -> Result<(), FollowS
     ensures ends { EndsThere blocks.old.place (ahead blocks.old (S.left src.old))
         (ahead blocks.new (S.left src.new)) result }
     ensures dry { IfErr result (λ e. e ≡ stop.ReadFault → blocks.new.held ≡ []) }
+    ensures block { HoldsBlock blocks.new }
 {
     if blocks.has_more(src)? {
         return Err(FollowStop::Frame(blocks.place()));

@@ -1,10 +1,15 @@
-use Rattle.std.proofs.Common.{inl, inr, subst}
+use Rattle.std.proofs.Common.{◌≡◌, inl, inr, subst, sym}
 use Rattle.std.proofs.KnownBytes.{Keeps-refl}
 use Rattle.flow_core.specs.Summaries.{summary}
+use Rattle.flow_core.specs.declared.state.Core.{Core}
+use Rattle.flow_disk.proofs.Runs.{joined, weaker}
 use Rattle.flow_session.specs.Histories.{StandsFor}
 use Rattle.flow_session.proofs.Keeping.{counts_since, seen_left}
 use Rattle.flow_session.proofs.Runs.{opened, served}
 use Rattle.flow_session.specs.Refusing.{IsUnopened}
+use Rattle.standby.specs.Adopting.{AdoptsAll}
+use Rattle.standby.specs.Followed.{IsAtStage}
+use Rattle.standby.proofs.Taken.{makes_opened}
 use Rattle.standby.proofs.Unopened.{not_opened}
 use Rattle.flow_session.proofs.Queued.{opened_has_queue}
 use Rattle.standby.proofs.following.follow.Goals as goal
@@ -38,10 +43,36 @@ returns-in-Err-clause-follows g c = inl (
 )
 
 pub returns-in-Ok-clause-follows : goal.returns-in-Ok-clause-follows
-returns-in-Ok-clause-follows g c = inr (record {
-  core = c.in-Ok.core;
-  stood = λ told. subst (StandsFor (summary c.in-Ok.core)) c.in-Ok.ensures.seen (c.in-Ok.ensures.open told).holds;
-  state = c.in-Ok.ensures.state;
-  queued = λ told. opened_has_queue (g.D.Disk.seen c.open.new.disk) c.in-Ok.opened (summary c.in-Ok.core) (c.in-Ok.ensures.opened told) c.in-Ok.ensures.comes;
-  follows = λ some_. c.follow_from.ensures.follows (c.in-Ok.ensures.right some_).0;
-})
+returns-in-Ok-clause-follows g c =
+    let d = g.D.Disk in
+    let core = c.in-Ok.core in
+    let stood = λ (told : d.tells). subst (StandsFor (summary core)) c.in-Ok.ensures.seen
+    (c.in-Ok.ensures.open told).holds in
+    let queued = λ (told : d.tells). opened_has_queue (d.seen c.open.new.disk) c.in-Ok.opened (summary core)
+    (c.in-Ok.ensures.opened told) c.in-Ok.ensures.comes in
+    inr (record {
+      core = core;
+      stood = stood;
+      state = c.in-Ok.ensures.state;
+      reached = c.in-Ok.ensures.reached;
+      queued = queued;
+      makes = λ told only. makes_opened d.tells d.moment d.left_since d.seen
+          (counts_since d.moment d.left_since d.images g.met.D.Disk.counts_now g.met.D.Disk.only_now)
+          c.args.disk c.open.new.disk c.follow_from.result.1
+          (seen_left d.moment d.left_since d.images g.met.D.Disk.counts_now d.tells d.seen g.met.D.Disk.honest
+          c.args.disk)
+          (summary core) (λ ts. (last : Core) × AdoptsAll core ts last)
+          (opened d.tells d.moment d.left_since d.seen d.images c.args.disk c.open.new.disk only
+          c.open.ensures.any_moment)
+          (stood told) (c.follow_from.ensures.adopts (c.in-Ok.ensures.right (queued told)).0);
+      stages = λ told only.
+          joined d.moment d.left_since d.images c.args.disk c.open.new.disk c.follow_from.result.1
+          (IsAtStage core (g.S.Source.left c.args.src.now))
+          (weaker d.moment d.left_since d.images c.args.disk c.open.new.disk (λ image. image ≡ d.seen c.args.disk)
+          (IsAtStage core (g.S.Source.left c.args.src.now))
+          (opened d.tells d.moment d.left_since d.seen d.images c.args.disk c.open.new.disk only
+          c.open.ensures.any_moment)
+          (λ image is. inl (subst (StandsFor (summary core)) (sym is) (stood told))))
+          (c.follow_from.ensures.stages (c.in-Ok.ensures.right (queued told)).0 told);
+      follows = λ some_. c.follow_from.ensures.follows (c.in-Ok.ensures.right some_).0;
+    })

@@ -1,5 +1,5 @@
 use Rattle.std.proofs.Common.{◌≡◌, ◌+◌, length}
-use Rattle.standby.specs.Readers.{Gives, ahead}
+use Rattle.standby.specs.Readers.{Gives, HoldsBlock, ahead}
 use Rattle.standby.proofs.blocks.Blocks.read.Given as goal
 
 abbrev pub invariant-parts : goal.invariant-parts
@@ -7,6 +7,7 @@ invariant-parts g l = record {
   counted : g.S.Source.faults l.src ≡ g.S.Source.faults l.initial.src;
   given : Gives l.initial.self.place (ahead l.initial.self (g.S.Source.left l.initial.src)) (ahead l.self (g.S.Source.left l.src)) l.out.items;
   sum : length l.out.items + l.missing ≡ l.count;
+  block : HoldsBlock l.initial.self → HoldsBlock l.self;
   place : l.self.place ≡ l.initial.self.place + length l.out.items;
 }
 

@@ -2,7 +2,8 @@ use Rattle.std.proofs.Common.{◌∙◌, ◌+◌, ap, length, refl, sym, subst, 
 use Rattle.standby.specs.Readers.{Reader}
 use Rattle.standby.specs.Stages.{Here, Further, stage}
 use Rattle.standby.specs.Waiting.{Waits}
-use Rattle.standby.proofs.Framed.{passes_held}
+use Rattle.standby.proofs.Ahead.{hands_more, hands_none}
+use Rattle.standby.proofs.Framed.{frame_fits, passes_held}
 use Rattle.standby.proofs.Waiting.{waits_none, waits_more, stop_unchanged, stop_waits, stop_reaches}
 use Rattle.standby.proofs.following.Standby.gather.Goals as goal
 
@@ -12,6 +13,7 @@ held-init g c = record {
   waits = waits_none c.args.self.now.core c.args.batch.now;
   counted = c.requires.counted;
   on = omega arith;
+  hands = hands_none c.args.blocks.now;
   right = λ right. right;
   reached = λ _ left. Here;
 }
@@ -28,7 +30,9 @@ held-preserved g c =
       waits = waits_more c.args.self.now.core c.held.self.core c.take_payload.new.self.core c.args.batch.now c.held.batch c.take_payload.new.batch i.waits e.waits;
       counted = omega (arith, i.counted, e.count, place);
       on = omega (arith, i.on, place);
-      right = λ right. e.waits.leads.right (i.right right);
+      hands = hands_more c.args.blocks.now c.held.blocks c.skip.new.self (5 + length payload)
+          (frame_fits c.held.blocks payload holds) c.skip.ensures i.hands;
+      right = λ right. e.waits.takes.leads.right (i.right right);
       reached = λ right left.
           Further (i.reached right left)
           (passes_held c.held.self.core c.held.self.taken c.held.number _
@@ -55,16 +59,44 @@ returns-in-Err-clause-reaches g c right =
 -- ---- what waits
 
 pub returns-in_default-clause-waiting : goal.returns-in_default-clause-waiting
-returns-in_default-clause-waiting g c = record { core = c.held.self.core; count = c.held.self.taken; number = c.held.number; waits = c.held.invariant.waits; reached = c.held.invariant.reached }
+returns-in_default-clause-waiting g c = record {
+  core = c.held.self.core;
+  count = c.held.self.taken;
+  number = c.held.number;
+  hands = c.held.invariant.hands;
+  waits = c.held.invariant.waits;
+  reached = c.held.invariant.reached;
+}
 
 pub returns-in_default-checked_add-clause-waiting : goal.returns-in_default-checked_add-clause-waiting
-returns-in_default-checked_add-clause-waiting g c = record { core = c.held.self.core; count = c.held.self.taken; number = c.held.number; waits = c.held.invariant.waits; reached = c.held.invariant.reached }
+returns-in_default-checked_add-clause-waiting g c = record {
+  core = c.held.self.core;
+  count = c.held.self.taken;
+  number = c.held.number;
+  hands = c.held.invariant.hands;
+  waits = c.held.invariant.waits;
+  reached = c.held.invariant.reached;
+}
 
 pub returns-else-size-lt-BATCH_BYTES-clause-waiting : goal.returns-else-size-lt-BATCH_BYTES-clause-waiting
-returns-else-size-lt-BATCH_BYTES-clause-waiting g c = record { core = c.held.self.core; count = c.held.self.taken; number = c.held.number; waits = c.held.invariant.waits; reached = c.held.invariant.reached }
+returns-else-size-lt-BATCH_BYTES-clause-waiting g c = record {
+  core = c.held.self.core;
+  count = c.held.self.taken;
+  number = c.held.number;
+  hands = c.held.invariant.hands;
+  waits = c.held.invariant.waits;
+  reached = c.held.invariant.reached;
+}
 
 pub returns-after-held-clause-waiting : goal.returns-after-held-clause-waiting
-returns-after-held-clause-waiting g c = record { core = c.held.self.core; count = c.held.self.taken; number = c.held.number; waits = c.held.invariant.waits; reached = c.held.invariant.reached }
+returns-after-held-clause-waiting g c = record {
+  core = c.held.self.core;
+  count = c.held.self.taken;
+  number = c.held.number;
+  hands = c.held.invariant.hands;
+  waits = c.held.invariant.waits;
+  reached = c.held.invariant.reached;
+}
 
 pub returns-in-Err-clause-waiting : goal.returns-in-Err-clause-waiting
 returns-in-Err-clause-waiting g c =
@@ -73,6 +105,7 @@ returns-in-Err-clause-waiting g c =
       core = c.held.self.core;
       count = c.held.self.taken;
       number = c.held.number;
+      hands = i.hands;
       waits = subst (λ (batch : List (List ℕ)). Waits c.args.self.now.core c.args.batch.now c.held.self.core batch) (sym c.in-Err.ensures.batch) i.waits;
       reached = i.reached;
     }

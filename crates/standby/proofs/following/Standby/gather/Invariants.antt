@@ -1,5 +1,6 @@
 use Rattle.std.proofs.Common.{◌≡◌, ◌-◌, ◌≤◌, Option, List, ℕ}
 use Rattle.core_laws.specs.RightStates.{IsRightCore}
+use Rattle.standby.specs.Readers.{HandsOut}
 use Rattle.standby.specs.Stages.{Reaches, stage}
 use Rattle.standby.specs.Waiting.{Waits}
 use Rattle.standby.proofs.following.Standby.gather.Given as goal
@@ -10,6 +11,7 @@ invariant-held g l = record {
   waits : Waits l.initial.self.core l.initial.batch l.self.core l.batch;
   counted : l.self.taken ≤ l.blocks.place;
   on : l.initial.blocks.place ≤ l.blocks.place;
+  hands : HandsOut l.initial.blocks l.blocks;
   right : IsRightCore l.initial.self.core → IsRightCore l.self.core;
   reached : IsRightCore l.initial.self.core → (left : Option (List ℕ))
       → Reaches (stage l.initial.self.core l.initial.self.taken l.initial.number l.initial.blocks left)

@@ -1,9 +1,11 @@
 use Rattle.std.proofs.Common.{◌∙◌, ◌<◌, [], ◌∷◌, inr, ap, refl, arith}
+use Rattle.core_laws.specs.RightStates.{IsRightCore}
 use Rattle.flow_core.specs.Summaries.{Summary, summary}
 use Rattle.machine_laws.specs.Applied.{Applied}
 use Rattle.machine_laws.specs.Viewed.{view}
 use Rattle.flow_session.specs.Leading.{LeadsBy}
 use Rattle.flow_session.proofs.Leading.{leads_adopted, one_step}
+use Rattle.standby.specs.Stages.{Adopts}
 use Rattle.standby.proofs.Going.{in_order}
 use Rattle.standby.proofs.Taken.{IsNext, next_one}
 use Rattle.standby.proofs.Waiting.{waits_none, waits_one}
@@ -53,27 +55,31 @@ leads g c =
     leads_adopted c.args.self.now.core c.adopt.new.self c.args.numbered.number c.args.numbered.transaction
     c.in-Ok.ensures.admitted c.in-Ok.ensures.allowed (applied g c) c.in-Ok.ensures.counts
 
+-- from a right state on it is adopted
+adopts : (g : given.Over) (c : goal.In-Ok g) → IsRightCore c.args.self.now.core
+    → Adopts c.args.self.now.core c.args.numbered.number c.args.numbered.transaction c.adopt.new.self
+adopts g c right = record {
+  beyond = beyond g c;
+  admitted = c.in-Ok.ensures.admitted (in_order c.args.self.now.core right);
+  makes = record {
+    allowed = c.in-Ok.ensures.allowed;
+    drives = c.in-Ok.ensures.drives;
+    counts = c.in-Ok.ensures.counts;
+    lives = (c.args.numbered.number, ap (λ (s : Summary). s.live) c.in-Ok.ensures.taken);
+  };
+  applied = applied g c;
+  steps = one_step (view c.args.self.now.core) c.args.numbered.transaction (view c.adopt.new.self)
+      ((leads g c).steps right);
+}
+
 pub returns-clause-waits : goal.returns-clause-waits
 returns-clause-waits g c =
     let here = (goal.at.returns-clause-waits g c).In-Ok in
-    waits_one c.args.self.now.core c.adopt.new.self c.args.numbered.number c.args.numbered.transaction c.args.payload.now c.args.batch.now c.push.new.self (next_here g here).0 c.requires.spelled c.requires.range (leads g here) c.in-Ok-push.ensures
+    waits_one c.args.self.now.core c.adopt.new.self c.args.numbered.number c.args.numbered.transaction
+    c.args.payload.now c.args.batch.now c.push.new.self (next_here g here).0 c.requires.spelled c.requires.range
+    (leads g here) (adopts g here) c.in-Ok-push.ensures
 
 pub returns-clause-takes : goal.returns-clause-takes
 returns-clause-takes g c right =
     let here = (goal.at.returns-clause-takes g c).In-Ok in
-    let t = c.args.numbered.transaction in
-    inr (
-      record {
-        beyond = beyond g here;
-        admitted = c.in-Ok.ensures.admitted (in_order c.args.self.now.core right);
-        makes = record {
-          allowed = c.in-Ok.ensures.allowed;
-          drives = c.in-Ok.ensures.drives;
-          counts = c.in-Ok.ensures.counts;
-          lives = (c.args.numbered.number, ap (λ (s : Summary). s.live) c.in-Ok.ensures.taken);
-        };
-        applied = applied g here;
-        steps = one_step (view c.args.self.now.core) t (view c.adopt.new.self) ((leads g here).steps right);
-      },
-      omega (arith, c.saturating_add-self.ensures, c.requires.room),
-    )
+    inr (adopts g here right, omega (arith, c.saturating_add-self.ensures, c.requires.room))
