@@ -1,5 +1,5 @@
 -- An attempt that has started by the view has started by the completions alone, on the same input; where all that is due was taken, the other way round too.
-use Rattle.std.proofs.Common.{◌≡◌, ℕ, zero, suc, ◌+◌, true, ◌&&◌, List, map, refl, sym, ap, ◌∙◌, Some, inl, inr}
+use Rattle.std.proofs.Common.{◌≡◌, ℕ, zero, suc, ◌+◌, true, ◌&&◌, List, refl, sym, ap, ◌∙◌, Some, inl, inr}
 use Rattle.std.specs.Prelude.{slice_get}
 use Rattle.fate_laws.proofs.Attempts.{Along, Keeps}
 use Rattle.fate_laws.proofs.Extends.{Extends, and_true, both_true}

@@ -9,4 +9,7 @@
 
 mod scopes;
 
-pub use scopes::{quiet_scopes_are_there, quiet_scopes_are_whole, scopes_are_sound};
+pub use scopes::{
+    quiet_roots_are_order_free, quiet_roots_say_all, quiet_scopes_are_there,
+    quiet_scopes_are_whole, quiet_states_have_quiet_roots, scopes_are_sound,
+};
