@@ -1,6 +1,7 @@
--- The premises of the laws can be met: by a disk on which `new` makes a store, and a run that stops for want of memory.
-use Rattle.std.proofs.Common.{◌≡◌, ◌⊎◌, inl, inr, ℕ, zero, suc, ◌+◌, ◌≤◌, List, [], ◌∷◌, ◌++◌, Some, refl, sym, subst, ◌∙◌}
-use Rattle.std.proofs.Common.{arith}
+-- The premises of the laws can be met: by a disk on which `new` makes a store, and by runs under `run` and `follow`
+-- that stop for want of memory.
+use Rattle.std.proofs.Common.{◌≡◌, ◌⊎◌, inl, inr, ℕ, zero, suc, ◌≤◌, List, [], ◌∷◌, ◌++◌, Some, Err, refl, sym}
+use Rattle.std.proofs.Common.{subst, ◌∙◌, arith}
 use Rattle.std.specs.Prelude.{codes}
 use Rattle.std.proofs.lemmas.List.Elements.{All-nil}
 use Rattle.flow_disk.specs.Images.{Image}
@@ -15,27 +16,28 @@ use Rattle.flow_words.specs.Numbers.{limit_words, queue_words}
 use Rattle.flow_words.specs.Outside.{Channels, files, KeepsFiles}
 use Rattle.flow_words.specs.declared.numbers.Settings.{Settings}
 use Rattle.flow_words.specs.declared.status.Status.TheVariants.{Done, NoMemory}
-use Rattle.flow_words.specs.declared.word.Word.TheVariants.{New, Run}
+use Rattle.flow_words.specs.declared.word.Word.TheVariants.{New, Run, Follow}
+use Rattle.standby.specs.declared.stops.FollowStop.TheVariants as follow
 use Rattle.txn_log.specs.Opening.{first_header, MayBeMade}
 use Rattle.txn_log.specs.Stored.{is_unmade, has_magic, header_of, header_fault, header_text, length_at}
 use Rattle.txn_log.specs.Stores.{NoStore, Counts, store_of}
 use Rattle.txn_log.specs.declared.stops.LogStop.TheVariants as stop
-use Rattle.run_laws.specs.Lives.{IsLeft, WasMade, WasRun}
+use Rattle.run_laws.specs.Lives.{IsLeft, WasMade, WasRun, WasFollowed}
 
 -- ---- a disk, which is the number of its moment
 
-no_image : Image
+pub no_image : Image
 no_image = record { a = []; b = [] }
 
-new_image : Image
+pub new_image : Image
 new_image = record { a = 1 ∷ header_text (first_header 2 20) ++ 0 ∷ []; b = [] }
 
 -- nothing stands on it at the moment 0, and a new store from then on
-abbrev seen_at : ℕ → Image
+abbrev pub seen_at : ℕ → Image
 seen_at zero = no_image
 seen_at (suc n) = new_image
 
-abbrev disk : Ghosts ℕ
+abbrev pub disk : Ghosts ℕ
 disk = record {
   tells = Unit {0};
   seen = seen_at;
@@ -49,11 +51,11 @@ nothing_there : store_of no_image ≡ NoStore
 unfolding no_image is_unmade has_magic header_of header_fault length_at
 nothing_there = refl
 
-new_there : store_of new_image ≡ Counts A (first_header 2 20) [] 42
+pub new_there : store_of new_image ≡ Counts A (first_header 2 20) [] 42
 unfolding new_image is_unmade has_magic header_of header_fault header_text length_at
 new_there = refl
 
-new_stands : StandsFor (empty_history 2 20) new_image
+pub new_stands : StandsFor (empty_history 2 20) new_image
 new_stands = record {
   slot = A;
   header = first_header 2 20;
@@ -148,15 +150,17 @@ kept : (m : ℕ) (image : Image) → 1 ≤ m → image ≡ seen_at m → image �
 kept zero image some_ is = let never : ⊥ = omega (arith, some_) in absurd never
 kept (suc n) image some_ is = is
 
-stays : KeepsFiles (files disk 1 2)
-stays = record {
+pub stays : (n : ℕ) → KeepsFiles (files disk (suc n) (suc (suc n)))
+stays n = record {
   later = omega arith;
-  each = λ image left. kept left.0 image left.1 left.3;
+  each = λ image left.
+      let since = left.1 in
+      kept left.0 image (omega (arith, since)) left.3;
   before = λ t image early left. go t image early left.0 left.1 left.2 left.3;
 }
   where
-    go : (t : ℕ) (image : Image) → t ≤ 1 → (m : ℕ) → t ≤ m → m ≤ 2 → image ≡ seen_at m
-        → ((n : ℕ) × (t ≤ n) × (n ≤ 1) × (image ≡ seen_at n)) ⊎ (image ≡ new_image)
+    go : (t : ℕ) (image : Image) → t ≤ suc n → (m : ℕ) → t ≤ m → m ≤ suc (suc n) → image ≡ seen_at m
+        → ((k : ℕ) × (t ≤ k) × (k ≤ suc n) × (image ≡ seen_at k)) ⊎ (image ≡ new_image)
     go t image early zero since within is = inl (0, since, omega arith, is)
     go t image early (suc m) since within is = inr is
 
@@ -164,10 +168,10 @@ runs : RunIsCorrect run_words (told []) (files disk 1 2) NoMemory
 runs = record {
   word = Some Run;
   said = (refl, (apart, refl));
-  prints = inl ((stop.NoMemory, λ tells. tt, inl (refl, refl)), refl, λ tells only. stays);
+  prints = inl ((stop.NoMemory, λ tells. tt, inl (refl, refl)), refl, λ tells only. stays 0);
   statuses = inr (inr (inr (inr (inr (inl refl)))));
   causes = tt;
-  crash = λ tells only. inl stays;
+  crash = λ tells only. inl (stays 0);
   source = tt;
   untouched = tt;
 }
@@ -176,3 +180,29 @@ was_run : IsLeft disk settings new_image
 unfolding runs
 was_run = WasRun run_words (told []) 1 2 NoMemory (tt, λ image is. is) was_made runs refl
     (2, omega arith, omega arith, refl)
+
+-- ---- `follow a ab`, which finds no memory
+
+abbrev follow_words : List (List ℕ)
+follow_words = codes "follow" ∷ codes "a" ∷ codes "ab" ∷ []
+
+follows : RunIsCorrect follow_words (told []) (files disk 2 3) NoMemory
+follows = record {
+  word = Some Follow;
+  said = (refl, (apart, refl));
+  prints = record {
+    result = Err follow.NoMemory;
+    comes_to = inl (tt, refl, λ tells only. stays 1);
+    printed = (refl, refl);
+  };
+  statuses = inr (inr (inr (inr (inr (inr (inl refl))))));
+  causes = tt;
+  crash = λ tells only. inl (stays 1);
+  source = tt;
+  untouched = tt;
+}
+
+was_followed : IsLeft disk settings new_image
+unfolding follows
+was_followed = WasFollowed follow_words (told []) 2 3 NoMemory (tt, λ image is. is) was_run follows refl
+    (3, omega arith, omega arith, refl)

@@ -1,10 +1,9 @@
 -- What a run over an own store leaves: what was there; then what the answered inputs make; then what the call in which
 -- it stops makes.
-use Rattle.std.proofs.Common.{◌≡◌, ◌⊎◌, inl, inr, ℕ, zero, suc, ◌≤◌, List, [], ◌∷◌, ◌++◌, Option, Some, take}
-use Rattle.std.proofs.Common.{Result, Ok, Err, refl, sym, ap, subst, ◌∙◌}
+use Rattle.std.proofs.Common.{◌≡◌, inl, inr, ℕ, ◌≤◌, List, [], ◌++◌, Option}
+use Rattle.std.proofs.Common.{Result, Ok, Err, refl, sym, subst, ◌∙◌}
 use Rattle.core_laws.specs.RightStates.{IsRightCore}
 use Rattle.flow_core.specs.Summaries.{Summary, summary}
-use Rattle.flow_core.specs.declared.state.Core.{Core}
 use Rattle.flow_disk.specs.Images.{Image}
 use Rattle.flow_disk.specs.Moments.{LeavesOnly, Only}
 use Rattle.flow_disk.specs.declared.disk.Disk.{Ghosts}
@@ -12,8 +11,7 @@ use Rattle.flow_disk.specs.declared.disk.Slot.{Slot}
 use Rattle.flow_disk.proofs.Runs.{weaker, joined}
 use Rattle.flow_model.specs.declared.transactions.Transaction.{Transaction}
 use Rattle.flow_session.specs.Checkpoints.{IsCheckpointed}
-use Rattle.flow_session.specs.Fitting.{AreFitFrom, HasFitRecords}
-use Rattle.flow_session.specs.Histories.{StandsFor, StandsAfterSome}
+use Rattle.flow_session.specs.Histories.{StandsFor}
 use Rattle.flow_session.specs.Inputs.{Given, Unended, unended}
 use Rattle.flow_session.specs.Keeping.{IsOpen, rests}
 use Rattle.flow_session.specs.Leading.{LeadsBy}
@@ -25,139 +23,26 @@ use Rattle.flow_session.proofs.Scripts.{keep_right}
 use Rattle.flow_words.specs.Correct.{PrintsWord}
 use Rattle.flow_words.specs.Endings.{StopsScript, status_of_stop}
 use Rattle.flow_words.specs.Openings.{IsUnserved}
-use Rattle.flow_words.specs.Outside.{Channels, Files, files, KeepsFiles}
+use Rattle.flow_words.specs.Outside.{Channels, files, KeepsFiles}
 use Rattle.flow_words.specs.Scripts.{AreUnanswered, ServesStoreScript, RunsStore, EndsAs}
 use Rattle.flow_words.specs.declared.status.Status.{Status}
 use Rattle.flow_words.specs.declared.status.Status.TheVariants.{Done}
 use Rattle.flow_words.specs.declared.word.Word.{Word}
-use Rattle.flow_words.specs.declared.word.Word.TheVariants.{Run}
 use Rattle.machine.specs.Scripts.{Replies}
 use Rattle.machine.specs.States.{State}
 use Rattle.machine_laws.specs.Viewed.{view}
 use Rattle.machine_verdicts.specs.Keyed.{AreKeyed}
 use Rattle.session_laws.specs.Sittings.{IsWhole}
 use Rattle.reopening_laws.specs.Making.{MadeByCommands}
-use Rattle.reopening_laws.proofs.Sessions.{made_more, made_by_commands}
+use Rattle.reopening_laws.proofs.Sessions.{made_by_commands}
 use Rattle.compaction_laws.specs.Compact.{IsMadeAnew}
 use Rattle.compaction_laws.specs.OwnStores.{IsOwn, IsOwnAfterSome, AreOwnNow}
 use Rattle.compaction_laws.proofs.Compact.{history_anew}
 use Rattle.compaction_laws.proofs.OwnStores.{own_reopens, own_stay, own_go_on}
-use Rattle.run_laws.specs.Left.{AreOfLastCall, OpensOwn, IsOwnBehind}
-use Rattle.run_laws.specs.Runs.{IsAnswered, RunKeepsOwn}
-use Rattle.run_laws.specs.Runs.{RunsKeepOwn, RunsReopen, RunsGoOn, CorrectRunsKeepOwn}
-use Rattle.run_laws.proofs.Left.{import_fit, import_left}
+use Rattle.run_laws.specs.Runs.{IsAnswered, RunKeepsOwn, IsReopenedAfterSome, RunsKeepOwn, RunsReopen}
+use Rattle.run_laws.specs.Runs.{CorrectRunsKeepOwn}
+use Rattle.run_laws.proofs.Fronts.{own_front, own_past, some_reopened}
 use Rattle.run_laws.proofs.UnderWay.{input_asks}
-
--- ---- front parts
-
-take_front : (n : ℕ) (ts us : List Transaction) → (m : ℕ) × (take m (ts ++ us) ≡ take n ts)
-take_front zero ts us = (0, refl)
-take_front (suc n) [] us = (0, refl)
-take_front (suc n) (t ∷ ts) us =
-    let rest = take_front n ts us in
-    (suc rest.0, ap (λ (xs : List Transaction). t ∷ xs) rest.1)
-
-take_past : (n : ℕ) (ts us : List Transaction) → (m : ℕ) × (take m (ts ++ us) ≡ ts ++ take n us)
-take_past n [] us = (n, refl)
-take_past n (t ∷ ts) us =
-    let rest = take_past n ts us in
-    (suc rest.0, ap (λ (xs : List Transaction). t ∷ xs) rest.1)
-
-made_past : (s : State) (ts us : List Transaction) (last : State) → MadeByCommands s ts last → (n : ℕ) (mid : State)
-    → MadeByCommands last (take n us) mid → (m : ℕ) × MadeByCommands s (take m (ts ++ us)) mid
-made_past s ts us last first n mid made =
-    let m = take_past n ts us in (
-      m.0,
-      subst (λ (xs : List Transaction). MadeByCommands s xs mid) (sym m.1)
-          (made_more s ts (take n us) last mid first made),
-    )
-
--- what is own as far as it is opened behind some transactions, it is behind those before them
-pub opens_past : (s : State) (ts us : List Transaction) (mid : State) → MadeByCommands s ts mid → (image : Image)
-    → OpensOwn mid us image → OpensOwn s (ts ++ us) image
-opens_past s ts us mid first image opens = record {
-  openable = opens.openable;
-  opened = λ c opened.
-      let is = opens.opened c opened in
-      let past = made_past s ts us mid first is.0 (view c) is.1 in
-      (past.0, past.1, is.2);
-}
-
-module _ (s : State) (ts us : List Transaction) (last : State) where
-  -- what is own after some of the first ones
-  pub own_front : (image : Image) → IsOwnAfterSome s ts image → IsOwnBehind s ts last us image
-  own_front image (n, mid, made, own) =
-      let m = take_front n ts us in
-      inl (m.0, mid, subst (λ (xs : List Transaction). MadeByCommands s xs mid) (sym m.1) made, own)
-
-  -- what is own behind all of them
-  pub own_past : MadeByCommands s ts last → (image : Image) → IsOwnBehind last [] last us image
-      → IsOwnBehind s ts last us image
-  own_past first image (inl (n, mid, made, own)) =
-      let past = made_past s ts us last first n mid made in
-      inl (past.0, mid, past.1, own)
-  own_past first image (inr (import, opens)) = inr (import, opens_past s ts us last first image opens)
-
--- an own image is own as far as it is opened
-pub own_opens : (s : State) (ts : List Transaction) (image : Image) → IsOwnAfterSome s ts image → OpensOwn s ts image
-own_opens s ts image (n, mid, made, own) =
-    let reopens = own_reopens mid image own in
-    record {
-      openable = reopens.0;
-      opened = λ c opened.
-          let seen = reopens.1 c opened in (
-            n,
-            subst (MadeByCommands s (take n ts)) (sym seen) made,
-            subst (λ (x : State). IsOwn x image) (sym seen) own,
-          );
-    }
-
-behind_opens : (s : State) (ts : List Transaction) (last : State) (us : List Transaction) (image : Image)
-    → IsOwnBehind s ts last us image → OpensOwn s (ts ++ us) image
-behind_opens s ts last us image (inl own) = own_opens s (ts ++ us) image own
-behind_opens s ts last us image (inr opens) = opens.1
-
--- ---- calls
-
-module _ {J : Type 0} (tells : Type 0) (moment : J → ℕ) (left_since : J → ℕ → Image → Type 0) where
-  -- what holds of each image that a crash leaves, and what else holds of it
-  both : (j j' : J) (P Q : Image → Type 0) → LeavesOnly moment left_since j j' P → LeavesOnly moment left_since j j' Q
-      → LeavesOnly moment left_since j j' (λ image. P image × Q image)
-  both j j' P Q one other = record {
-    later = one.later;
-    each = λ image left. (one.each image left, other.each image left);
-    before = λ t image early left. go image (left_since j t image) (one.before t image early left)
-        (other.before t image early left);
-  }
-    where
-      go : (image : Image) (Was : Type 0) → Was ⊎ P image → Was ⊎ Q image → Was ⊎ (P image × Q image)
-      go image Was (inl was) second = inl was
-      go image Was (inr here) (inl was) = inl was
-      go image Was (inr here) (inr there) = inr (here, there)
-
-  -- what the call in which a run stops leaves of an own store
-  stopped : (c : Core) (j j' : J) (IsEnd : List Transaction → Type 0) → IsMadeAnew (view c)
-      → AreOwnNow moment left_since j (view c) → tells
-      → (makes : Makes tells moment left_since j j' (summary c) IsEnd) → AreOfLastCall (view c) makes.transactions
-      → LeavesOnly moment left_since j j' (IsOwnBehind (view c) [] (view c) makes.transactions)
-  stopped c j j' IsEnd anew own told makes (inl made) =
-      weaker moment left_since (λ journal image. left_since journal 0 image) j j'
-      (IsOwnAfterSome (view c) makes.transactions) (IsOwnBehind (view c) [] (view c) makes.transactions)
-      (own_stay tells moment left_since c made.0 j j' anew own (record {
-        transactions = makes.transactions;
-        any_moment = makes.any_moment;
-        fit = makes.fit;
-        ended = made.1;
-      }) told) (λ image is. inl is)
-  stopped c j j' IsEnd anew own told makes (inr import) =
-      let us = makes.transactions in
-      weaker moment left_since (λ journal image. left_since journal 0 image) j j'
-      (λ image. StandsAfterSome (summary c) us image × HasFitRecords image) (IsOwnBehind (view c) [] (view c) us)
-      (both j j' (StandsAfterSome (summary c) us) HasFitRecords (makes.any_moment told)
-      (makes.fit told (λ image left. (own image left).fit)
-      (subst (λ (ts : List Transaction). AreFitFrom (summary c) ts) (sym import.one)
-      (import_fit (view c) import.text anew import.command import.judged))))
-      (λ image is. import_left (view c) import.text anew import.command import.judged us import.one image is.0 is.1)
 
 -- ---- what is held
 
@@ -309,57 +194,64 @@ module _ {D : Type 0} (g : Ghosts D)
     last_keyed : AreKeyed w.serves.script.last.core
     last_keyed = answers.ended.0.keyed whole.right.0 whole.keyed
 
-    -- the call in which the run stops
-    stops : AreOfLastCall last w.serves.script.under_way.transactions
-    stops = go w.serves.script.under_way.transactions w.serves.script.under_way.ended
-      where
-        go : (us : List Transaction) → AreUnanswered g.tells holds moment left_since w.serves.journal'
-            w.serves.script.last w.serves.script.others result us → AreOfLastCall last us
-        go us (inl none) = inl (last, subst (λ (xs : List Transaction). MadeByCommands last xs last) (sym none) refl)
-        go us (inr stop) = input_asks w.serves.script.last.core last_right last_keyed (unended w.serves.script.last)
-            stop.input us stop.asked
+    -- the transactions of the call in which the run stops
+    abbrev us : List Transaction
+    us = w.serves.script.under_way.transactions
 
-    none_under_way : result ≡ Ok tt → w.serves.script.under_way.transactions ≡ []
-    none_under_way whole = go w.serves.script.under_way.transactions w.serves.script.under_way.ended
+    stops : (s' : State) × MadeByCommands last us s'
+    stops = go us w.serves.script.under_way.ended
       where
-        go : (us : List Transaction) → AreUnanswered g.tells holds moment left_since w.serves.journal'
-            w.serves.script.last w.serves.script.others result us → us ≡ []
-        go us (inl none) = none
-        go us (inr stop) = absurd (ok_err (status_of_stop stop.stop) result whole stop.status)
+        go : (xs : List Transaction) → AreUnanswered g.tells holds moment left_since w.serves.journal'
+            w.serves.script.last w.serves.script.others result xs → (s' : State) × MadeByCommands last xs s'
+        go xs (inl none) = (last, subst (λ (ts : List Transaction). MadeByCommands last ts last) (sym none) refl)
+        go xs (inr stop) = input_asks w.serves.script.last.core last_right last_keyed (unended w.serves.script.last)
+            stop.input xs stop.asked
 
-    -- what is left behind the answers, and at any moment
-    behind : LeavesOnly g.moment g.left_since w.serves.script.journal.disk new
-        (IsOwnBehind last [] last w.serves.script.under_way.transactions)
+    none_under_way : result ≡ Ok tt → us ≡ []
+    none_under_way whole = go us w.serves.script.under_way.ended
+      where
+        go : (xs : List Transaction) → AreUnanswered g.tells holds moment left_since w.serves.journal'
+            w.serves.script.last w.serves.script.others result xs → xs ≡ []
+        go xs (inl none) = none
+        go xs (inr stop) = absurd (ok_err (status_of_stop stop.stop) result whole stop.status)
+
+    -- what is left behind the answers
+    behind : LeavesOnly g.moment g.left_since w.serves.script.journal.disk new (IsOwnAfterSome last us)
     behind = subst (λ (disk : D). LeavesOnly g.moment g.left_since w.serves.script.journal.disk disk
-        (IsOwnBehind last [] last w.serves.script.under_way.transactions)) (sym w.serves.given_back)
-        (of_disks w.serves.script.journal w.serves.journal'
-        (IsOwnBehind last [] last w.serves.script.under_way.transactions)
-        (stopped g.tells moment left_since w.serves.script.last.core w.serves.script.journal w.serves.journal' _
-        last_anew last_own told w.serves.script.under_way stops))
+        (IsOwnAfterSome last us)) (sym w.serves.given_back)
+        (of_disks w.serves.script.journal w.serves.journal' (IsOwnAfterSome last us)
+        (own_stay g.tells moment left_since w.serves.script.last.core stops.0 w.serves.script.journal
+        w.serves.journal' last_anew last_own (record {
+          transactions = us;
+          any_moment = w.serves.script.under_way.any_moment;
+          fit = w.serves.script.under_way.fit;
+          ended = stops.1;
+        }) told))
+
+    -- what is left at any moment
+    abbrev ts : List Transaction
+    ts = made_answers.transactions
 
     abbrev Kept : Image → Type 0
-    Kept = IsOwnBehind (view w.s.core) made_answers.transactions last w.serves.script.under_way.transactions
+    Kept = IsOwnAfterSome (view w.s.core) (ts ++ us)
 
     first : LeavesOnly g.moment g.left_since old w.opened Kept
     first = weaker g.moment g.left_since g.images old w.opened (λ image. image ≡ g.seen old) Kept stayed
-        (λ image same. own_front (view w.s.core) made_answers.transactions w.serves.script.under_way.transactions last
-        image (0, view w.s.core, refl, subst (IsOwn (view w.s.core)) (sym same) own))
+        (λ image same. (0, view w.s.core, refl, subst (IsOwn (view w.s.core)) (sym same) own))
 
     second : LeavesOnly g.moment g.left_since w.opened w.serves.script.journal.disk Kept
     second = subst (λ (disk : D). LeavesOnly g.moment g.left_since disk w.serves.script.journal.disk Kept)
         w.serves.over.1
         (of_disks w.serves.journal w.serves.script.journal Kept
         (weaker moment left_since (λ journal image. left_since journal 0 image) w.serves.journal w.serves.script.journal
-        (IsOwnAfterSome (view w.s.core) made_answers.transactions) Kept
+        (IsOwnAfterSome (view w.s.core) ts) Kept
         (own_stay g.tells moment left_since w.s.core last w.serves.journal w.serves.script.journal own.anew own_now
         made_answers told)
-        (own_front (view w.s.core) made_answers.transactions w.serves.script.under_way.transactions last)))
+        (own_front (view w.s.core) ts us)))
 
     third : LeavesOnly g.moment g.left_since w.serves.script.journal.disk new Kept
-    third = weaker g.moment g.left_since g.images w.serves.script.journal.disk new
-        (IsOwnBehind last [] last w.serves.script.under_way.transactions) Kept behind
-        (own_past (view w.s.core) made_answers.transactions w.serves.script.under_way.transactions last
-        made_answers.ended)
+    third = weaker g.moment g.left_since g.images w.serves.script.journal.disk new (IsOwnAfterSome last us) Kept behind
+        (own_past (view w.s.core) ts us last made_answers.ended)
 
     answered : IsAnswered c (view w.s.core) last
     answered = record {
@@ -376,11 +268,12 @@ module _ {D : Type 0} (g : Ghosts D)
 
     pub script_keeps : (ended : Status) → EndsAs result ended → RunKeepsOwn c (files g old new) (view w.s.core) ended
     script_keeps ended ends = record {
-      answered = made_answers.transactions;
+      answered = ts;
       last = last;
       made = made_answers.ended;
-      under_way = w.serves.script.under_way.transactions;
-      stops = stops;
+      under_way = us;
+      behind = stops.0;
+      stops = stops.1;
       any_moment = joined g.moment g.left_since g.images old w.serves.script.journal.disk new Kept
           (joined g.moment g.left_since g.images old w.opened w.serves.script.journal.disk Kept first second) third;
       over = λ image left. behind.each image
@@ -396,16 +289,17 @@ module _ {D : Type 0} (g : Ghosts D)
       → IsUnserved (files g old new) c.held c.held' ended → KeepsFiles (files g old new)
       → RunKeepsOwn c (files g old new) s ended
   unserved_keeps c old new ended s own unserved keeps =
-      let here : (image : Image) → image ≡ g.seen old → IsOwnBehind s [] s [] image =
-      λ image same. inl (0, s, refl, subst (IsOwn s) (sym same) own) in
+      let here : (image : Image) → image ≡ g.seen old → IsOwnAfterSome s [] image =
+      λ image same. (0, s, refl, subst (IsOwn s) (sym same) own) in
       record {
         answered = [];
         last = s;
         made = refl;
         under_way = [];
-        stops = inl (s, refl);
+        behind = s;
+        stops = refl;
         any_moment = weaker g.moment g.left_since g.images old new (λ image. image ≡ g.seen old)
-            (IsOwnBehind s [] s []) keeps here;
+            (IsOwnAfterSome s []) keeps here;
         over = λ image left. here image
             (keeps.each image (counts_now new (g.moment old) image keeps.later left));
         done = λ done. refl;
@@ -423,15 +317,9 @@ module _ {D : Type 0} (g : Ghosts D)
 
   pub reopen : RunsReopen g
   reopen c old new ended s keeps =
-      weaker g.moment g.left_since g.images old new (IsOwnBehind s keeps.answered keeps.last keeps.under_way)
-      (OpensOwn s (keeps.answered ++ keeps.under_way)) keeps.any_moment
-      (behind_opens s keeps.answered keeps.last keeps.under_way)
-
-  pub go_on : RunsGoOn g
-  go_on c old new ended s ts (told, only) opens (inl (unserved, unread, keeps)) = inl (keeps told only)
-  go_on c old new ended s ts (told, only) opens (inr (result, w, ends)) =
-      let is = opens.opened w.s.core (w.reached told) in
-      inr (is.0, view w.s.core, is.1, script_keeps c old new result w told only is.2 ended ends)
+      let ts = keeps.answered ++ keeps.under_way in
+      weaker g.moment g.left_since g.images old new (IsOwnAfterSome s ts) (IsReopenedAfterSome s ts) keeps.any_moment
+      (some_reopened s ts)
 
   pub correct_keep : CorrectRunsKeepOwn g
   correct_keep words c old new ended s settled own correct says =

@@ -1,4 +1,4 @@
-pub mod Left
 pub mod Runs
+pub mod Follows
 pub mod Making
 pub mod Lives
