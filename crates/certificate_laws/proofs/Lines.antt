@@ -423,7 +423,7 @@ module _ (b : Basis) (g : Graph) (total most : ℕ) (bounded : most < 2 ^ 64) (r
         either None h = before
         either (Some t) h = h.told
 
-    told_right : (n : ℕ) → n ≤ length lines → Told_right (told b (take n lines))
+    pub told_right : (n : ℕ) → n ≤ length lines → Told_right (told b (take n lines))
     told_right zero le = λ p s reads is. absurd (none-some s is)
     told_right (suc n) le = go (slice_get_cases lines n).1 (told_right n (omega arith))
       where
