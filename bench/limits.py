@@ -509,7 +509,7 @@ def rows():
     found["try deletions"] = Row(deletions, SERVED, 3, 1024)
     found["try audits_alone"] = Row(audits_alone, SERVED, 0.2, 64)
     found["try audits_beside"] = Row(audits_beside, SERVED, 2, 1024)
-    found["load 1 20000"] = Row(lambda: "", ["load", "1", str(scaled(20_000))], 1, 256)
+    found["load 1 20000"] = Row(lambda: "", ["load", "1", str(scaled(20_000))], 1, 64)
     return found
 
 

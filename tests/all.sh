@@ -6,7 +6,9 @@ set -uo pipefail
 exec < /dev/null
 cd "$(dirname "${BASH_SOURCE[0]}")/.."
 
+begin=$SECONDS
 rt ci || exit
+echo "rt ci took $((SECONDS - begin)) seconds"
 # What needs no program comes first.
 for script in tests/promises.py tests/widths.py tests/words.py; do
     python3 "$script" || exit

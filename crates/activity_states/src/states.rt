@@ -27,6 +27,17 @@ struct Completed {
     performer: Option<Name>,
 }
 
+/// Makes room for one more attempt. Most activities have one alone, so the first gets room for itself and no more;
+/// where there are others, the room grows as that of each vector does.
+fn make_room(completed: &mut Vec<Completed>) -> Result<(), AllocError>
+    ensures { completed.new.items ≡ completed.old.items }
+{
+    if completed.is_empty() {
+        completed.reserve_exact(1)?;
+    }
+    Ok(())
+}
+
 /// The state of a program activity. A call that changes it has no effect where the activity isn't as the call
 /// needs it.
 #[derive(Drop)]
@@ -154,6 +165,7 @@ impl ProgramState {
         if self.stage != Stage::Open {
             return Ok(());
         }
+        make_room(&mut self.completed)?;
         self.completed.push(Completed { output, performer })?;
         self.hold = Hold::Nobody;
         self.takes = 0;

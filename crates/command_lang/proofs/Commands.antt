@@ -3,7 +3,8 @@ use Rattle.std.proofs.Common.{◌≡◌, ℕ, ◌<◌, true, List, [], ◌∷◌
 use Rattle.std.specs.Prelude.{Result, IfErr}
 use Rattle.std.specs.Result.{IsErrAnd}
 use Rattle.std.proofs.lemmas.Result.{err_from_is_err_and}
-use Rattle.flow_table.specs.declared.keyword.TheConstants as word
+use Rattle.flow_table.specs.declared.keyword.Keyword.{Keyword}
+use Rattle.flow_table.specs.declared.keyword.Keyword.TheVariants as word
 use Rattle.flow_model.specs.declared.commands.Command.{Command}
 use Rattle.flow_model.specs.declared.commands.Command.TheVariants as command
 use Rattle.flow_model.specs.declared.commands.Completion.{Completion}
@@ -42,173 +43,173 @@ form_stops f h = stops_form f.into f.out h
 
 -- ---- a number, an item or a name
 
-turn_out : {c : Command} {a b : Tokens} → IsBehind word.TURN c a b → Reads IsNumber a b
+turn_out : {c : Command} {a b : Tokens} → IsBehind word.Turn c a b → Reads IsNumber a b
 turn_out (Turn {n = x} h) = (x, h)
 
-pub turn_form : IsForm (Reads IsNumber) (Reads (IsBehind word.TURN))
+pub turn_form : IsForm (Reads IsNumber) (Reads (IsBehind word.Turn))
 turn_form = record { into = λ a b h. (command.Turn h.0.size, Turn h.1); out = λ a b h. turn_out h.1 }
 
-suspend_out : {c : Command} {a b : Tokens} → IsBehind word.SUSPEND c a b → Reads IsNumber a b
+suspend_out : {c : Command} {a b : Tokens} → IsBehind word.Suspend c a b → Reads IsNumber a b
 suspend_out (Suspend {n = x} h) = (x, h)
 
-pub suspend_form : IsForm (Reads IsNumber) (Reads (IsBehind word.SUSPEND))
+pub suspend_form : IsForm (Reads IsNumber) (Reads (IsBehind word.Suspend))
 suspend_form = record { into = λ a b h. (command.Suspend h.0.size, Suspend h.1); out = λ a b h. suspend_out h.1 }
 
-resume_out : {c : Command} {a b : Tokens} → IsBehind word.RESUME c a b → Reads IsNumber a b
+resume_out : {c : Command} {a b : Tokens} → IsBehind word.Resume c a b → Reads IsNumber a b
 resume_out (Resume {n = x} h) = (x, h)
 
-pub resume_form : IsForm (Reads IsNumber) (Reads (IsBehind word.RESUME))
+pub resume_form : IsForm (Reads IsNumber) (Reads (IsBehind word.Resume))
 resume_form = record { into = λ a b h. (command.Resume h.0.size, Resume h.1); out = λ a b h. resume_out h.1 }
 
-terminate_out : {c : Command} {a b : Tokens} → IsBehind word.TERMINATE c a b → Reads IsNumber a b
+terminate_out : {c : Command} {a b : Tokens} → IsBehind word.Terminate c a b → Reads IsNumber a b
 terminate_out (Terminate {n = x} h) = (x, h)
 
-pub terminate_form : IsForm (Reads IsNumber) (Reads (IsBehind word.TERMINATE))
+pub terminate_form : IsForm (Reads IsNumber) (Reads (IsBehind word.Terminate))
 terminate_form = record { into = λ a b h. (command.Terminate h.0.size, Terminate h.1); out = λ a b h. terminate_out h.1 }
 
-delete_out : {c : Command} {a b : Tokens} → IsBehind word.DELETE c a b → Reads IsNumber a b
+delete_out : {c : Command} {a b : Tokens} → IsBehind word.Delete c a b → Reads IsNumber a b
 delete_out (Delete {n = x} h) = (x, h)
 
-pub delete_form : IsForm (Reads IsNumber) (Reads (IsBehind word.DELETE))
+pub delete_form : IsForm (Reads IsNumber) (Reads (IsBehind word.Delete))
 delete_form = record { into = λ a b h. (command.Delete h.0.size, Delete h.1); out = λ a b h. delete_out h.1 }
 
-clock_out : {c : Command} {a b : Tokens} → IsBehind word.CLOCK c a b → Reads IsNumber a b
+clock_out : {c : Command} {a b : Tokens} → IsBehind word.Clock c a b → Reads IsNumber a b
 clock_out (Clock {n = x} h) = (x, h)
 
-pub clock_form : IsForm (Reads IsNumber) (Reads (IsBehind word.CLOCK))
+pub clock_form : IsForm (Reads IsNumber) (Reads (IsBehind word.Clock))
 clock_form = record { into = λ a b h. (command.Clock h.0, Clock h.1); out = λ a b h. clock_out h.1 }
 
-show_out : {c : Command} {a b : Tokens} → IsBehind word.SHOW c a b → Reads IsNumber a b
+show_out : {c : Command} {a b : Tokens} → IsBehind word.Show c a b → Reads IsNumber a b
 show_out (Show {n = x} h) = (x, h)
 
-pub show_form : IsForm (Reads IsNumber) (Reads (IsBehind word.SHOW))
+pub show_form : IsForm (Reads IsNumber) (Reads (IsBehind word.Show))
 show_form = record { into = λ a b h. (command.Ask (query.Show h.0.size), Show h.1); out = λ a b h. show_out h.1 }
 
-output_out : {c : Command} {a b : Tokens} → IsBehind word.OUTPUT c a b → Reads IsNumber a b
+output_out : {c : Command} {a b : Tokens} → IsBehind word.Output c a b → Reads IsNumber a b
 output_out (Output {n = x} h) = (x, h)
 
-pub output_form : IsForm (Reads IsNumber) (Reads (IsBehind word.OUTPUT))
+pub output_form : IsForm (Reads IsNumber) (Reads (IsBehind word.Output))
 output_form = record { into = λ a b h. (command.Ask (query.Output h.0.size), Output h.1); out = λ a b h. output_out h.1 }
 
-queue_out : {c : Command} {a b : Tokens} → IsBehind word.QUEUE c a b → Reads IsNumber a b
+queue_out : {c : Command} {a b : Tokens} → IsBehind word.Queue c a b → Reads IsNumber a b
 queue_out (Queue {n = x} h) = (x, h)
 
-pub queue_form : IsForm (Reads IsNumber) (Reads (IsBehind word.QUEUE))
+pub queue_form : IsForm (Reads IsNumber) (Reads (IsBehind word.Queue))
 queue_form = record { into = λ a b h. (command.Ask (query.Queue h.0.size), Queue h.1); out = λ a b h. queue_out h.1 }
 
-audit_out : {c : Command} {a b : Tokens} → IsBehind word.AUDIT c a b → Reads IsNumber a b
+audit_out : {c : Command} {a b : Tokens} → IsBehind word.Audit c a b → Reads IsNumber a b
 audit_out (Audit {n = x} h) = (x, h)
 
-pub audit_form : IsForm (Reads IsNumber) (Reads (IsBehind word.AUDIT))
+pub audit_form : IsForm (Reads IsNumber) (Reads (IsBehind word.Audit))
 audit_form = record { into = λ a b h. (command.Ask (query.Audit h.0.size), Audit h.1); out = λ a b h. audit_out h.1 }
 
-take_out : {c : Command} {a b : Tokens} → IsBehind word.TAKE c a b → Reads IsItemToken a b
+take_out : {c : Command} {a b : Tokens} → IsBehind word.Take c a b → Reads IsItemToken a b
 take_out (Take {item = x} h) = (x, h)
 
-pub take_form : IsForm (Reads IsItemToken) (Reads (IsBehind word.TAKE))
+pub take_form : IsForm (Reads IsItemToken) (Reads (IsBehind word.Take))
 take_form = record { into = λ a b h. (command.Take h.0, Take h.1); out = λ a b h. take_out h.1 }
 
-restart_out : {c : Command} {a b : Tokens} → IsBehind word.RESTART c a b → Reads IsItemToken a b
+restart_out : {c : Command} {a b : Tokens} → IsBehind word.Restart c a b → Reads IsItemToken a b
 restart_out (Restart {item = x} h) = (x, h)
 
-pub restart_form : IsForm (Reads IsItemToken) (Reads (IsBehind word.RESTART))
+pub restart_form : IsForm (Reads IsItemToken) (Reads (IsBehind word.Restart))
 restart_form = record { into = λ a b h. (command.Restart h.0, Restart h.1); out = λ a b h. restart_out h.1 }
 
-input_out : {c : Command} {a b : Tokens} → IsBehind word.INPUT c a b → Reads IsItemToken a b
+input_out : {c : Command} {a b : Tokens} → IsBehind word.Input c a b → Reads IsItemToken a b
 input_out (Input {item = x} h) = (x, h)
 
-pub input_form : IsForm (Reads IsItemToken) (Reads (IsBehind word.INPUT))
+pub input_form : IsForm (Reads IsItemToken) (Reads (IsBehind word.Input))
 input_form = record { into = λ a b h. (command.Ask (query.Input h.0), Input h.1); out = λ a b h. input_out h.1 }
 
-worklist_out : {c : Command} {a b : Tokens} → IsBehind word.WORKLIST c a b → Reads IsName a b
+worklist_out : {c : Command} {a b : Tokens} → IsBehind word.Worklist c a b → Reads IsName a b
 worklist_out (Worklist {n = x} h) = (x, h)
 
-pub worklist_form : IsForm (Reads IsName) (Reads (IsBehind word.WORKLIST))
+pub worklist_form : IsForm (Reads IsName) (Reads (IsBehind word.Worklist))
 worklist_form = record { into = λ a b h. (command.Ask (query.Worklist h.0.name), Worklist h.1); out = λ a b h. worklist_out h.1 }
 
 -- ---- nothing
 
-nothing_taken : {w : ℕ} {a : Tokens} → (c : Command) → ((rest : Tokens) → IsBehind w c rest rest) → ((d : Command) (x y : Tokens) → IsBehind w d x y → y ≡ x) → IsTaken AtEnd (Reads (IsBehind w)) a a
+nothing_taken : {w : Keyword} {a : Tokens} → (c : Command) → ((rest : Tokens) → IsBehind w c rest rest) → ((d : Command) (x y : Tokens) → IsBehind w d x y → y ≡ x) → IsTaken AtEnd (Reads (IsBehind w)) a a
 nothing_taken c reads only = record { front = []; cut = refl; reads = λ rest. (c, reads rest); only = λ rest other same p h. only h.0 rest other h.1 }
 
-import_only : {d : Command} {x y : Tokens} → IsBehind word.IMPORT d x y → y ≡ x
+import_only : {d : Command} {x y : Tokens} → IsBehind word.Import d x y → y ≡ x
 import_only Import = refl
 
-pub import_taken : {a : Tokens} → IsTaken AtEnd (Reads (IsBehind word.IMPORT)) a a
+pub import_taken : {a : Tokens} → IsTaken AtEnd (Reads (IsBehind word.Import)) a a
 import_taken = nothing_taken (command.Import []) (λ rest. Import) (λ d x y h. import_only h)
 
-drain_only : {d : Command} {x y : Tokens} → IsBehind word.DRAIN d x y → y ≡ x
+drain_only : {d : Command} {x y : Tokens} → IsBehind word.Drain d x y → y ≡ x
 drain_only Drain = refl
 
-pub drain_taken : {a : Tokens} → IsTaken AtEnd (Reads (IsBehind word.DRAIN)) a a
+pub drain_taken : {a : Tokens} → IsTaken AtEnd (Reads (IsBehind word.Drain)) a a
 drain_taken = nothing_taken (command.Drain) (λ rest. Drain) (λ d x y h. drain_only h)
 
-checkpoint_only : {d : Command} {x y : Tokens} → IsBehind word.CHECKPOINT d x y → y ≡ x
+checkpoint_only : {d : Command} {x y : Tokens} → IsBehind word.Checkpoint d x y → y ≡ x
 checkpoint_only Checkpoint = refl
 
-pub checkpoint_taken : {a : Tokens} → IsTaken AtEnd (Reads (IsBehind word.CHECKPOINT)) a a
+pub checkpoint_taken : {a : Tokens} → IsTaken AtEnd (Reads (IsBehind word.Checkpoint)) a a
 checkpoint_taken = nothing_taken (command.Checkpoint) (λ rest. Checkpoint) (λ d x y h. checkpoint_only h)
 
-templates_only : {d : Command} {x y : Tokens} → IsBehind word.TEMPLATES d x y → y ≡ x
+templates_only : {d : Command} {x y : Tokens} → IsBehind word.Templates d x y → y ≡ x
 templates_only Templates = refl
 
-pub templates_taken : {a : Tokens} → IsTaken AtEnd (Reads (IsBehind word.TEMPLATES)) a a
+pub templates_taken : {a : Tokens} → IsTaken AtEnd (Reads (IsBehind word.Templates)) a a
 templates_taken = nothing_taken (command.Ask query.Templates) (λ rest. Templates) (λ d x y h. templates_only h)
 
 -- ---- more parts
 
 abbrev pub ItemBy : Tokens → Tokens → Type 0
-ItemBy = Seq (Reads IsItemToken) (Reads (IsNamed word.BY))
+ItemBy = Seq (Reads IsItemToken) (Reads (IsNamed word.By))
 
-claim_out : {c : Command} {a b : Tokens} → IsBehind word.CLAIM c a b → ItemBy a b
+claim_out : {c : Command} {a b : Tokens} → IsBehind word.Claim c a b → ItemBy a b
 claim_out (Claim {item = i} {person = n} {b = m} h j) = (m, (i, h), (n, j))
 
-pub claim_form : IsForm ItemBy (Reads (IsBehind word.CLAIM))
+pub claim_form : IsForm ItemBy (Reads (IsBehind word.Claim))
 claim_form = record { into = λ a b h. (command.Claim h.1.0 h.2.0, Claim h.1.1 h.2.1); out = λ a b h. claim_out h.1 }
 
-release_out : {c : Command} {a b : Tokens} → IsBehind word.RELEASE c a b → ItemBy a b
+release_out : {c : Command} {a b : Tokens} → IsBehind word.Release c a b → ItemBy a b
 release_out (Release {item = i} {person = n} {b = m} h j) = (m, (i, h), (n, j))
 
-pub release_form : IsForm ItemBy (Reads (IsBehind word.RELEASE))
+pub release_form : IsForm ItemBy (Reads (IsBehind word.Release))
 release_form = record { into = λ a b h. (command.Release h.1.0 h.2.0, Release h.1.1 h.2.1); out = λ a b h. release_out h.1 }
 
-pub item_by_taken : {item : List ℕ} {n : Name} {a b c : Tokens} → IsItemToken item a b → IsNamed word.BY n b c → IsTaken Anything ItemBy a c
+pub item_by_taken : {item : List ℕ} {n : Name} {a b c : Tokens} → IsItemToken item a b → IsNamed word.By n b c → IsTaken Anything ItemBy a c
 item_by_taken h j = taken_both (λ b c q g. tt) (taken_item h) (taken_named j)
 
 pub item_by_item : {a r : Tokens} {e : SyntaxFault} → Stops Anything (Reads IsItemToken) a r e → Stops Anything ItemBy a r e
-item_by_item h = stops_first (λ b c q g. tt) h (can_named word.BY)
+item_by_item h = stops_first (λ b c q g. tt) h (can_named word.By)
 
-pub item_by_person : {item : List ℕ} {a b r : Tokens} {e : SyntaxFault} → IsItemToken item a b → Stops Anything (Reads (IsNamed word.BY)) b r e → Stops Anything ItemBy a r e
+pub item_by_person : {item : List ℕ} {a b r : Tokens} {e : SyntaxFault} → IsItemToken item a b → Stops Anything (Reads (IsNamed word.By)) b r e → Stops Anything ItemBy a r e
 item_by_person i h = stops_second (λ b c q g. tt) (taken_item i) h
 
 abbrev pub TransferForm : Tokens → Tokens → Type 0
-TransferForm = Seq (Reads IsItemToken) (Seq (Reads (IsNamed word.BY)) (Reads (IsNamed word.TO)))
+TransferForm = Seq (Reads IsItemToken) (Seq (Reads (IsNamed word.By)) (Reads (IsNamed word.To)))
 
-transfer_out : {c : Command} {a b : Tokens} → IsBehind word.TRANSFER c a b → TransferForm a b
+transfer_out : {c : Command} {a b : Tokens} → IsBehind word.Transfer c a b → TransferForm a b
 transfer_out (Transfer {item = i} {from = n} {to = o} {b = m} {c = k} h j l) = (m, (i, h), (k, (n, j), (o, l)))
 
-pub transfer_form : IsForm TransferForm (Reads (IsBehind word.TRANSFER))
+pub transfer_form : IsForm TransferForm (Reads (IsBehind word.Transfer))
 transfer_form = record { into = λ a b h. (command.Transfer h.1.0 h.2.1.0 h.2.2.0, Transfer h.1.1 h.2.1.1 h.2.2.1); out = λ a b h. transfer_out h.1 }
 
-pub transfer_taken : {item : List ℕ} {n o : Name} {a b c d : Tokens} → IsItemToken item a b → IsNamed word.BY n b c → IsNamed word.TO o c d → IsTaken Anything TransferForm a d
+pub transfer_taken : {item : List ℕ} {n o : Name} {a b c d : Tokens} → IsItemToken item a b → IsNamed word.By n b c → IsNamed word.To o c d → IsTaken Anything TransferForm a d
 transfer_taken h j l = taken_both (λ b c q g. tt) (taken_item h) (taken_both (λ b c q g. tt) (taken_named j) (taken_named l))
 
 pub transfer_item : {a r : Tokens} {e : SyntaxFault} → Stops Anything (Reads IsItemToken) a r e → Stops Anything TransferForm a r e
-transfer_item h = stops_first (λ b c q g. tt) h (can_both (λ b c q g. tt) (can_named word.BY) (can_named word.TO))
+transfer_item h = stops_first (λ b c q g. tt) h (can_both (λ b c q g. tt) (can_named word.By) (can_named word.To))
 
-pub transfer_from : {item : List ℕ} {a b r : Tokens} {e : SyntaxFault} → IsItemToken item a b → Stops Anything (Reads (IsNamed word.BY)) b r e → Stops Anything TransferForm a r e
-transfer_from i h = stops_second (λ b c q g. tt) (taken_item i) (stops_first (λ b c q g. tt) h (can_named word.TO))
+pub transfer_from : {item : List ℕ} {a b r : Tokens} {e : SyntaxFault} → IsItemToken item a b → Stops Anything (Reads (IsNamed word.By)) b r e → Stops Anything TransferForm a r e
+transfer_from i h = stops_second (λ b c q g. tt) (taken_item i) (stops_first (λ b c q g. tt) h (can_named word.To))
 
-pub transfer_to : {item : List ℕ} {n : Name} {a b c r : Tokens} {e : SyntaxFault} → IsItemToken item a b → IsNamed word.BY n b c → Stops Anything (Reads (IsNamed word.TO)) c r e → Stops Anything TransferForm a r e
+pub transfer_to : {item : List ℕ} {n : Name} {a b c r : Tokens} {e : SyntaxFault} → IsItemToken item a b → IsNamed word.By n b c → Stops Anything (Reads (IsNamed word.To)) c r e → Stops Anything TransferForm a r e
 transfer_to i n h = stops_second (λ b c q g. tt) (taken_item i) (stops_second (λ b c q g. tt) (taken_named n) h)
 
 abbrev pub ForceForm : Tokens → Tokens → Type 0
 ForceForm = Seq (Reads IsItemToken) (Reads IsOutcome)
 
-force_out : {c : Command} {a b : Tokens} → IsBehind word.FORCE c a b → ForceForm a b
+force_out : {c : Command} {a b : Tokens} → IsBehind word.Force c a b → ForceForm a b
 force_out (Force {item = i} {o = o} {b = m} h j) = (m, (i, h), (o, j))
 
-pub force_form : IsForm ForceForm (Reads (IsBehind word.FORCE))
+pub force_form : IsForm ForceForm (Reads (IsBehind word.Force))
 force_form = record { into = λ a b h. (command.Force h.1.0 h.2.0, Force h.1.1 h.2.1); out = λ a b h. force_out h.1 }
 
 pub force_taken : {item : List ℕ} {a b c : Tokens} → IsItemToken item a b → IsTaken AtEnd (Reads IsOutcome) b c → IsTaken AtEnd ForceForm a c
@@ -223,10 +224,10 @@ force_outcome i h = stops_second (λ b c q g. tt) (taken_item i) h
 abbrev pub DoneForm : Tokens → Tokens → Type 0
 DoneForm = Seq (Reads IsItemToken) (Seq (Reads IsWho) (Reads IsOutcome))
 
-done_out : {c : Command} {a b : Tokens} → IsBehind word.DONE c a b → DoneForm a b
+done_out : {c : Command} {a b : Tokens} → IsBehind word.Done c a b → DoneForm a b
 done_out (Done {item = i} {by = w} {o = o} {b = m} {c = k} h j l) = (m, (i, h), (k, (w, j), (o, l)))
 
-pub done_form : IsForm DoneForm (Reads (IsBehind word.DONE))
+pub done_form : IsForm DoneForm (Reads (IsBehind word.Done))
 done_form = record { into = λ a b h. (command.Done h.1.0 h.2.1.0 h.2.2.0, Done h.1.1 h.2.1.1 h.2.2.1); out = λ a b h. done_out h.1 }
 
 pub done_taken : {item : List ℕ} {w : Who} {a b c d : Tokens} → IsItemToken item a b → IsWho w b c → IsTaken AtEnd (Reads IsOutcome) c d → IsTaken AtEnd DoneForm a d
@@ -247,31 +248,31 @@ abbrev KeyForm : Tokens → Tokens → Type 0
 KeyForm = Seq (Reads IsKey) (Reads IsWith)
 
 abbrev pub StartForm : Tokens → Tokens → Type 0
-StartForm = Seq (Reads IsName) (Seq (Reads (IsNamed word.BY)) KeyForm)
+StartForm = Seq (Reads IsName) (Seq (Reads (IsNamed word.By)) KeyForm)
 
-start_out : {c : Command} {a b : Tokens} → IsBehind word.START c a b → StartForm a b
+start_out : {c : Command} {a b : Tokens} → IsBehind word.Start c a b → StartForm a b
 start_out (Start {starter = s} {n = n} {key = k} {ss = ss} {b = b} {c = c} {d = d} h j l m) = (b, (n, h), (c, (s, j), (d, (k, l), (ss, m))))
 
-pub start_form : IsForm StartForm (Reads (IsBehind word.START))
+pub start_form : IsForm StartForm (Reads (IsBehind word.Start))
 start_form = record { into = λ a b h. (command.Start h.1.0.name h.2.1.0 h.2.2.1.0 h.2.2.2.0, Start h.1.1 h.2.1.1 h.2.2.1.1 h.2.2.2.1); out = λ a b h. start_out h.1 }
 
-no_key : what.Word word.WITH ≡ what.Word word.KEY → ⊥
+no_key : what.Word word.With ≡ what.Word word.Key → ⊥
 no_key e = cc
 
-pub start_taken : {n : NameAt} {s : Name} {a b c d r : Tokens} → IsName n a b → IsNamed word.BY s b c → IsTaken (NoWord word.KEY) (Reads IsKey) c d → IsTaken AtEnd (Reads IsWith) d r → IsTaken AtEnd StartForm a r
-start_taken h j l m = taken_both (λ b c q g. tt) (taken_name h) (taken_both (λ b c q g. tt) (taken_named j) (taken_both (with_no word.KEY no_key) l m))
+pub start_taken : {n : NameAt} {s : Name} {a b c d r : Tokens} → IsName n a b → IsNamed word.By s b c → IsTaken (NoWord word.Key) (Reads IsKey) c d → IsTaken AtEnd (Reads IsWith) d r → IsTaken AtEnd StartForm a r
+start_taken h j l m = taken_both (λ b c q g. tt) (taken_name h) (taken_both (λ b c q g. tt) (taken_named j) (taken_both (with_no word.Key no_key) l m))
 
 pub start_process : {a r : Tokens} {e : SyntaxFault} → Stops Anything (Reads IsName) a r e → Stops AtEnd StartForm a r e
-start_process h = stops_first (λ b c q g. tt) h (can_both (λ b c q g. tt) (can_named word.BY) (can_both (with_no word.KEY no_key) can_key can_with))
+start_process h = stops_first (λ b c q g. tt) h (can_both (λ b c q g. tt) (can_named word.By) (can_both (with_no word.Key no_key) can_key can_with))
 
-pub start_starter : {n : NameAt} {a b r : Tokens} {e : SyntaxFault} → IsName n a b → Stops Anything (Reads (IsNamed word.BY)) b r e → Stops AtEnd StartForm a r e
-start_starter n h = stops_second (λ b c q g. tt) (taken_name n) (stops_first (λ b c q g. tt) h (can_both (with_no word.KEY no_key) can_key can_with))
+pub start_starter : {n : NameAt} {a b r : Tokens} {e : SyntaxFault} → IsName n a b → Stops Anything (Reads (IsNamed word.By)) b r e → Stops AtEnd StartForm a r e
+start_starter n h = stops_second (λ b c q g. tt) (taken_name n) (stops_first (λ b c q g. tt) h (can_both (with_no word.Key no_key) can_key can_with))
 
-pub start_key : {n : NameAt} {s : Name} {a b c r : Tokens} {e : SyntaxFault} → IsName n a b → IsNamed word.BY s b c → Stops (NoWord word.KEY) (Reads IsKey) c r e → Stops AtEnd StartForm a r e
-start_key n s h = stops_second (λ b c q g. tt) (taken_name n) (stops_second (λ b c q g. tt) (taken_named s) (stops_first (with_no word.KEY no_key) h can_with))
+pub start_key : {n : NameAt} {s : Name} {a b c r : Tokens} {e : SyntaxFault} → IsName n a b → IsNamed word.By s b c → Stops (NoWord word.Key) (Reads IsKey) c r e → Stops AtEnd StartForm a r e
+start_key n s h = stops_second (λ b c q g. tt) (taken_name n) (stops_second (λ b c q g. tt) (taken_named s) (stops_first (with_no word.Key no_key) h can_with))
 
-pub start_settings : {n : NameAt} {s : Name} {a b c d r : Tokens} {e : SyntaxFault} → IsName n a b → IsNamed word.BY s b c → IsTaken (NoWord word.KEY) (Reads IsKey) c d → Stops AtEnd (Reads IsWith) d r e → Stops AtEnd StartForm a r e
-start_settings n s k h = stops_second (λ b c q g. tt) (taken_name n) (stops_second (λ b c q g. tt) (taken_named s) (stops_second (with_no word.KEY no_key) k h))
+pub start_settings : {n : NameAt} {s : Name} {a b c d r : Tokens} {e : SyntaxFault} → IsName n a b → IsNamed word.By s b c → IsTaken (NoWord word.Key) (Reads IsKey) c d → Stops AtEnd (Reads IsWith) d r e → Stops AtEnd StartForm a r e
+start_settings n s k h = stops_second (λ b c q g. tt) (taken_name n) (stops_second (λ b c q g. tt) (taken_named s) (stops_second (with_no word.Key no_key) k h))
 
 -- ---- the end of the line
 
@@ -292,23 +293,23 @@ stop_end {F} {a} {b} f some = record {
 
 -- ---- whole commands
 
-command_of : {w : ℕ} {a : Tokens} → Seq (WordForm w) (Reads (IsBehind w)) a [] → SomeCommand a
+command_of : {w : Keyword} {a : Tokens} → Seq (WordForm w) (Reads (IsBehind w)) a [] → SomeCommand a
 command_of h = (h.2.0, WordAndRest h.1.1 h.2.1)
 
-same_word : (v w : ℕ) → Some (what.Word v) ≡ Some (what.Word w) → v ≡ w
+same_word : (v w : Keyword) → Some (what.Word v) ≡ Some (what.Word w) → v ≡ w
 same_word v w e = cc
 
-word_of : {w : ℕ} {a : Tokens} → first_kind a ≡ Some (what.Word w) → SomeCommand a → Seq (WordForm w) (Reads (IsBehind w)) a []
+word_of : {w : Keyword} {a : Tokens} → first_kind a ≡ Some (what.Word w) → SomeCommand a → Seq (WordForm w) (Reads (IsBehind w)) a []
 word_of {w} {a} here h = go h.1
   where
     go : {c : Command} → IsCommand c a → Seq (WordForm w) (Reads (IsBehind w)) a []
     go {c} (WordAndRest {w = v} {p = p} {b = b} j k) =
         let same : v ≡ w = same_word v w (sym (ap first_kind j.first) ∙ here) in
-        let token_ : ℕ → Type 0 = λ n. IsToken (what.Word n) p a b in
-        let behind_ : ℕ → Type 0 = λ n. IsBehind n c b [] in
+        let token_ : Keyword → Type 0 = λ n. IsToken (what.Word n) p a b in
+        let behind_ : Keyword → Type 0 = λ n. IsBehind n c b [] in
         (b, (p, subst token_ same j), (c, subst behind_ same k))
 
-command_stop : {w : ℕ} {a r : Tokens} → first_kind a ≡ Some (what.Word w) → IsStop AtEnd (Seq (WordForm w) (Reads (IsBehind w))) a r → IsFirstFault SomeCommand a r
+command_stop : {w : Keyword} {a r : Tokens} → first_kind a ≡ Some (what.Word w) → IsStop AtEnd (Seq (WordForm w) (Reads (IsBehind w))) a r → IsFirstFault SomeCommand a r
 command_stop {w} {a} {r} here h = record {
   front = h.front;
   cut = h.cut;
@@ -318,16 +319,16 @@ command_stop {w} {a} {r} here h = record {
   blocked = λ others c. h.blocked others [] refl (word_of (same_first a h.front r others h.cut ∙ here) c);
 }
 
-pub refuses_behind : {w p : ℕ} {a b r : Tokens} {e : SyntaxFault} → IsToken (what.Word w) p a b → Stops AtEnd (Reads (IsBehind w)) b r e → Refuses SomeCommand a r e
+pub refuses_behind : {w : Keyword} {p : ℕ} {a b r : Tokens} {e : SyntaxFault} → IsToken (what.Word w) p a b → Stops AtEnd (Reads (IsBehind w)) b r e → Refuses SomeCommand a r e
 refuses_behind {w} t h = record {
   first = λ place is q. command_stop {w = w} (ap first_kind t.first) (stop_second (λ b c q g. tt) (taken_word t) (h.stop place is (taken_quoted (taken_word t) q)));
 }
 
-pub refuses_end : {w p : ℕ} {a b r : Tokens} {e : SyntaxFault} → IsToken (what.Word w) p a b → IsTaken AtEnd (Reads (IsBehind w)) b r → 0 < length r → Refuses SomeCommand a r e
+pub refuses_end : {w : Keyword} {p : ℕ} {a b r : Tokens} {e : SyntaxFault} → IsToken (what.Word w) p a b → IsTaken AtEnd (Reads (IsBehind w)) b r → 0 < length r → Refuses SomeCommand a r e
 refuses_end {w} t h some = record { first = λ place is q. command_stop {w = w} (ap first_kind t.first) (stop_end (taken_both (λ b c q g. tt) (taken_word t) h) some) }
 
 -- a command begins with each word that something stands behind
-first_word : {w : ℕ} {c : Command} {a b : Tokens} → IsBehind w c a b → is_first_word w ≡ true
+first_word : {w : Keyword} {c : Command} {a b : Tokens} → IsBehind w c a b → is_first_word w ≡ true
 first_word Import = refl
 first_word (Start h j k l) = refl
 first_word (Turn h) = refl
@@ -353,15 +354,15 @@ first_word (Queue h) = refl
 first_word (Audit h) = refl
 first_word Templates = refl
 
-pub refuses_first : {a : Tokens} {e : SyntaxFault} → ((w : ℕ) → first_kind a ≡ Some (what.Word w) → is_first_word w ≡ true → ⊥) → Refuses SomeCommand a a e
+pub refuses_first : {a : Tokens} {e : SyntaxFault} → ((w : Keyword) → first_kind a ≡ Some (what.Word w) → is_first_word w ≡ true → ⊥) → Refuses SomeCommand a a e
 refuses_first {a} not = record {
   first = λ place is q.
       record {
         front = [];
         cut = refl;
-        more = record { kind = what.Word word.DRAIN; place = 0; bytes = [] } ∷ [];
+        more = record { kind = what.Word word.Drain; place = 0; bytes = [] } ∷ [];
         lexed = (tt, tt);
-        begins = (command.Drain, WordAndRest {w = word.DRAIN} {p = 0} (record { bytes = []; first = refl }) Drain);
+        begins = (command.Drain, WordAndRest {w = word.Drain} {p = 0} (record { bytes = []; first = refl }) Drain);
         blocked = λ others c. go others c.1;
       };
 }
@@ -372,7 +373,7 @@ refuses_first {a} not = record {
 -- ---- whole completions
 
 abbrev CompletionForm : Tokens → Tokens → Type 0
-CompletionForm = Seq (WordForm word.DONE) (Seq (Reads IsTarget) (Reads IsOutcome))
+CompletionForm = Seq (WordForm word.Done) (Seq (Reads IsTarget) (Reads IsOutcome))
 
 completion_of : {a : Tokens} → CompletionForm a [] → SomeCompletion a
 completion_of h = (record { target = h.2.1.0; outcome = h.2.2.0 }, DoneTarget h.1.1 h.2.1.1 h.2.2.1)
@@ -393,16 +394,16 @@ completion_stop {a} {r} h = record {
 refuses_form : {a r : Tokens} {e : SyntaxFault} → Stops AtEnd CompletionForm a r e → Refuses SomeCompletion a r e
 refuses_form h = record { first = λ place is q. completion_stop (h.stop place is q) }
 
-pub refuses_done : {a r : Tokens} {e : SyntaxFault} → Stops Anything (WordForm word.DONE) a r e → Refuses SomeCompletion a r e
+pub refuses_done : {a r : Tokens} {e : SyntaxFault} → Stops Anything (WordForm word.Done) a r e → Refuses SomeCompletion a r e
 refuses_done h = refuses_form (stops_first (λ b c q g. tt) h (can_both (λ b c q g. tt) can_target can_outcome))
 
-pub refuses_target : {p : ℕ} {a b r : Tokens} {e : SyntaxFault} → IsToken (what.Word word.DONE) p a b → Stops Anything (Reads IsTarget) b r e → Refuses SomeCompletion a r e
+pub refuses_target : {p : ℕ} {a b r : Tokens} {e : SyntaxFault} → IsToken (what.Word word.Done) p a b → Stops Anything (Reads IsTarget) b r e → Refuses SomeCompletion a r e
 refuses_target t h = refuses_form (stops_second (λ b c q g. tt) (taken_word t) (stops_first (λ b c q g. tt) h can_outcome))
 
-pub refuses_outcome : {p : ℕ} {t : Target} {a b c r : Tokens} {e : SyntaxFault} → IsToken (what.Word word.DONE) p a b → IsTarget t b c → Stops AtEnd (Reads IsOutcome) c r e → Refuses SomeCompletion a r e
+pub refuses_outcome : {p : ℕ} {t : Target} {a b c r : Tokens} {e : SyntaxFault} → IsToken (what.Word word.Done) p a b → IsTarget t b c → Stops AtEnd (Reads IsOutcome) c r e → Refuses SomeCompletion a r e
 refuses_outcome t u h = refuses_form (stops_second (λ b c q g. tt) (taken_word t) (stops_second (λ b c q g. tt) (taken_target u) h))
 
-pub refuses_done_end : {p : ℕ} {t : Target} {a b c r : Tokens} {e : SyntaxFault} → IsToken (what.Word word.DONE) p a b → IsTarget t b c → IsTaken AtEnd (Reads IsOutcome) c r → 0 < length r → Refuses SomeCompletion a r e
+pub refuses_done_end : {p : ℕ} {t : Target} {a b c r : Tokens} {e : SyntaxFault} → IsToken (what.Word word.Done) p a b → IsTarget t b c → IsTaken AtEnd (Reads IsOutcome) c r → 0 < length r → Refuses SomeCompletion a r e
 refuses_done_end t u h some = record { first = λ place is q. completion_stop (stop_end (taken_both (λ b c q g. tt) (taken_word t) (taken_both (λ b c q g. tt) (taken_target u) h)) some) }
 
 -- what the exit of a `?` gives on

@@ -1,6 +1,8 @@
 -- The tokens of a line say one command at most, and one completion.
 use Rattle.std.proofs.Common.{◌≡◌, ℕ, ◌<◌, ◌+◌, ◌==◌, false, List, [], ◌∷◌, ◌++◌, length, Option, Some, None, refl, ap, sym, ◌∙◌, subst, arith}
 use Rattle.std.specs.Prelude.{if◌then◌else◌}
+use Rattle.flow_table.specs.declared.keyword.Keyword.{Keyword}
+use Rattle.flow_table.specs.declared.keyword.Keyword.TheVariants as word
 use Rattle.fdl_lexer.specs.declared.kinds.What.TheVariants as what
 use Rattle.flow_model.specs.declared.commands.Command.{Command}
 use Rattle.flow_model.specs.declared.commands.Command.TheVariants as command
@@ -18,9 +20,10 @@ use Rattle.flow_model.specs.declared.names.Name.{Name}
 use Rattle.flow_model.specs.declared.trees.LeafAt.{LeafAt}
 use Rattle.flow_model.specs.declared.trees.NameAt.{NameAt}
 use Rattle.flow_model.specs.declared.trees.NumberAt.{NumberAt}
-use Rattle.fdl_parser.specs.declared.cursor.mark.TheConstants as mark
-use Rattle.fdl_parser.specs.Tokens.{Spelled, Tokens, IsWord, IsItemToken}
+use Rattle.fdl_lexer.specs.declared.kinds.Mark.TheVariants as mark
+use Rattle.fdl_parser.specs.Tokens.{Spelled, Tokens, first_kind, IsWord, IsItemToken}
 use Rattle.fdl_parser.specs.Lexed.{AreQuoted}
+use Rattle.fdl_parser.proofs.Numbers.{word_number}
 use Rattle.fdl_parser.proofs.Same.{At, Same, Chain, Done, Behind, tier, lead, tokens_same, word_same, name_same, quote_same, number_same, signed_same, leaf_same, lead_token, lead_name, lead_quote, signed_lead, calm_token, apart, snoc, chain_same, behind_same, behind_begins, cons_eq}
 use Rattle.fdl_parser.specs.Tokens.{spell}
 use Rattle.fdl_parser.proofs.Quoted.{tokens_quoted}
@@ -33,13 +36,13 @@ use Rattle.command_lang.specs.Grammar.{IsNamed, WordAndName, IsValue, NumberValu
 turned : {a b : Tokens} → At a b → At b a
 turned at = record { same = sym at.same; quoted = subst AreQuoted at.same at.quoted }
 
-named_same : {w : ℕ} {n m : Name} {a a' b b' : Tokens} → IsNamed w n a b → IsNamed w m a' b' → At a a' → Same n m b b'
+named_same : {w : Keyword} {n m : Name} {a a' b b' : Tokens} → IsNamed w n a b → IsNamed w m a' b' → At a a' → Same n m b b'
 named_same (WordAndName h1 h2) (WordAndName j1 j2) at =
     let s1 = word_same h1 j1 at in
     let s2 = name_same h2 j2 s1.rest in
     record { tree = ap (λ (x : NameAt). x.name) s2.tree; rest = s2.rest }
 
-named_lead : {w : ℕ} {n : Name} {a b : Tokens} → IsNamed w n a b → lead a ≡ 100 + w
+named_lead : {w : Keyword} {n : Name} {a b : Tokens} → IsNamed w n a b → lead a ≡ 100 + word_number w
 named_lead (WordAndName h1 h2) = lead_token h1
 
 item_same : {x y : List ℕ} {a a' b b' : Tokens} → IsItemToken x a b → IsItemToken y a' b' → At a a' → Same x y b b'
@@ -76,9 +79,9 @@ record SettingParts (ss : List RawSetting) (a b : Tokens) : Type 0 where
   pub start : Tokens
   pub middle : Tokens
   pub are : ss ≡ first ∷ more
-  pub opens : IsWord 42 place a start
+  pub opens : IsWord word.With place a start
   pub begins : IsSetting first start middle
-  pub goes_on : Chain RawSetting (Behind RawSetting (what.Mark mark.COMMA) IsSetting) more middle b
+  pub goes_on : Chain RawSetting (Behind RawSetting (what.Mark mark.Comma) IsSetting) more middle b
 
 setting_parts : {ss : List RawSetting} {a b : Tokens} → AreSettings ss a b → SettingParts ss a b
 setting_parts (FirstSetting {s = s} {p = p} {b = b} {c = c} h j) = record { first = s; more = []; place = p; start = b; middle = c; are = refl; opens = h; begins = j; goes_on = Done }
@@ -93,10 +96,10 @@ settings_same : {x y : List RawSetting} {a a' b b' : Tokens} → AreSettings x a
 settings_same h j c c' at =
     let p = setting_parts h in
     let q = setting_parts j in
-    let starts = behind_begins RawSetting IsSetting (what.Mark mark.COMMA) 5 9 (omega arith) (omega arith) in
+    let starts = behind_begins RawSetting IsSetting (what.Mark mark.Comma) 5 9 (omega arith) (omega arith) in
     let s1 = word_same p.opens q.opens at in
     let s2 = setting_same p.begins q.begins s1.rest in
-    let s3 = chain_same 5 9 (omega arith) (behind_same RawSetting IsSetting (what.Mark mark.COMMA) 9 (λ x y a b d e h j c k at. setting_same h j at)) starts p.goes_on q.goes_on c c' s2.rest in
+    let s3 = chain_same 5 9 (omega arith) (behind_same RawSetting IsSetting (what.Mark mark.Comma) 9 (λ x y a b d e h j c k at. setting_same h j at)) starts p.goes_on q.goes_on c c' s2.rest in
     record { tree = p.are ∙ (cons_eq p.first q.first p.more q.more s2.tree s3.tree ∙ sym q.are); rest = s3.rest }
 
 calm_end : (b : Tokens) → b ≡ [] → tier b < 5
@@ -165,7 +168,7 @@ two : {A B C : Type 0} (f : A → B → C) (x y : A) (u v : B) → x ≡ y → u
 two f x y u v e g = rw (e, g) refl
 
 -- one command behind each word
-behind_one : {w : ℕ} {x y : Command} {a a' b b' : Tokens} → IsBehind w x a b → IsBehind w y a' b' → b ≡ [] → b' ≡ [] → At a a' → x ≡ y
+behind_one : {w : Keyword} {x y : Command} {a a' b b' : Tokens} → IsBehind w x a b → IsBehind w y a' b' → b ≡ [] → b' ≡ [] → At a a' → x ≡ y
 behind_one Import Import e f at = refl
 behind_one Drain Drain e f at = refl
 behind_one Checkpoint Checkpoint e f at = refl
@@ -213,10 +216,10 @@ behind_one (Start h1 h2 h3 h4) (Start j1 j2 j3 j4) e f at =
 -- one command
 command_same : {x y : Command} {a a' : Tokens} → IsCommand x a → IsCommand y a' → At a a' → x ≡ y
 command_same {x} {y} {a} {a'} (WordAndRest {w = w} {b = b} h1 h2) (WordAndRest {w = v} {p = q} {b = d} j1 j2) at =
-    let leads : 100 + w ≡ 100 + v = sym (lead_token h1) ∙ ap lead at.same ∙ lead_token j1 in
-    let same : v ≡ w = omega (arith, leads) in
-    let word_ : ℕ → Type 0 = λ n. IsWord n q a' d in
-    let behind_ : ℕ → Type 0 = λ n. IsBehind n y d [] in
+    let kinds : Some (what.Word v) ≡ Some (what.Word w) = sym (ap first_kind j1.first) ∙ ap first_kind (sym at.same) ∙ ap first_kind h1.first in
+    let same : v ≡ w = cc in
+    let word_ : Keyword → Type 0 = λ n. IsWord n q a' d in
+    let behind_ : Keyword → Type 0 = λ n. IsBehind n y d [] in
     let s1 = word_same h1 (subst word_ same j1) at in
     behind_one h2 (subst behind_ same j2) refl refl s1.rest
 

@@ -1,7 +1,8 @@
 -- The grammar of commands and completions: what is said, the tokens before it, and those behind it. One case for each
 -- alternative.
 use Rattle.std.specs.Prelude.{ℕ, Option, Some, None, List, [], ◌∷◌, ◌++◌}
-use Rattle.flow_table.specs.declared.keyword.TheConstants as word
+use Rattle.flow_table.specs.declared.keyword.Keyword.{Keyword}
+use Rattle.flow_table.specs.declared.keyword.Keyword.TheVariants as word
 use Rattle.flow_model.specs.declared.commands.Command.{Command}
 use Rattle.flow_model.specs.declared.commands.Command.TheVariants as command
 use Rattle.flow_model.specs.declared.commands.Completion.{Completion}
@@ -18,13 +19,13 @@ use Rattle.flow_model.specs.declared.names.Name.{Name}
 use Rattle.flow_model.specs.declared.trees.LeafAt.{LeafAt}
 use Rattle.flow_model.specs.declared.trees.NameAt.{NameAt}
 use Rattle.flow_model.specs.declared.trees.NumberAt.{NumberAt}
-use Rattle.fdl_parser.specs.declared.cursor.mark.TheConstants as mark
+use Rattle.fdl_lexer.specs.declared.kinds.Mark.TheVariants as mark
 use Rattle.fdl_parser.specs.Tokens.{Tokens, IsWord, IsMark, IsName, IsQuote, IsItemToken, IsNumber, IsSigned, IsLeaf}
 
 -- ---- parts
 
 -- a word and a name
-pub data IsNamed (first : ℕ) : Name → Tokens → Tokens → Type 0 where
+pub data IsNamed (first : Keyword) : Name → Tokens → Tokens → Type 0 where
   WordAndName : {n : NameAt} {p : ℕ} {a b c : Tokens} → IsWord first p a b → IsName n b c → IsNamed first n.name a c
 
 -- value = [-] number | Text
@@ -34,15 +35,15 @@ pub data IsValue : RawValue → Tokens → Tokens → Type 0 where
 
 -- leaf = value
 pub data IsSetting : RawSetting → Tokens → Tokens → Type 0 where
-  LeafAndValue : {l : LeafAt} {v : RawValue} {p : ℕ} {a b c d : Tokens} → IsLeaf l a b → IsMark mark.EQUAL p b c
+  LeafAndValue : {l : LeafAt} {v : RawValue} {p : ℕ} {a b c d : Tokens} → IsLeaf l a b → IsMark mark.Equal p b c
       → IsValue v c d → IsSetting (record { leaf = l; value = v }) a d
 
 -- with = WITH leaf = value (, leaf = value)*
 pub data AreSettings : List RawSetting → Tokens → Tokens → Type 0 where
-  FirstSetting : {s : RawSetting} {p : ℕ} {a b c : Tokens} → IsWord word.WITH p a b → IsSetting s b c
+  FirstSetting : {s : RawSetting} {p : ℕ} {a b c : Tokens} → IsWord word.With p a b → IsSetting s b c
       → AreSettings (s ∷ []) a c
   MoreSettings : {ss : List RawSetting} {s : RawSetting} {p : ℕ} {a b c d : Tokens} → AreSettings ss a b
-      → IsMark mark.COMMA p b c → IsSetting s c d → AreSettings (ss ++ s ∷ []) a d
+      → IsMark mark.Comma p b c → IsSetting s c d → AreSettings (ss ++ s ∷ []) a d
 
 -- [with]
 pub data IsWith : List RawSetting → Tokens → Tokens → Type 0 where
@@ -52,7 +53,7 @@ pub data IsWith : List RawSetting → Tokens → Tokens → Type 0 where
 -- [RC [-] number]
 pub data IsReturnCode : Option NumberAt → Tokens → Tokens → Type 0 where
   NoCode : {a : Tokens} → IsReturnCode None a a
-  Code : {n : NumberAt} {p : ℕ} {a b c : Tokens} → IsWord word.RC p a b → IsSigned n b c → IsReturnCode (Some n) a c
+  Code : {n : NumberAt} {p : ℕ} {a b c : Tokens} → IsWord word.Rc p a b → IsSigned n b c → IsReturnCode (Some n) a c
 
 -- result = [RC [-] number] [with]
 pub data IsOutcome : Outcome → Tokens → Tokens → Type 0 where
@@ -62,55 +63,55 @@ pub data IsOutcome : Outcome → Tokens → Tokens → Type 0 where
 -- [KEY name]
 pub data IsKey : Option Name → Tokens → Tokens → Type 0 where
   NoKey : {a : Tokens} → IsKey None a a
-  Key : {n : Name} {a b : Tokens} → IsNamed word.KEY n a b → IsKey (Some n) a b
+  Key : {n : Name} {a b : Tokens} → IsNamed word.Key n a b → IsKey (Some n) a b
 
 -- BY name | TAKE number
 pub data IsWho : Who → Tokens → Tokens → Type 0 where
-  ByPerson : {n : Name} {a b : Tokens} → IsNamed word.BY n a b → IsWho (who.Person n) a b
-  ByTake : {n : NumberAt} {p : ℕ} {a b c : Tokens} → IsWord word.TAKE p a b → IsNumber n b c
+  ByPerson : {n : Name} {a b : Tokens} → IsNamed word.By n a b → IsWho (who.Person n) a b
+  ByTake : {n : NumberAt} {p : ℕ} {a b c : Tokens} → IsWord word.Take p a b → IsNumber n b c
       → IsWho (who.Agent n.size) a c
 
 -- ---- commands, by what stands behind their first word
 
 -- what is behind IMPORT is read from the lines that follow
-pub data IsBehind : ℕ → Command → Tokens → Tokens → Type 0 where
-  Import : {a : Tokens} → IsBehind word.IMPORT (command.Import []) a a
+pub data IsBehind : Keyword → Command → Tokens → Tokens → Type 0 where
+  Import : {a : Tokens} → IsBehind word.Import (command.Import []) a a
   Start : {starter : Name} {n : NameAt} {key : Option Name} {ss : List RawSetting} {a b c d e : Tokens}
-      → IsName n a b → IsNamed word.BY starter b c → IsKey key c d → IsWith ss d e
-      → IsBehind word.START (command.Start n.name starter key ss) a e
-  Turn : {n : NumberAt} {a b : Tokens} → IsNumber n a b → IsBehind word.TURN (command.Turn n.size) a b
-  Drain : {a : Tokens} → IsBehind word.DRAIN command.Drain a a
-  Claim : {item : List ℕ} {person : Name} {a b c : Tokens} → IsItemToken item a b → IsNamed word.BY person b c
-      → IsBehind word.CLAIM (command.Claim item person) a c
-  Release : {item : List ℕ} {person : Name} {a b c : Tokens} → IsItemToken item a b → IsNamed word.BY person b c
-      → IsBehind word.RELEASE (command.Release item person) a c
-  Transfer : {item : List ℕ} {from to : Name} {a b c d : Tokens} → IsItemToken item a b → IsNamed word.BY from b c
-      → IsNamed word.TO to c d → IsBehind word.TRANSFER (command.Transfer item from to) a d
-  Take : {item : List ℕ} {a b : Tokens} → IsItemToken item a b → IsBehind word.TAKE (command.Take item) a b
+      → IsName n a b → IsNamed word.By starter b c → IsKey key c d → IsWith ss d e
+      → IsBehind word.Start (command.Start n.name starter key ss) a e
+  Turn : {n : NumberAt} {a b : Tokens} → IsNumber n a b → IsBehind word.Turn (command.Turn n.size) a b
+  Drain : {a : Tokens} → IsBehind word.Drain command.Drain a a
+  Claim : {item : List ℕ} {person : Name} {a b c : Tokens} → IsItemToken item a b → IsNamed word.By person b c
+      → IsBehind word.Claim (command.Claim item person) a c
+  Release : {item : List ℕ} {person : Name} {a b c : Tokens} → IsItemToken item a b → IsNamed word.By person b c
+      → IsBehind word.Release (command.Release item person) a c
+  Transfer : {item : List ℕ} {from to : Name} {a b c d : Tokens} → IsItemToken item a b → IsNamed word.By from b c
+      → IsNamed word.To to c d → IsBehind word.Transfer (command.Transfer item from to) a d
+  Take : {item : List ℕ} {a b : Tokens} → IsItemToken item a b → IsBehind word.Take (command.Take item) a b
   Done : {item : List ℕ} {by : Who} {o : Outcome} {a b c d : Tokens} → IsItemToken item a b → IsWho by b c
-      → IsOutcome o c d → IsBehind word.DONE (command.Done item by o) a d
+      → IsOutcome o c d → IsBehind word.Done (command.Done item by o) a d
   Force : {item : List ℕ} {o : Outcome} {a b c : Tokens} → IsItemToken item a b → IsOutcome o b c
-      → IsBehind word.FORCE (command.Force item o) a c
-  Restart : {item : List ℕ} {a b : Tokens} → IsItemToken item a b → IsBehind word.RESTART (command.Restart item) a b
-  Suspend : {n : NumberAt} {a b : Tokens} → IsNumber n a b → IsBehind word.SUSPEND (command.Suspend n.size) a b
-  Resume : {n : NumberAt} {a b : Tokens} → IsNumber n a b → IsBehind word.RESUME (command.Resume n.size) a b
-  Terminate : {n : NumberAt} {a b : Tokens} → IsNumber n a b → IsBehind word.TERMINATE (command.Terminate n.size) a b
-  Delete : {n : NumberAt} {a b : Tokens} → IsNumber n a b → IsBehind word.DELETE (command.Delete n.size) a b
-  Clock : {n : NumberAt} {a b : Tokens} → IsNumber n a b → IsBehind word.CLOCK (command.Clock n) a b
-  Checkpoint : {a : Tokens} → IsBehind word.CHECKPOINT command.Checkpoint a a
-  Show : {n : NumberAt} {a b : Tokens} → IsNumber n a b → IsBehind word.SHOW (command.Ask (query.Show n.size)) a b
-  Output : {n : NumberAt} {a b : Tokens} → IsNumber n a b → IsBehind word.OUTPUT (command.Ask (query.Output n.size)) a b
+      → IsBehind word.Force (command.Force item o) a c
+  Restart : {item : List ℕ} {a b : Tokens} → IsItemToken item a b → IsBehind word.Restart (command.Restart item) a b
+  Suspend : {n : NumberAt} {a b : Tokens} → IsNumber n a b → IsBehind word.Suspend (command.Suspend n.size) a b
+  Resume : {n : NumberAt} {a b : Tokens} → IsNumber n a b → IsBehind word.Resume (command.Resume n.size) a b
+  Terminate : {n : NumberAt} {a b : Tokens} → IsNumber n a b → IsBehind word.Terminate (command.Terminate n.size) a b
+  Delete : {n : NumberAt} {a b : Tokens} → IsNumber n a b → IsBehind word.Delete (command.Delete n.size) a b
+  Clock : {n : NumberAt} {a b : Tokens} → IsNumber n a b → IsBehind word.Clock (command.Clock n) a b
+  Checkpoint : {a : Tokens} → IsBehind word.Checkpoint command.Checkpoint a a
+  Show : {n : NumberAt} {a b : Tokens} → IsNumber n a b → IsBehind word.Show (command.Ask (query.Show n.size)) a b
+  Output : {n : NumberAt} {a b : Tokens} → IsNumber n a b → IsBehind word.Output (command.Ask (query.Output n.size)) a b
   Input : {item : List ℕ} {a b : Tokens} → IsItemToken item a b
-      → IsBehind word.INPUT (command.Ask (query.Input item)) a b
+      → IsBehind word.Input (command.Ask (query.Input item)) a b
   Worklist : {n : NameAt} {a b : Tokens} → IsName n a b
-      → IsBehind word.WORKLIST (command.Ask (query.Worklist n.name)) a b
-  Queue : {n : NumberAt} {a b : Tokens} → IsNumber n a b → IsBehind word.QUEUE (command.Ask (query.Queue n.size)) a b
-  Audit : {n : NumberAt} {a b : Tokens} → IsNumber n a b → IsBehind word.AUDIT (command.Ask (query.Audit n.size)) a b
-  Templates : {a : Tokens} → IsBehind word.TEMPLATES (command.Ask query.Templates) a a
+      → IsBehind word.Worklist (command.Ask (query.Worklist n.name)) a b
+  Queue : {n : NumberAt} {a b : Tokens} → IsNumber n a b → IsBehind word.Queue (command.Ask (query.Queue n.size)) a b
+  Audit : {n : NumberAt} {a b : Tokens} → IsNumber n a b → IsBehind word.Audit (command.Ask (query.Audit n.size)) a b
+  Templates : {a : Tokens} → IsBehind word.Templates (command.Ask query.Templates) a a
 
 -- the whole row says this command
 pub data IsCommand : Command → Tokens → Type 0 where
-  WordAndRest : {w : ℕ} {c : Command} {p : ℕ} {a b : Tokens} → IsWord w p a b → IsBehind w c b [] → IsCommand c a
+  WordAndRest : {w : Keyword} {c : Command} {p : ℕ} {a b : Tokens} → IsWord w p a b → IsBehind w c b [] → IsCommand c a
 
 -- ---- completions
 
@@ -121,5 +122,5 @@ pub data IsTarget : Target → Tokens → Tokens → Type 0 where
 
 -- the whole row says this completion: DONE target result
 pub data IsCompletion : Completion → Tokens → Type 0 where
-  DoneTarget : {t : Target} {o : Outcome} {p : ℕ} {a b c : Tokens} → IsWord word.DONE p a b → IsTarget t b c
+  DoneTarget : {t : Target} {o : Outcome} {p : ℕ} {a b c : Tokens} → IsWord word.Done p a b → IsTarget t b c
       → IsOutcome o c [] → IsCompletion (record { target = t; outcome = o }) a

@@ -1,7 +1,6 @@
 //! The grammar of commands over the tokens of a line.
 ghost use Rattle.std.specs.Prelude.{◌≡◌, ◌<◌, ℕ, true, [], length, IfOk, IfErr, IfSome, Some};
 ghost use Rattle.fdl_parser.specs.Faults.{Names};
-ghost use Rattle.flow_table.specs.declared.keyword.TheConstants as first;
 ghost use Rattle.fdl_parser.specs.Stops.{Reads, Anything, AtEnd, IsTaken, Stops};
 ghost use Rattle.fdl_parser.specs.Tokens.{StaysWithin, first_kind};
 ghost use Rattle.command_lang.specs.Grammar.{IsNamed, IsValue, IsSetting, IsWith, IsReturnCode, IsOutcome, IsKey};
@@ -9,16 +8,16 @@ ghost use Rattle.command_lang.specs.Grammar.{IsWho, IsBehind, IsCommand, IsTarge
 ghost use Rattle.command_lang.specs.Refusing.{is_query_word, is_number_word, is_item_word, is_first_word, NoWord};
 ghost use Rattle.command_lang.specs.Refusing.{SomeCommand, SomeCompletion, Refuses};
 
-use fdl_lexer::What;
-use fdl_parser::{Cursor, SyntaxFault, mark};
+use fdl_lexer::{Mark, What};
+use fdl_parser::{Cursor, SyntaxFault};
 use flow_model::{
     Bytes, Command, Completion, List, Name, NumberAt, Outcome, Query, RawSetting, RawValue, Target,
     Who,
 };
-use flow_table::keyword;
+use flow_table::Keyword;
 
 /// Takes a word, and a name behind it.
-fn named(cursor: &mut Cursor<'_>, word: u8) -> Result<Name, SyntaxFault>
+fn named(cursor: &mut Cursor<'_>, word: Keyword) -> Result<Name, SyntaxFault>
     ensures within { StaysWithin cursor.old cursor.new }
     ensures read { IfOk result (λ x. IsNamed word x cursor.old.left cursor.new.left) }
     ensures names { IfErr result (Names cursor.new) }
@@ -52,7 +51,7 @@ fn setting(cursor: &mut Cursor<'_>) -> Result<RawSetting, SyntaxFault>
     ensures stops { IfErr result (Stops Anything (Reads IsSetting) cursor.old.left cursor.new.left) }
 {
     let leaf = cursor.leaf()?;
-    cursor.mark(mark::EQUAL)?;
+    cursor.mark(Mark::Equal)?;
     let value = value(cursor)?;
     Ok(RawSetting { leaf, value })
 }
@@ -66,14 +65,14 @@ fn settings(cursor: &mut Cursor<'_>) -> Result<List<RawSetting>, SyntaxFault>
     ensures stops { IfErr result (Stops AtEnd (Reads IsWith) cursor.old.left cursor.new.left) }
 {
     let mut settings = List::new(cursor.alloc());
-    if !cursor.is_word(keyword::WITH) {
+    if !cursor.is_word(Keyword::With) {
         return Ok(settings);
     }
-    cursor.word(keyword::WITH)?;
+    cursor.word(Keyword::With)?;
     let first = setting(cursor)?;
     settings.push(first)?;
-    while cursor.is_mark(mark::COMMA) {
-        cursor.mark(mark::COMMA)?;
+    while cursor.is_mark(Mark::Comma) {
+        cursor.mark(Mark::Comma)?;
         let next = setting(cursor)?;
         settings.push(next)?;
     }
@@ -85,13 +84,14 @@ fn return_code(cursor: &mut Cursor<'_>) -> Result<Option<NumberAt>, SyntaxFault>
     ensures within { StaysWithin cursor.old cursor.new }
     ensures read { IfOk result (λ x. IsReturnCode x cursor.old.left cursor.new.left) }
     ensures names { IfErr result (Names cursor.new) }
-    ensures taken { IfOk result (λ _. IsTaken (NoWord first.RC) (Reads IsReturnCode) cursor.old.left cursor.new.left) }
-    ensures stops { IfErr result (Stops (NoWord first.RC) (Reads IsReturnCode) cursor.old.left cursor.new.left) }
+    ensures taken { IfOk result (λ _. IsTaken (NoWord Keyword.Rc) (Reads IsReturnCode) cursor.old.left
+        cursor.new.left) }
+    ensures stops { IfErr result (Stops (NoWord Keyword.Rc) (Reads IsReturnCode) cursor.old.left cursor.new.left) }
 {
-    if !cursor.is_word(keyword::RC) {
+    if !cursor.is_word(Keyword::Rc) {
         return Ok(None);
     }
-    cursor.word(keyword::RC)?;
+    cursor.word(Keyword::Rc)?;
     let code = cursor.signed()?;
     Ok(Some(code))
 }
@@ -113,13 +113,13 @@ fn key(cursor: &mut Cursor<'_>) -> Result<Option<Name>, SyntaxFault>
     ensures within { StaysWithin cursor.old cursor.new }
     ensures read { IfOk result (λ x. IsKey x cursor.old.left cursor.new.left) }
     ensures names { IfErr result (Names cursor.new) }
-    ensures taken { IfOk result (λ _. IsTaken (NoWord first.KEY) (Reads IsKey) cursor.old.left cursor.new.left) }
-    ensures stops { IfErr result (Stops (NoWord first.KEY) (Reads IsKey) cursor.old.left cursor.new.left) }
+    ensures taken { IfOk result (λ _. IsTaken (NoWord Keyword.Key) (Reads IsKey) cursor.old.left cursor.new.left) }
+    ensures stops { IfErr result (Stops (NoWord Keyword.Key) (Reads IsKey) cursor.old.left cursor.new.left) }
 {
-    if !cursor.is_word(keyword::KEY) {
+    if !cursor.is_word(Keyword::Key) {
         return Ok(None);
     }
-    let key = named(cursor, keyword::KEY)?;
+    let key = named(cursor, Keyword::Key)?;
     Ok(Some(key))
 }
 
@@ -130,11 +130,11 @@ fn who(cursor: &mut Cursor<'_>) -> Result<Who, SyntaxFault>
     ensures names { IfErr result (Names cursor.new) }
     ensures stops { IfErr result (Stops Anything (Reads IsWho) cursor.old.left cursor.new.left) }
 {
-    if cursor.is_word(keyword::BY) {
-        let person = named(cursor, keyword::BY)?;
+    if cursor.is_word(Keyword::By) {
+        let person = named(cursor, Keyword::By)?;
         return Ok(Who::Person(person));
     }
-    cursor.word(keyword::TAKE)?;
+    cursor.word(Keyword::Take)?;
     let number = cursor.number()?;
     Ok(Who::Agent(number.size))
 }
@@ -142,13 +142,13 @@ fn who(cursor: &mut Cursor<'_>) -> Result<Who, SyntaxFault>
 /// Takes what stands behind START.
 fn start(cursor: &mut Cursor<'_>) -> Result<Command, SyntaxFault>
     ensures within { StaysWithin cursor.old cursor.new }
-    ensures read { IfOk result (λ x. IsBehind first.START x cursor.old.left cursor.new.left) }
+    ensures read { IfOk result (λ x. IsBehind Keyword.Start x cursor.old.left cursor.new.left) }
     ensures names { IfErr result (Names cursor.new) }
-    ensures taken { IfOk result (λ _. IsTaken AtEnd (Reads (IsBehind first.START)) cursor.old.left cursor.new.left) }
-    ensures stops { IfErr result (Stops AtEnd (Reads (IsBehind first.START)) cursor.old.left cursor.new.left) }
+    ensures taken { IfOk result (λ _. IsTaken AtEnd (Reads (IsBehind Keyword.Start)) cursor.old.left cursor.new.left) }
+    ensures stops { IfErr result (Stops AtEnd (Reads (IsBehind Keyword.Start)) cursor.old.left cursor.new.left) }
 {
     let process = cursor.name()?;
-    let starter = named(cursor, keyword::BY)?;
+    let starter = named(cursor, Keyword::By)?;
     let key = key(cursor)?;
     let settings = settings(cursor)?;
     Ok(Command::Start(process.name, starter, key, settings))
@@ -157,50 +157,52 @@ fn start(cursor: &mut Cursor<'_>) -> Result<Command, SyntaxFault>
 /// Takes what stands behind CLAIM.
 fn claim(cursor: &mut Cursor<'_>) -> Result<Command, SyntaxFault>
     ensures within { StaysWithin cursor.old cursor.new }
-    ensures read { IfOk result (λ x. IsBehind first.CLAIM x cursor.old.left cursor.new.left) }
+    ensures read { IfOk result (λ x. IsBehind Keyword.Claim x cursor.old.left cursor.new.left) }
     ensures names { IfErr result (Names cursor.new) }
-    ensures taken { IfOk result (λ _. IsTaken AtEnd (Reads (IsBehind first.CLAIM)) cursor.old.left cursor.new.left) }
-    ensures stops { IfErr result (Stops AtEnd (Reads (IsBehind first.CLAIM)) cursor.old.left cursor.new.left) }
+    ensures taken { IfOk result (λ _. IsTaken AtEnd (Reads (IsBehind Keyword.Claim)) cursor.old.left cursor.new.left) }
+    ensures stops { IfErr result (Stops AtEnd (Reads (IsBehind Keyword.Claim)) cursor.old.left cursor.new.left) }
 {
     let item = cursor.item()?;
-    let person = named(cursor, keyword::BY)?;
+    let person = named(cursor, Keyword::By)?;
     Ok(Command::Claim(item, person))
 }
 
 /// Takes what stands behind RELEASE.
 fn release(cursor: &mut Cursor<'_>) -> Result<Command, SyntaxFault>
     ensures within { StaysWithin cursor.old cursor.new }
-    ensures read { IfOk result (λ x. IsBehind first.RELEASE x cursor.old.left cursor.new.left) }
+    ensures read { IfOk result (λ x. IsBehind Keyword.Release x cursor.old.left cursor.new.left) }
     ensures names { IfErr result (Names cursor.new) }
-    ensures taken { IfOk result (λ _. IsTaken AtEnd (Reads (IsBehind first.RELEASE)) cursor.old.left cursor.new.left) }
-    ensures stops { IfErr result (Stops AtEnd (Reads (IsBehind first.RELEASE)) cursor.old.left cursor.new.left) }
+    ensures taken { IfOk result (λ _. IsTaken AtEnd (Reads (IsBehind Keyword.Release)) cursor.old.left
+        cursor.new.left) }
+    ensures stops { IfErr result (Stops AtEnd (Reads (IsBehind Keyword.Release)) cursor.old.left cursor.new.left) }
 {
     let item = cursor.item()?;
-    let person = named(cursor, keyword::BY)?;
+    let person = named(cursor, Keyword::By)?;
     Ok(Command::Release(item, person))
 }
 
 /// Takes what stands behind TRANSFER.
 fn transfer(cursor: &mut Cursor<'_>) -> Result<Command, SyntaxFault>
     ensures within { StaysWithin cursor.old cursor.new }
-    ensures read { IfOk result (λ x. IsBehind first.TRANSFER x cursor.old.left cursor.new.left) }
+    ensures read { IfOk result (λ x. IsBehind Keyword.Transfer x cursor.old.left cursor.new.left) }
     ensures names { IfErr result (Names cursor.new) }
-    ensures taken { IfOk result (λ _. IsTaken AtEnd (Reads (IsBehind first.TRANSFER)) cursor.old.left cursor.new.left) }
-    ensures stops { IfErr result (Stops AtEnd (Reads (IsBehind first.TRANSFER)) cursor.old.left cursor.new.left) }
+    ensures taken { IfOk result (λ _. IsTaken AtEnd (Reads (IsBehind Keyword.Transfer)) cursor.old.left
+        cursor.new.left) }
+    ensures stops { IfErr result (Stops AtEnd (Reads (IsBehind Keyword.Transfer)) cursor.old.left cursor.new.left) }
 {
     let item = cursor.item()?;
-    let from = named(cursor, keyword::BY)?;
-    let to = named(cursor, keyword::TO)?;
+    let from = named(cursor, Keyword::By)?;
+    let to = named(cursor, Keyword::To)?;
     Ok(Command::Transfer(item, from, to))
 }
 
 /// Takes what stands behind DONE.
 fn done(cursor: &mut Cursor<'_>) -> Result<Command, SyntaxFault>
     ensures within { StaysWithin cursor.old cursor.new }
-    ensures read { IfOk result (λ x. IsBehind first.DONE x cursor.old.left cursor.new.left) }
+    ensures read { IfOk result (λ x. IsBehind Keyword.Done x cursor.old.left cursor.new.left) }
     ensures names { IfErr result (Names cursor.new) }
-    ensures taken { IfOk result (λ _. IsTaken AtEnd (Reads (IsBehind first.DONE)) cursor.old.left cursor.new.left) }
-    ensures stops { IfErr result (Stops AtEnd (Reads (IsBehind first.DONE)) cursor.old.left cursor.new.left) }
+    ensures taken { IfOk result (λ _. IsTaken AtEnd (Reads (IsBehind Keyword.Done)) cursor.old.left cursor.new.left) }
+    ensures stops { IfErr result (Stops AtEnd (Reads (IsBehind Keyword.Done)) cursor.old.left cursor.new.left) }
 {
     let item = cursor.item()?;
     let who = who(cursor)?;
@@ -211,10 +213,10 @@ fn done(cursor: &mut Cursor<'_>) -> Result<Command, SyntaxFault>
 /// Takes what stands behind FORCE.
 fn force(cursor: &mut Cursor<'_>) -> Result<Command, SyntaxFault>
     ensures within { StaysWithin cursor.old cursor.new }
-    ensures read { IfOk result (λ x. IsBehind first.FORCE x cursor.old.left cursor.new.left) }
+    ensures read { IfOk result (λ x. IsBehind Keyword.Force x cursor.old.left cursor.new.left) }
     ensures names { IfErr result (Names cursor.new) }
-    ensures taken { IfOk result (λ _. IsTaken AtEnd (Reads (IsBehind first.FORCE)) cursor.old.left cursor.new.left) }
-    ensures stops { IfErr result (Stops AtEnd (Reads (IsBehind first.FORCE)) cursor.old.left cursor.new.left) }
+    ensures taken { IfOk result (λ _. IsTaken AtEnd (Reads (IsBehind Keyword.Force)) cursor.old.left cursor.new.left) }
+    ensures stops { IfErr result (Stops AtEnd (Reads (IsBehind Keyword.Force)) cursor.old.left cursor.new.left) }
 {
     let item = cursor.item()?;
     let outcome = outcome(cursor)?;
@@ -222,7 +224,7 @@ fn force(cursor: &mut Cursor<'_>) -> Result<Command, SyntaxFault>
 }
 
 /// Takes what stands behind the first word of a command that only asks.
-fn query_behind(cursor: &mut Cursor<'_>, word: u8) -> Result<Command, SyntaxFault>
+fn query_behind(cursor: &mut Cursor<'_>, word: Keyword) -> Result<Command, SyntaxFault>
     requires { is_query_word word ≡ true }
     ensures within { StaysWithin cursor.old cursor.new }
     ensures read { IfOk result (λ x. IsBehind word x cursor.old.left cursor.new.left) }
@@ -231,37 +233,37 @@ fn query_behind(cursor: &mut Cursor<'_>, word: u8) -> Result<Command, SyntaxFaul
     ensures stops { IfErr result (Stops AtEnd (Reads (IsBehind word)) cursor.old.left cursor.new.left) }
 {
     match word {
-        keyword::SHOW => {
+        Keyword::Show => {
             let number = cursor.number()?;
             Ok(Command::Ask(Query::Show(number.size)))
         }
-        keyword::OUTPUT => {
+        Keyword::Output => {
             let number = cursor.number()?;
             Ok(Command::Ask(Query::Output(number.size)))
         }
-        keyword::INPUT => {
+        Keyword::Input => {
             let item = cursor.item()?;
             Ok(Command::Ask(Query::Input(item)))
         }
-        keyword::WORKLIST => {
+        Keyword::Worklist => {
             let person = cursor.name()?;
             Ok(Command::Ask(Query::Worklist(person.name)))
         }
-        keyword::QUEUE => {
+        Keyword::Queue => {
             let number = cursor.number()?;
             Ok(Command::Ask(Query::Queue(number.size)))
         }
-        keyword::AUDIT => {
+        Keyword::Audit => {
             let number = cursor.number()?;
             Ok(Command::Ask(Query::Audit(number.size)))
         }
-        keyword::TEMPLATES => Ok(Command::Ask(Query::Templates)),
+        Keyword::Templates => Ok(Command::Ask(Query::Templates)),
         _ => Err(cursor.fault()),
     }
 }
 
 /// Takes what stands behind the first word of a command on a root, a queue or the clock, or of one that only asks.
-fn number_behind(cursor: &mut Cursor<'_>, word: u8) -> Result<Command, SyntaxFault>
+fn number_behind(cursor: &mut Cursor<'_>, word: Keyword) -> Result<Command, SyntaxFault>
     requires { is_number_word word ≡ true }
     ensures within { StaysWithin cursor.old cursor.new }
     ensures read { IfOk result (λ x. IsBehind word x cursor.old.left cursor.new.left) }
@@ -270,27 +272,27 @@ fn number_behind(cursor: &mut Cursor<'_>, word: u8) -> Result<Command, SyntaxFau
     ensures stops { IfErr result (Stops AtEnd (Reads (IsBehind word)) cursor.old.left cursor.new.left) }
 {
     match word {
-        keyword::TURN => {
+        Keyword::Turn => {
             let number = cursor.number()?;
             Ok(Command::Turn(number.size))
         }
-        keyword::SUSPEND => {
+        Keyword::Suspend => {
             let number = cursor.number()?;
             Ok(Command::Suspend(number.size))
         }
-        keyword::RESUME => {
+        Keyword::Resume => {
             let number = cursor.number()?;
             Ok(Command::Resume(number.size))
         }
-        keyword::TERMINATE => {
+        Keyword::Terminate => {
             let number = cursor.number()?;
             Ok(Command::Terminate(number.size))
         }
-        keyword::DELETE => {
+        Keyword::Delete => {
             let number = cursor.number()?;
             Ok(Command::Delete(number.size))
         }
-        keyword::CLOCK => {
+        Keyword::Clock => {
             let number = cursor.number()?;
             Ok(Command::Clock(number))
         }
@@ -299,7 +301,7 @@ fn number_behind(cursor: &mut Cursor<'_>, word: u8) -> Result<Command, SyntaxFau
 }
 
 /// Takes what stands behind the first word of a command on items, or of one of those that follow.
-fn item_behind(cursor: &mut Cursor<'_>, word: u8) -> Result<Command, SyntaxFault>
+fn item_behind(cursor: &mut Cursor<'_>, word: Keyword) -> Result<Command, SyntaxFault>
     requires { is_item_word word ≡ true }
     ensures within { StaysWithin cursor.old cursor.new }
     ensures read { IfOk result (λ x. IsBehind word x cursor.old.left cursor.new.left) }
@@ -308,16 +310,16 @@ fn item_behind(cursor: &mut Cursor<'_>, word: u8) -> Result<Command, SyntaxFault
     ensures stops { IfErr result (Stops AtEnd (Reads (IsBehind word)) cursor.old.left cursor.new.left) }
 {
     match word {
-        keyword::CLAIM => claim(cursor),
-        keyword::RELEASE => release(cursor),
-        keyword::TRANSFER => transfer(cursor),
-        keyword::TAKE => {
+        Keyword::Claim => claim(cursor),
+        Keyword::Release => release(cursor),
+        Keyword::Transfer => transfer(cursor),
+        Keyword::Take => {
             let item = cursor.item()?;
             Ok(Command::Take(item))
         }
-        keyword::DONE => done(cursor),
-        keyword::FORCE => force(cursor),
-        keyword::RESTART => {
+        Keyword::Done => done(cursor),
+        Keyword::Force => force(cursor),
+        Keyword::Restart => {
             let item = cursor.item()?;
             Ok(Command::Restart(item))
         }
@@ -326,7 +328,7 @@ fn item_behind(cursor: &mut Cursor<'_>, word: u8) -> Result<Command, SyntaxFault
 }
 
 /// Takes what stands behind the first word of a command.
-fn behind(cursor: &mut Cursor<'_>, word: u8) -> Result<Command, SyntaxFault>
+fn behind(cursor: &mut Cursor<'_>, word: Keyword) -> Result<Command, SyntaxFault>
     requires { is_first_word word ≡ true }
     ensures within { StaysWithin cursor.old cursor.new }
     ensures read { IfOk result (λ x. IsBehind word x cursor.old.left cursor.new.left) }
@@ -335,29 +337,52 @@ fn behind(cursor: &mut Cursor<'_>, word: u8) -> Result<Command, SyntaxFault>
     ensures stops { IfErr result (Stops AtEnd (Reads (IsBehind word)) cursor.old.left cursor.new.left) }
 {
     match word {
-        keyword::IMPORT => Ok(Command::Import(Bytes::from_vec(Vec::new(cursor.alloc())))),
-        keyword::START => start(cursor),
-        keyword::DRAIN => Ok(Command::Drain),
-        keyword::CHECKPOINT => Ok(Command::Checkpoint),
+        Keyword::Import => Ok(Command::Import(Bytes::from_vec(Vec::new(cursor.alloc())))),
+        Keyword::Start => start(cursor),
+        Keyword::Drain => Ok(Command::Drain),
+        Keyword::Checkpoint => Ok(Command::Checkpoint),
         _ => item_behind(cursor, word),
     }
 }
 
 /// Whether a command begins with this word.
-fn begins(word: u8) -> bool
+fn begins(word: Keyword) -> bool
     ensures { result ≡ is_first_word word }
 {
-    (keyword::TURN..=keyword::DONE).contains(&word)
-        || (keyword::FORCE..=keyword::TEMPLATES).contains(&word)
-        || word == keyword::IMPORT
-        || word == keyword::START
+    matches!(
+        word,
+        Keyword::Start
+            | Keyword::Import
+            | Keyword::Turn
+            | Keyword::Drain
+            | Keyword::Claim
+            | Keyword::Release
+            | Keyword::Transfer
+            | Keyword::Take
+            | Keyword::Done
+            | Keyword::Force
+            | Keyword::Restart
+            | Keyword::Suspend
+            | Keyword::Resume
+            | Keyword::Terminate
+            | Keyword::Delete
+            | Keyword::Clock
+            | Keyword::Checkpoint
+            | Keyword::Show
+            | Keyword::Output
+            | Keyword::Input
+            | Keyword::Worklist
+            | Keyword::Queue
+            | Keyword::Audit
+            | Keyword::Templates
+    )
 }
 
 /// The word with which a command begins, if this is one.
-fn first_of(what: What) -> Option<u8>
+fn first_of(what: What) -> Option<Keyword>
     ensures word { IfSome result (λ word. what ≡ What.Word word) }
     ensures begins { IfSome result (λ word. is_first_word word ≡ true) }
-    ensures other { (word : ℕ) → what ≡ What.Word word → is_first_word word ≡ true → result ≡ Some word }
+    ensures other { (word : Keyword) → what ≡ What.Word word → is_first_word word ≡ true → result ≡ Some word }
 {
     match what {
         What::Word(word) => { if begins(word) { Some(word) } else { None } }
@@ -366,10 +391,10 @@ fn first_of(what: What) -> Option<u8>
 }
 
 /// The next token, if it is a word with which a command begins.
-fn first_word(cursor: &Cursor<'_>) -> Option<u8>
+fn first_word(cursor: &Cursor<'_>) -> Option<Keyword>
     ensures word { IfSome result (λ word. first_kind cursor.now.left ≡ Some (What.Word word)) }
     ensures begins { IfSome result (λ word. is_first_word word ≡ true) }
-    ensures other { (word : ℕ) → first_kind cursor.now.left ≡ Some (What.Word word) → is_first_word word ≡ true
+    ensures other { (word : Keyword) → first_kind cursor.now.left ≡ Some (What.Word word) → is_first_word word ≡ true
         → result ≡ Some word }
 {
     match cursor.peek() {
@@ -429,7 +454,7 @@ pub fn completion(cursor: &mut Cursor<'_>) -> Result<Completion, SyntaxFault>
     ensures names { IfErr result (Names cursor.new) }
     ensures refused { IfErr result (Refuses SomeCompletion cursor.old.left cursor.new.left) }
 {
-    cursor.word(keyword::DONE)?;
+    cursor.word(Keyword::Done)?;
     let target = target(cursor)?;
     let outcome = outcome(cursor)?;
     end(cursor)?;

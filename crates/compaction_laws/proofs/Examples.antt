@@ -26,8 +26,8 @@ use Rattle.machine.specs.Steps.{after, Steps}
 use Rattle.machine.specs.Verdicts.{IsVerdict}
 use Rattle.machine_laws.specs.Viewed.{view}
 use Rattle.machine_verdicts.proofs.Keyed.{blank_keyed}
+use Rattle.machine_verdicts.specs.WholeStates.{IsWhole}
 use Rattle.reopening_laws.specs.Making.{MadeByCommands}
-use Rattle.session_laws.specs.Sittings.{IsWhole}
 use Rattle.txn_log.specs.Stored.{is_unmade, has_magic, header_of, header_fault, header_text, length_at}
 use Rattle.txn_log.specs.Stores.{Counts, store_of}
 use Rattle.txn_log.specs.declared.header.Header.{Header}

@@ -14,7 +14,7 @@ use Rattle.fdl_lexer.proofs.Quotes.{front_is, name_parts, item_parts, quoted_run
 
 -- the kinds, numbered
 abbrev pub kind_of : What → ℕ
-kind_of (Word code) = 1
+kind_of (Word keyword) = 1
 kind_of Name = 2
 kind_of Rc = 3
 kind_of Item = 4
@@ -58,7 +58,7 @@ item_kind (b ∷ bs) rest bytes digit e = rw (e, no_letter b digit, digit) refl
 
 pub spelled_kind : (what : What) (n : ℕ) (bytes : List ℕ) → Spells what n bytes → kind_of what ≡ kind_at (slice_index bytes 0) (slice_index bytes 1)
 unfolding kind_at
-spelled_kind (Word code) n bytes s = rw s.0 refl
+spelled_kind (Word keyword) n bytes s = rw s.0 refl
 spelled_kind Name n bytes (name, is, first) = sym (name_kind name (drop n bytes) bytes (name_parts name is).2 (front_is _ n bytes first))
 spelled_kind Rc n bytes s = rw (front_is (codes "'_RC'") n bytes s) refl
 spelled_kind Item n bytes (item, is, first) = sym (item_kind item (drop n bytes) bytes (item_parts item is).2 (front_is _ n bytes first))

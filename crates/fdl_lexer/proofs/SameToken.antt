@@ -4,12 +4,13 @@ use Rattle.std.proofs.lemmas.Bool.{false_from_ne_true}
 use Rattle.std.proofs.lemmas.Bool.Decides.{nat_tests}
 use Rattle.std.proofs.lemmas.Grind.{common_steps}
 use Rattle.std.specs.Str.Parse.{digits_value}
-use Rattle.flow_table.specs.Lookup.{code_in}
-use Rattle.flow_table.specs.Rows.{keyword_rows}
+use Rattle.flow_table.proofs.Apart.{spelling_one}
+use Rattle.flow_table.specs.declared.keyword.Keyword.{Keyword}
 use Rattle.flow_model.specs.Words.{is_name_byte}
 use Rattle.fdl_lexer.specs.Bytes.{is_blank, is_item_byte, double_quoted, doubled}
 use Rattle.fdl_lexer.specs.Gaps.{NoGap}
 use Rattle.fdl_lexer.specs.Tokens.{Spells, AreFirst, NoTokenBegins, mark_of}
+use Rattle.fdl_lexer.specs.declared.kinds.Mark.{Mark as Sign}
 use Rattle.fdl_lexer.specs.declared.kinds.What.{What}
 use Rattle.fdl_lexer.specs.declared.kinds.What.TheVariants.{Word, Name, Rc, Item, Number, Text, Mark}
 use Rattle.fdl_lexer.proofs.Quotes.{front_is, name_parts, item_parts, quoted_run}
@@ -35,8 +36,8 @@ same_text bytes value other n m first stop second stop2 =
 pub same_token : (what other : What) (n m : ℕ) (bytes : List ℕ) → Spells what n bytes → Spells other m bytes → (what ≡ other) × (n ≡ m)
 same_token (Word a) (Word b) n m bytes s t =
     let size : n ≡ m = s.1 ∙ sym t.1 in
-    let code : Some a ≡ Some b = sym s.2 ∙ ap (λ (k : ℕ). code_in keyword_rows (take k bytes)) size ∙ t.2 in
-    (cc, size)
+    let keyword : a ≡ b = spelling_one a b (sym s.2 ∙ ap (λ (k : ℕ). take k bytes) size ∙ t.2) in
+    (ap (λ (k : Keyword). Word k) keyword, size)
 same_token Name Name n m bytes (name, is, first) (name2, is2, second) =
     let p = quoted_run is_name_byte name n bytes refl (name_parts name is).0 first in
     let q = quoted_run is_name_byte name2 m bytes refl (name_parts name2 is2).0 second in
@@ -55,7 +56,7 @@ same_token Text Text n m bytes (value, is, first, stop) (value2, is2, second, st
 same_token (Mark a) (Mark b) n m bytes s t =
     let e : Some (a, n) ≡ Some (b, m) = sym s ∙ t in
     let p : (a, n) ≡ (b, m) = cc in
-    (ap (λ (k : ℕ × ℕ). Mark k.0) p, ap (λ (k : ℕ × ℕ). k.1) p)
+    (ap (λ (k : Sign × ℕ). Mark k.0) p, ap (λ (k : Sign × ℕ). k.1) p)
 same_token what other n m bytes s t =
     let e = sym (spelled_kind what n bytes s) in
     let f = spelled_kind other m bytes t in

@@ -5,32 +5,34 @@ use Rattle.std.specs.Str.Parse.{digits_value}
 use Rattle.std.specs.List.{prefix_len, AllPass}
 use Rattle.std.specs.Char.{is_ascii_digit, is_ascii_alphabetic}
 use Rattle.flow_model.specs.Words.{is_name, is_text}
-use Rattle.flow_table.specs.Lookup.{code_in}
-use Rattle.flow_table.specs.Rows.{keyword_rows}
+use Rattle.flow_table.specs.Spelling.{keyword_spelling}
 use Rattle.fdl_lexer.specs.Bytes.{is_run_byte, is_allowed, is_item, single_quoted, double_quoted}
 use Rattle.fdl_lexer.specs.Gaps.{IsGap, NoGap}
+use Rattle.fdl_lexer.specs.declared.kinds.Mark.{Mark}
+use Rattle.fdl_lexer.specs.declared.kinds.Mark.TheVariants as mark
 use Rattle.fdl_lexer.specs.declared.kinds.What.{What}
-use Rattle.fdl_lexer.specs.declared.kinds.What.TheVariants.{Word, Name, Rc, Item, Number, Text, Mark}
+use Rattle.fdl_lexer.specs.declared.kinds.What.TheVariants as what
 use Rattle.fdl_lexer.specs.declared.kinds.Token.{Token as Placed}
 use Rattle.fdl_lexer.specs.declared.kinds.LexFault.{LexFault}
 use Rattle.fdl_lexer.specs.declared.kinds.LexFault.TheVariants.{Byte, Token, NoMemory}
 
 -- the mark that two bytes begin with, and its length: the longer one where two would do
-abbrev pub mark_of : ℕ → ℕ → Option (ℕ × ℕ)
+abbrev pub mark_of : ℕ → ℕ → Option (Mark × ℕ)
 mark_of a b =
-    if a == 40 then Some (1, 1)
-    else (if a == 41 then Some (2, 1)
-    else (if a == 44 then Some (3, 1)
-    else (if a == 59 then Some (4, 1)
-    else (if a == 58 then Some (5, 1)
-    else (if a == 46 then Some (6, 1)
-    else (if a == 91 then Some (7, 1)
-    else (if a == 93 then Some (8, 1)
-    else (if a == 61 then Some (9, 1)
-    else (if a == 60 then (if b == 62 then Some (10, 2) else (if b == 61 then Some (12, 2) else Some (11, 1)))
-    else (if a == 62 then (if b == 61 then Some (14, 2) else Some (13, 1))
-    else (if a == 43 then Some (15, 1)
-    else (if a == 45 then Some (16, 1)
+    if a == 40 then Some (mark.Open, 1)
+    else (if a == 41 then Some (mark.Close, 1)
+    else (if a == 44 then Some (mark.Comma, 1)
+    else (if a == 59 then Some (mark.Semicolon, 1)
+    else (if a == 58 then Some (mark.Colon, 1)
+    else (if a == 46 then Some (mark.Dot, 1)
+    else (if a == 91 then Some (mark.OpenBracket, 1)
+    else (if a == 93 then Some (mark.CloseBracket, 1)
+    else (if a == 61 then Some (mark.Equal, 1)
+    else (if a == 60 then
+    (if b == 62 then Some (mark.NotEqual, 2) else (if b == 61 then Some (mark.AtMost, 2) else Some (mark.Less, 1)))
+    else (if a == 62 then (if b == 61 then Some (mark.AtLeast, 2) else Some (mark.Greater, 1))
+    else (if a == 43 then Some (mark.Plus, 1)
+    else (if a == 45 then Some (mark.Minus, 1)
     else None))))))))))))
 
 -- the first n bytes are these
@@ -39,19 +41,19 @@ AreFirst spelling n bytes = (take n bytes ≡ spelling) × (n ≡ length spellin
 
 -- the first n bytes spell this token, and no more of the bytes belong to it
 abbrev pub Spells : What → ℕ → List ℕ → Type 0
-Spells (Word code) n bytes =
+Spells (what.Word keyword) n bytes =
     (is_ascii_alphabetic (slice_index bytes 0) ≡ true) × (n ≡ prefix_len is_run_byte bytes)
-    × (code_in keyword_rows (take n bytes) ≡ Some code)
-Spells Name n bytes = (name : List ℕ) × (is_name name ≡ true) × AreFirst (single_quoted name) n bytes
-Spells Rc n bytes = AreFirst (codes "'_RC'") n bytes
-Spells Item n bytes = (item : List ℕ) × (is_item item ≡ true) × AreFirst (single_quoted item) n bytes
-Spells (Number value) n bytes =
+    × (take n bytes ≡ keyword_spelling keyword)
+Spells what.Name n bytes = (name : List ℕ) × (is_name name ≡ true) × AreFirst (single_quoted name) n bytes
+Spells what.Rc n bytes = AreFirst (codes "'_RC'") n bytes
+Spells what.Item n bytes = (item : List ℕ) × (is_item item ≡ true) × AreFirst (single_quoted item) n bytes
+Spells (what.Number value) n bytes =
     (is_ascii_digit (slice_index bytes 0) ≡ true) × (n ≡ prefix_len is_ascii_digit bytes)
     × (n ≡ prefix_len is_run_byte bytes)
     × ((slice_index bytes 0 ≡ 48) → n ≡ 1) × (value ≡ min (digits_value 10 (take n bytes)) (2 ^ 64 - 1))
-Spells Text n bytes =
+Spells what.Text n bytes =
     (value : List ℕ) × (is_text value ≡ true) × AreFirst (double_quoted value) n bytes × (slice_index bytes n ≢ 34)
-Spells (Mark mark) n bytes = mark_of (slice_index bytes 0) (slice_index bytes 1) ≡ Some (mark, n)
+Spells (what.Mark sign) n bytes = mark_of (slice_index bytes 0) (slice_index bytes 1) ≡ Some (sign, n)
 
 -- no token begins these bytes
 abbrev pub NoTokenBegins : List ℕ → Type 0

@@ -3,6 +3,7 @@ ghost use Rattle.std.specs.Prelude.{◌≡◌};
 ghost use Rattle.fdl_lexer.specs.declared.kinds.LexFault.TheVariants.{NoMemory};
 
 use flow_model::List;
+use flow_table::Keyword;
 use std::alloc::AllocError;
 use thiserror::Error;
 
@@ -23,8 +24,8 @@ pub struct Token {
 /// What a token is. A name, item or text is read from the bytes where its token stands.
 #[derive(Clone, Copy, Debug, PartialEq, Eq)]
 pub enum What {
-    /// A keyword, with its code in the table of keywords.
-    Word(u8),
+    /// A keyword.
+    Word(Keyword),
     /// A name in single quotes.
     Name,
     /// `'_RC'`.
@@ -35,8 +36,45 @@ pub enum What {
     Number(u64),
     /// A text in double quotes.
     Text,
-    /// A mark, with its place from 1 in `( ) , ; : . [ ] = <> < <= > >= + -`.
-    Mark(u8),
+    /// A mark.
+    Mark(Mark),
+}
+
+/// What stands between names, numbers and words.
+#[derive(Clone, Copy, Debug, PartialEq, Eq)]
+pub enum Mark {
+    /// `(`
+    Open,
+    /// `)`
+    Close,
+    /// `,`
+    Comma,
+    /// `;`
+    Semicolon,
+    /// `:`
+    Colon,
+    /// `.`
+    Dot,
+    /// `[`
+    OpenBracket,
+    /// `]`
+    CloseBracket,
+    /// `=`
+    Equal,
+    /// `<>`
+    NotEqual,
+    /// `<`
+    Less,
+    /// `<=`
+    AtMost,
+    /// `>`
+    Greater,
+    /// `>=`
+    AtLeast,
+    /// `+`
+    Plus,
+    /// `-`
+    Minus,
 }
 
 /// Why a text has no tokens.

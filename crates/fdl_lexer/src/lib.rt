@@ -13,7 +13,7 @@ mod lexer;
 mod quoted;
 mod scan;
 
-pub use kinds::{LexFault, Token, Tokens, What};
+pub use kinds::{LexFault, Mark, Token, Tokens, What};
 pub use laws::one_outcome;
 pub use lexer::lex;
 pub use quoted::text_value;
@@ -21,19 +21,20 @@ pub use quoted::text_value;
 #[cfg(test)]
 mod tests {
     use super::*;
+    use flow_table::Keyword;
     use std::test::Fail;
 
     #[test]
     fn a_line_of_each_kind(rt: HostRuntime) -> Result<(), Fail> {
         let line = b"OR /* ** */ 'A-b 1' '_RC' '1/A#2' 18446744073709551616 \"say \"\"hi\"\"\" <>";
         let wanted = [
-            (What::Word(36), 0, 2),
+            (What::Word(Keyword::Or), 0, 2),
             (What::Name, 12, 19),
             (What::Rc, 20, 25),
             (What::Item, 26, 33),
             (What::Number(18446744073709551615), 34, 54),
             (What::Text, 55, 67),
-            (What::Mark(10), 68, 70),
+            (What::Mark(Mark::NotEqual), 68, 70),
         ];
         let tokens = lex(rt.alloc(), line)?;
         assert_eq!(rt; tokens.items.len(), 7);

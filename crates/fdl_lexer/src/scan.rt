@@ -5,10 +5,10 @@ ghost use Rattle.std.specs.List.{prefix_len};
 ghost use Rattle.std.specs.Str.Parse.{digits_value};
 ghost use Rattle.fdl_lexer.specs.Tokens.{FindsToken, mark_of};
 
-use crate::What;
 use crate::bytes::{digits_len, run_len};
 use crate::quoted::{byte_at, double, single};
-use flow_table::keywords;
+use crate::{Mark, What};
+use flow_table::Keyword;
 
 /// What the digits write, or the greatest number.
 fn value(digits: &[u8]) -> u64
@@ -30,8 +30,8 @@ fn word(bytes: &[u8]) -> Option<(What, usize)>
     ensures { FindsToken bytes.now result }
 {
     let len = run_len(bytes);
-    let code = keywords().code_of(&bytes[..len])?;
-    Some((What::Word(code), len))
+    let keyword = Keyword::from_word(&bytes[..len])?;
+    Some((What::Word(keyword), len))
 }
 
 /// The number that begins these bytes.
@@ -48,26 +48,26 @@ fn number(bytes: &[u8]) -> Option<(What, usize)>
 }
 
 /// The mark that two bytes begin with, and its length.
-fn mark_of(first: u8, second: u8) -> Option<(u8, usize)>
+fn mark_of(first: u8, second: u8) -> Option<(Mark, usize)>
     ensures { result ≡ mark_of first second }
 {
     match (first, second) {
-        (b'(', _) => Some((1, 1)),
-        (b')', _) => Some((2, 1)),
-        (b',', _) => Some((3, 1)),
-        (b';', _) => Some((4, 1)),
-        (b':', _) => Some((5, 1)),
-        (b'.', _) => Some((6, 1)),
-        (b'[', _) => Some((7, 1)),
-        (b']', _) => Some((8, 1)),
-        (b'=', _) => Some((9, 1)),
-        (b'<', b'>') => Some((10, 2)),
-        (b'<', b'=') => Some((12, 2)),
-        (b'<', _) => Some((11, 1)),
-        (b'>', b'=') => Some((14, 2)),
-        (b'>', _) => Some((13, 1)),
-        (b'+', _) => Some((15, 1)),
-        (b'-', _) => Some((16, 1)),
+        (b'(', _) => Some((Mark::Open, 1)),
+        (b')', _) => Some((Mark::Close, 1)),
+        (b',', _) => Some((Mark::Comma, 1)),
+        (b';', _) => Some((Mark::Semicolon, 1)),
+        (b':', _) => Some((Mark::Colon, 1)),
+        (b'.', _) => Some((Mark::Dot, 1)),
+        (b'[', _) => Some((Mark::OpenBracket, 1)),
+        (b']', _) => Some((Mark::CloseBracket, 1)),
+        (b'=', _) => Some((Mark::Equal, 1)),
+        (b'<', b'>') => Some((Mark::NotEqual, 2)),
+        (b'<', b'=') => Some((Mark::AtMost, 2)),
+        (b'<', _) => Some((Mark::Less, 1)),
+        (b'>', b'=') => Some((Mark::AtLeast, 2)),
+        (b'>', _) => Some((Mark::Greater, 1)),
+        (b'+', _) => Some((Mark::Plus, 1)),
+        (b'-', _) => Some((Mark::Minus, 1)),
         _ => None,
     }
 }
@@ -82,8 +82,8 @@ fn mark(bytes: &[u8]) -> Option<(What, usize)>
     ensures { FindsToken bytes.now result }
 {
     let second = byte_at(bytes, 1);
-    let (code, len) = mark_of(bytes[0], second)?;
-    Some((What::Mark(code), len))
+    let (mark, len) = mark_of(bytes[0], second)?;
+    Some((What::Mark(mark), len))
 }
 
 /// The token that begins these bytes, and its length.

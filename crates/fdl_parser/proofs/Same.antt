@@ -9,13 +9,14 @@ use Rattle.flow_model.specs.declared.trees.StepTree.{StepTree}
 use Rattle.flow_model.specs.declared.trees.StepTree.TheVariants as step
 use Rattle.flow_model.specs.declared.trees.LeafAt.{LeafAt}
 use Rattle.fdl_parser.specs.Tokens.{Spelled, Tokens, IsToken, IsName, IsQuote, IsNumber, IsSigned, Unsigned, Negative, IsFirstStep, RcFirst, NameFirst, IsNextStep, MemberNext, PlaceNext, IsLeaf, FirstStep, MoreSteps}
+use Rattle.fdl_parser.proofs.Numbers.{word_number, mark_number}
 use Rattle.fdl_parser.specs.Lexed.{IsQuoted, AreQuoted}
 pub use Rattle.fdl_parser.specs.Tiers.{word_tier, mark_tier, kind_tier, tier}
 
 -- a number that tells words, marks and kinds of tokens apart
 abbrev pub kind_lead : What → ℕ
-kind_lead (Word w) = 100 + w
-kind_lead (Mark m) = m
+kind_lead (Word w) = 100 + word_number w
+kind_lead (Mark m) = mark_number m
 kind_lead Name = 50
 kind_lead Rc = 51
 kind_lead Item = 52

@@ -1,7 +1,9 @@
 -- A condition's tokens have one tree.
 use Rattle.std.proofs.Common.{◌≡◌, ℕ, zero, suc, ◌<◌, ◌≤◌, ◌-◌, ◌==◌, ◌||◌, Bool, true, false, List, [], ◌∷◌, ◌++◌, refl, ap, sym, ◌∙◌, subst, arith}
 use Rattle.std.specs.Prelude.{if◌then◌else◌}
-use Rattle.flow_table.specs.declared.keyword.TheConstants as word
+use Rattle.flow_table.specs.declared.keyword.Keyword.TheVariants as word
+use Rattle.fdl_lexer.specs.declared.kinds.Mark.{Mark as Sign}
+use Rattle.fdl_lexer.specs.declared.kinds.Mark.TheVariants as mark
 use Rattle.fdl_lexer.specs.declared.kinds.What.{What}
 use Rattle.fdl_lexer.specs.declared.kinds.What.TheVariants.{Word, Mark}
 use Rattle.flow_model.specs.declared.graphs.Operator.{Operator}
@@ -98,8 +100,13 @@ side_lead : {x : Side} {a b : Tokens} → (f : ℕ → ℕ) (k : ℕ) → f 50 �
 side_lead f k n r v m t (TextSide h) = ap f (lead_quote h) ∙ t
 side_lead f k n r v m t (SumSide h) = sum_lead f k n r v m h
 
-abbrev operator_back : ℕ → Operator
-operator_back m = if m == 9 then Eq else (if m == 10 then Ne else (if m == 11 then Lt else (if m == 12 then Le else (if m == 13 then Gt else Ge))))
+abbrev operator_back : Sign → Operator
+operator_back mark.Equal = Eq
+operator_back mark.NotEqual = Ne
+operator_back mark.Less = Lt
+operator_back mark.AtMost = Le
+operator_back mark.Greater = Gt
+operator_back _ = Ge
 
 back : (o : Operator) → operator_back (mark_of o) ≡ o
 back Eq = refl
@@ -109,9 +116,9 @@ back Le = refl
 back Gt = refl
 back Ge = refl
 
-abbrev mark_number : What → ℕ
-mark_number (Mark m) = m
-mark_number _ = 0
+abbrev mark_in : What → Sign
+mark_in (Mark m) = m
+mark_in _ = mark.Open
 
 op_tier : (o : Operator) → mark_tier (mark_of o) < 8
 op_tier Eq = omega arith
@@ -128,7 +135,7 @@ comparison_same : {x y : Cond} {a a' b b' : Tokens} → IsComparison x a b → I
 comparison_same (Compared {l = l} {r = r} {o = o} h1 h2 h3) (Compared {l = m} {r = s} {o = q} j1 j2 j3) c c' at =
     let s1 = side_same h1 j1 (calm_token h2 (op_tier o)) (calm_token j2 (op_tier q)) at in
     let s2 = tokens_same h2.first j2.first s1.rest in
-    let e : mark_of o ≡ mark_of q = ap (λ (t : Spelled). mark_number t.kind) s2.token in
+    let e : mark_of o ≡ mark_of q = ap (λ (t : Spelled). mark_in t.kind) s2.token in
     let s3 = side_same h3 j3 c c' s2.rest in
     record { tree = compare_eq l m o q r s s1.tree (sym (back o) ∙ (ap operator_back e ∙ back q)) s3.tree; rest = s3.rest }
 
@@ -137,11 +144,11 @@ comparison_lead f k n r v m t (Compared h1 h2 h3) = side_lead f k n r v m t h1
 
 -- AND neg
 abbrev AndNeg : ℕ → Cond → Tokens → Tokens → Type 0
-AndNeg n x a b = Behind Cond (Word word.AND) (IsNegation n) x a b
+AndNeg n x a b = Behind Cond (Word word.And) (IsNegation n) x a b
 
 -- OR conj
 abbrev OrConj : ℕ → Cond → Tokens → Tokens → Type 0
-OrConj n x a b = Behind Cond (Word word.OR) (IsConjunction n) x a b
+OrConj n x a b = Behind Cond (Word word.Or) (IsConjunction n) x a b
 
 -- members in a row: the first two, and the others as a chain
 record Members (N M : Cond → Tokens → Tokens → Type 0) (xs : List Cond) (a b : Tokens) : Type 0 where
@@ -207,11 +214,11 @@ members_same build N k low high le l u one x y a a' d d' p q c c' at =
 
 conjunction_same : (n : ℕ) → HasOne Cond (IsNegation n) 8 → HasOne Cond (IsConjunction n) 7
 conjunction_same n one x y a a' b b' h j c c' at =
-    members_same all_of (IsNegation n) (Word word.AND) 7 8 (omega arith) (omega arith) (omega arith) one x y a a' b b' (conjunction_parts h) (conjunction_parts j) c c' at
+    members_same all_of (IsNegation n) (Word word.And) 7 8 (omega arith) (omega arith) (omega arith) one x y a a' b b' (conjunction_parts h) (conjunction_parts j) c c' at
 
 disjunction_same : (n : ℕ) → HasOne Cond (IsNegation n) 8 → HasOne Cond (IsDisjunction n) 6
 disjunction_same n one x y a a' b b' h j c c' at =
-    members_same any_of (IsConjunction n) (Word word.OR) 6 7 (omega arith) (omega arith) (omega arith) (conjunction_same n one) x y a a' b b' (disjunction_parts h) (disjunction_parts j) c c' at
+    members_same any_of (IsConjunction n) (Word word.Or) 6 7 (omega arith) (omega arith) (omega arith) (conjunction_same n one) x y a a' b b' (disjunction_parts h) (disjunction_parts j) c c' at
 
 -- tells NOT, parentheses and comparisons
 abbrev negation_class : ℕ → ℕ

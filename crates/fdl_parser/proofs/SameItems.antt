@@ -12,12 +12,13 @@ use Rattle.flow_model.specs.declared.trees.ProcessTree.{ProcessTree}
 use Rattle.flow_model.specs.declared.trees.ItemTree.{ItemTree}
 use Rattle.flow_model.specs.declared.trees.ItemTree.TheVariants as item
 use Rattle.flow_model.specs.declared.trees.Tree.{Tree}
-use Rattle.fdl_parser.specs.declared.cursor.mark.TheConstants as mark
+use Rattle.fdl_lexer.specs.declared.kinds.Mark.TheVariants as mark
 use Rattle.fdl_lexer.specs.declared.kinds.Token.{Token}
 use Rattle.fdl_lexer.specs.Tokens.{AreTokens}
 use Rattle.fdl_parser.specs.Tokens.{Tokens, spell, IsWord, IsName}
 use Rattle.fdl_parser.specs.Lexed.{AreQuoted}
 use Rattle.fdl_parser.specs.Items.{IsKind, LongKind, StringKind, StructKind, IsCount, NoCount, OneCount, IsMember, OneMember, AreMembers, NoMember, MoreMembers, IsStructure, OneStructure, AreNamed, FirstRole, NextRole, AreRoles, NoRoles, SomeRoles, IsPerson, OnePerson, IsProcess, OneProcess, IsItem, StructureItem, PersonItem, ProcessItem, AreItems, NoItem, MoreItems, IsTree}
+use Rattle.flow_table.specs.declared.keyword.Keyword.TheVariants as word
 use Rattle.fdl_parser.proofs.Same.{tier, lead, At, Same, word_same, lead_token, tier_token, calm_token, lead_name, tier_name, apart, name_same, number_same, Chain, Done, snoc, chain_same, Behind, behind_same, behind_begins, cons_eq}
 use Rattle.fdl_parser.proofs.Quoted.{tokens_quoted}
 use Rattle.fdl_parser.proofs.SameActivities.{structures_same, closing_same, closing_calm, elements_same}
@@ -85,9 +86,9 @@ record RoleParts (names : List NameAt) (a b : Tokens) : Type 0 where
   pub start : Tokens
   pub middle : Tokens
   pub are : names ≡ first ∷ more
-  pub opens : IsWord 3 place a start
+  pub opens : IsWord word.Roles place a start
   pub begins : IsName first start middle
-  pub goes_on : Chain NameAt (Behind NameAt (Mark mark.COMMA) IsName) more middle b
+  pub goes_on : Chain NameAt (Behind NameAt (Mark mark.Comma) IsName) more middle b
 
 role_parts : {names : List NameAt} {a b : Tokens} → AreNamed names a b → RoleParts names a b
 role_parts (FirstRole {n = n} {p = p} {b = b} {c = c} h j) = record { first = n; more = []; place = p; start = b; middle = c; are = refl; opens = h; begins = j; goes_on = Done }
@@ -101,7 +102,7 @@ named_same h j c c' at =
     let q = role_parts j in
     let s1 = word_same p.opens q.opens at in
     let s2 = name_same p.begins q.begins s1.rest in
-    let s3 = chain_same 5 6 (omega arith) (behind_same NameAt IsName (Mark mark.COMMA) 6 (λ x y a b d e h j c k at. name_same h j at)) (behind_begins NameAt IsName (Mark mark.COMMA) 5 6 (omega arith) (omega arith)) p.goes_on q.goes_on c c' s2.rest in
+    let s3 = chain_same 5 6 (omega arith) (behind_same NameAt IsName (Mark mark.Comma) 6 (λ x y a b d e h j c k at. name_same h j at)) (behind_begins NameAt IsName (Mark mark.Comma) 5 6 (omega arith) (omega arith)) p.goes_on q.goes_on c c' s2.rest in
     record { tree = p.are ∙ (cons_eq p.first q.first p.more q.more s2.tree s3.tree ∙ sym q.are); rest = s3.rest }
 
 named_tier : {x : List NameAt} {a b : Tokens} → AreNamed x a b → tier a ≡ 4

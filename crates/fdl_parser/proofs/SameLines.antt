@@ -12,9 +12,12 @@ use Rattle.flow_model.specs.declared.trees.EndsTree.{EndsTree}
 use Rattle.flow_model.specs.declared.trees.EndsTree.TheVariants as ends_of
 use Rattle.flow_model.specs.declared.trees.MapTree.{MapTree}
 use Rattle.flow_model.specs.declared.trees.DataTree.{DataTree}
-use Rattle.fdl_parser.specs.declared.cursor.mark.TheConstants as mark
+use Rattle.fdl_lexer.specs.declared.kinds.Mark.TheVariants as mark
 use Rattle.fdl_parser.specs.Tokens.{Tokens, IsWord}
 use Rattle.fdl_parser.specs.Lines.{IsTransition, Unconditional, Otherwise, Conditional, IsControl, ControlLine, IsEnd, BorderEnd, ActivityEnd, AreEnds, LoopEnds, LineEnds, IsMap, LeafToLeaf, AreMaps, FirstMap, MoreMaps, IsDataLine, DataLine}
+use Rattle.flow_table.specs.declared.keyword.Keyword.{Keyword}
+use Rattle.flow_table.specs.declared.keyword.Keyword.TheVariants as word
+use Rattle.fdl_parser.proofs.Numbers.{word_number}
 use Rattle.fdl_parser.proofs.Same.{tier, lead, At, Same, word_same, lead_token, tier_token, calm_token, lead_name, apart, name_same, leaf_same, Chain, Done, snoc, chain_calm, chain_same, Behind, behind_same, behind_begins, cons_eq}
 use Rattle.fdl_parser.proofs.SameConditions.{condition_same}
 
@@ -42,7 +45,7 @@ control_same (ControlLine h1 h2 h3 h4 h5 h6) (ControlLine j1 j2 j3 j4 j5 j6) c c
     let s6 = transition_same h6 j6 c c' s5.rest in
     record { tree = rw (s1.tree, s3.tree, s5.tree, s6.tree) refl; rest = s6.rest }
 
-end_same : {x y : EndTree} {a a' b b' : Tokens} (border : ℕ) → (100 + border == 50) ≡ false → (50 == 100 + border) ≡ false → IsEnd border x a b → IsEnd border y a' b' → At a a' → Same x y b b'
+end_same : {x y : EndTree} {a a' b b' : Tokens} (border : Keyword) → (100 + word_number border == 50) ≡ false → (50 == 100 + word_number border) ≡ false → IsEnd border x a b → IsEnd border y a' b' → At a a' → Same x y b b'
 end_same border e f (BorderEnd h) (BorderEnd j) at = let s = word_same h j at in record { tree = refl; rest = s.rest }
 end_same border e f (ActivityEnd h) (ActivityEnd j) at = let s = name_same h j at in record { tree = ap (λ (n : NameAt). end_of.Activity n) s.tree; rest = s.rest }
 end_same border e f (BorderEnd h) (ActivityEnd j) at = apart lead (lead_token h) (lead_name j) at e
@@ -80,9 +83,9 @@ record MapParts (maps : List MapTree) (a b : Tokens) : Type 0 where
   pub start : Tokens
   pub middle : Tokens
   pub are : maps ≡ first ∷ more
-  pub opens : IsWord 35 place a start
+  pub opens : IsWord word.Map place a start
   pub begins : IsMap first start middle
-  pub goes_on : Chain MapTree (Behind MapTree (Mark mark.COMMA) IsMap) more middle b
+  pub goes_on : Chain MapTree (Behind MapTree (Mark mark.Comma) IsMap) more middle b
 
 map_parts : {maps : List MapTree} {a b : Tokens} → AreMaps maps a b → MapParts maps a b
 map_parts (FirstMap {m = m} {p = p} {b = b} {c = c} h j) = record { first = m; more = []; place = p; start = b; middle = c; are = refl; opens = h; begins = j; goes_on = Done }
@@ -94,10 +97,10 @@ maps_same : {x y : List MapTree} {a a' b b' : Tokens} → AreMaps x a b → AreM
 maps_same h j c c' at =
     let p = map_parts h in
     let q = map_parts j in
-    let starts = behind_begins MapTree IsMap (Mark mark.COMMA) 5 9 (omega arith) (omega arith) in
+    let starts = behind_begins MapTree IsMap (Mark mark.Comma) 5 9 (omega arith) (omega arith) in
     let s1 = word_same p.opens q.opens at in
     let s2 = map_same p.begins q.begins (chain_calm 5 9 (omega arith) starts p.goes_on c) (chain_calm 5 9 (omega arith) starts q.goes_on c') s1.rest in
-    let s3 = chain_same 5 9 (omega arith) (behind_same MapTree IsMap (Mark mark.COMMA) 9 (λ x y a b d e h j c k at. map_same h j c k at)) starts p.goes_on q.goes_on c c' s2.rest in
+    let s3 = chain_same 5 9 (omega arith) (behind_same MapTree IsMap (Mark mark.Comma) 9 (λ x y a b d e h j c k at. map_same h j c k at)) starts p.goes_on q.goes_on c c' s2.rest in
     record { tree = p.are ∙ (cons_eq p.first q.first p.more q.more s2.tree s3.tree ∙ sym q.are); rest = s3.rest }
 
 pub data_same : {x y : DataTree} {a a' b b' : Tokens} → IsDataLine x a b → IsDataLine y a' b' → tier b < 5 → tier b' < 5 → At a a' → Same x y b b'

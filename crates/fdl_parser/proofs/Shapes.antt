@@ -1,12 +1,16 @@
 -- What a form begins with, what may stand behind it, and how it is read then, for forms that are made of others.
 use Rattle.std.proofs.Common.{◌≡◌, ℕ, ◌+◌, ◌<◌, ◌==◌, ◌&&◌, Bool, true, false, not, ltb, List, [], ◌∷◌, ◌++◌, Option, Some, None as Nothing, refl, ap, sym, ◌∙◌, subst, arith, inl, inr}
-use Rattle.std.specs.Prelude.{◌⊎◌, if◌then◌else◌}
+use Rattle.std.specs.Prelude.{◌⊎◌}
 use Rattle.std.proofs.lemmas.Bool.{ltb-true, eq-eqb}
+use Rattle.flow_table.specs.declared.keyword.Keyword.{Keyword}
+use Rattle.flow_table.specs.declared.keyword.Keyword.TheVariants as keywords
+use Rattle.fdl_lexer.specs.declared.kinds.Mark.{Mark as Sign}
+use Rattle.fdl_lexer.specs.declared.kinds.Mark.TheVariants as signs
 use Rattle.fdl_lexer.specs.declared.kinds.What.{What}
 use Rattle.fdl_lexer.specs.declared.kinds.What.TheVariants.{Word, Name, Rc, Item, Number, Text, Mark}
 use Rattle.fdl_parser.specs.declared.cursor.SyntaxFault.{SyntaxFault}
 use Rattle.fdl_parser.specs.Tokens.{Tokens, first_kind, IsToken, IsName, IsNumber}
-use Rattle.fdl_parser.specs.Tiers.{kind_tier, tier, Looser}
+use Rattle.fdl_parser.specs.Tiers.{word_tier, mark_tier, kind_tier, tier, Looser}
 use Rattle.fdl_parser.specs.Stops.{Reads, Anything, first_and, IsTaken, IsStop, Stops}
 use Rattle.fdl_parser.proofs.Same.{kind_lead}
 use Rattle.fdl_parser.proofs.Stops.{CanRead, can_as, Seq, Follows, can_both, taken_both, stops_first, stops_second, Maybe, Opens, taken_none, taken_some, stops_some, can_none, Star, None, More, Through, through_before, through_on, taken_loop, stops_loop_on, through_none, taken_many, Either, taken_left, taken_right, stops_left, stops_right, taken_as, stops_form, taken_less, stops_less, first_kept}
@@ -142,24 +146,17 @@ among_apart (w ∷ ws) vs k u (inr f) h = among_apart ws vs k (both_true (fresh 
 
 -- ---- what may always stand behind
 
-word_pick : (a b c d e : Bool) → (if a then 7 else (if b then 6 else (if c then 4 else (if d then 3 else (if e then 1 else 0))))) < 10
-word_pick true b c d e = omega arith
-word_pick false true c d e = omega arith
-word_pick false false true d e = omega arith
-word_pick false false false true e = omega arith
-word_pick false false false false true = omega arith
-word_pick false false false false false = omega arith
+word_below : (w : Keyword) → ltb (word_tier w) 10 ≡ true
+word_below keywords.And = refl
+word_below _ = refl
 
-mark_pick : (a b c d : Bool) → (if a then 9 else (if b then 8 else (if c then 5 else (if d then 1 else 0)))) < 10
-mark_pick true b c d = omega arith
-mark_pick false true c d = omega arith
-mark_pick false false true d = omega arith
-mark_pick false false false true = omega arith
-mark_pick false false false false = omega arith
+mark_below : (m : Sign) → ltb (mark_tier m) 10 ≡ true
+mark_below signs.Dot = refl
+mark_below _ = refl
 
 kind_top : (k : What) → kind_tier k < 10
-kind_top (Word w) = word_pick _ _ _ _ _
-kind_top (Mark m) = mark_pick _ _ _ _
+kind_top (Word w) = ltb-true (word_tier w) 10 (word_below w)
+kind_top (Mark m) = ltb-true (mark_tier m) 10 (mark_below m)
 kind_top Name = omega arith
 kind_top Rc = omega arith
 kind_top Item = omega arith
@@ -205,16 +202,16 @@ pub shape_any : {ws : List What} {F : Tokens → Tokens → Type 0} → ((a b : 
 shape_any begins can takes = record { begins = begins; can = can_any can; takes = λ a b h q. any_taken (takes a b h) }
 
 -- this word, this mark
-abbrev pub WordForm : ℕ → Tokens → Tokens → Type 0
+abbrev pub WordForm : Keyword → Tokens → Tokens → Type 0
 WordForm w = Reads (IsToken (Word w))
 
-abbrev pub MarkForm : ℕ → Tokens → Tokens → Type 0
+abbrev pub MarkForm : Sign → Tokens → Tokens → Type 0
 MarkForm m = Reads (IsToken (Mark m))
 
-pub word_shape : (w : ℕ) → Shape (Word w ∷ []) 10 (WordForm w)
+pub word_shape : (w : Keyword) → Shape (Word w ∷ []) 10 (WordForm w)
 word_shape w = shape_any (λ a b h. inl (ap first_kind h.1.first)) (can_word w) (λ a b h. taken_word h.1)
 
-pub mark_shape : (m : ℕ) → Shape (Mark m ∷ []) 10 (MarkForm m)
+pub mark_shape : (m : Sign) → Shape (Mark m ∷ []) 10 (MarkForm m)
 mark_shape m = shape_any (λ a b h. inl (ap first_kind h.1.first)) (can_mark m) (λ a b h. taken_mark h.1)
 
 pub name_shape : Shape (Name ∷ []) 10 (Reads IsName)

@@ -1,7 +1,7 @@
 -- How far the forms of activities and elements are read.
 use Rattle.std.proofs.Common.{◌≡◌, ℕ, suc, zero, ◌-◌, ◌<◌, List, [], ◌∷◌, ◌++◌, Some, refl, sym, subst, arith, inl, inr}
 use Rattle.std.specs.Prelude.{◌≢◌}
-use Rattle.flow_table.specs.declared.keyword.TheConstants as word
+use Rattle.flow_table.specs.declared.keyword.Keyword.TheVariants as word
 use Rattle.flow_model.specs.declared.trees.NameAt.{NameAt}
 use Rattle.flow_model.specs.declared.trees.JoinTree.{JoinTree}
 use Rattle.flow_model.specs.declared.trees.AttrTree.{AttrTree}
@@ -10,7 +10,7 @@ use Rattle.flow_model.specs.declared.trees.ActivityTree.{ActivityTree}
 use Rattle.flow_model.specs.declared.trees.ElementTree.{ElementTree}
 use Rattle.fdl_lexer.specs.declared.kinds.What.{What}
 use Rattle.fdl_lexer.specs.declared.kinds.What.TheVariants.{Word, Name, Number, Mark}
-use Rattle.fdl_parser.specs.declared.cursor.mark.TheConstants as mark
+use Rattle.fdl_lexer.specs.declared.kinds.Mark.TheVariants as mark
 use Rattle.fdl_parser.specs.declared.cursor.SyntaxFault.{SyntaxFault}
 use Rattle.fdl_parser.specs.Tokens.{Tokens, first_kind, IsName, IsNumber}
 use Rattle.fdl_parser.specs.Tiers.{Looser}
@@ -26,7 +26,7 @@ use Rattle.fdl_parser.proofs.StopsLines.{control_shape, data_shape}
 -- ---- the structures of a container, the end of an activity
 
 abbrev StructuresForm : Tokens → Tokens → Type 0
-StructuresForm = Seq (MarkForm mark.OPEN) (Seq (Reads IsName) (Seq (MarkForm mark.COMMA) (Seq (Reads IsName) (MarkForm mark.CLOSE))))
+StructuresForm = Seq (MarkForm mark.Open) (Seq (Reads IsName) (Seq (MarkForm mark.Comma) (Seq (Reads IsName) (MarkForm mark.Close))))
 
 structures_into : (a b : Tokens) → StructuresForm a b → Structures a b
 structures_into a b h = (h.2.1.0, h.2.2.2.1.0, InputOutput h.1.1 h.2.1.1 h.2.2.1.1 h.2.2.2.1.1 h.2.2.2.2.1)
@@ -40,55 +40,55 @@ structures_out a b h = go h.2
 pub structures_same : Same StructuresForm Structures
 structures_same = record { into = structures_into; out = structures_out }
 
-pub structures_close : Shape (Name ∷ []) 10 (Seq (Reads IsName) (MarkForm mark.CLOSE))
-structures_close = seq name_shape (mark_shape mark.CLOSE) refl
+pub structures_close : Shape (Name ∷ []) 10 (Seq (Reads IsName) (MarkForm mark.Close))
+structures_close = seq name_shape (mark_shape mark.Close) refl
 
-pub structures_output : Shape (Mark mark.COMMA ∷ []) 10 (Seq (MarkForm mark.COMMA) (Seq (Reads IsName) (MarkForm mark.CLOSE)))
-structures_output = seq (mark_shape mark.COMMA) structures_close refl
+pub structures_output : Shape (Mark mark.Comma ∷ []) 10 (Seq (MarkForm mark.Comma) (Seq (Reads IsName) (MarkForm mark.Close)))
+structures_output = seq (mark_shape mark.Comma) structures_close refl
 
-pub structures_input : Shape (Name ∷ []) 10 (Seq (Reads IsName) (Seq (MarkForm mark.COMMA) (Seq (Reads IsName) (MarkForm mark.CLOSE))))
+pub structures_input : Shape (Name ∷ []) 10 (Seq (Reads IsName) (Seq (MarkForm mark.Comma) (Seq (Reads IsName) (MarkForm mark.Close))))
 structures_input = seq name_shape structures_output refl
 
-pub structures_shape : Shape (Mark mark.OPEN ∷ []) 10 Structures
-structures_shape = shape_as structures_same (seq (mark_shape mark.OPEN) structures_input refl)
+pub structures_shape : Shape (Mark mark.Open ∷ []) 10 Structures
+structures_shape = shape_as structures_same (seq (mark_shape mark.Open) structures_input refl)
 
-closing_into : (a b : Tokens) → Seq (WordForm word.END) (Reads IsName) a b → Reads IsClosing a b
+closing_into : (a b : Tokens) → Seq (WordForm word.End) (Reads IsName) a b → Reads IsClosing a b
 closing_into a b h = (_, EndName h.1.1 h.2.1)
 
-closing_out : (a b : Tokens) → Reads IsClosing a b → Seq (WordForm word.END) (Reads IsName) a b
+closing_out : (a b : Tokens) → Reads IsClosing a b → Seq (WordForm word.End) (Reads IsName) a b
 closing_out a b h = go h.1
   where
-    go : {n : NameAt} → IsClosing n a b → Seq (WordForm word.END) (Reads IsName) a b
+    go : {n : NameAt} → IsClosing n a b → Seq (WordForm word.End) (Reads IsName) a b
     go (EndName j k) = (_, (_, j), (_, k))
 
-pub closing_same : Same (Seq (WordForm word.END) (Reads IsName)) (Reads IsClosing)
+pub closing_same : Same (Seq (WordForm word.End) (Reads IsName)) (Reads IsClosing)
 closing_same = record { into = closing_into; out = closing_out }
 
-pub closing_shape : Shape (Word word.END ∷ []) 10 (Reads IsClosing)
-closing_shape = shape_as closing_same (seq (word_shape word.END) name_shape refl)
+pub closing_shape : Shape (Word word.End ∷ []) 10 (Reads IsClosing)
+closing_shape = shape_as closing_same (seq (word_shape word.End) name_shape refl)
 
 -- ---- joins
 
-connectors_into : (a b : Tokens) → Seq (WordForm word.CONNECTORS) (WordForm word.TRUE) a b → ConnectorsTrue a b
+connectors_into : (a b : Tokens) → Seq (WordForm word.Connectors) (WordForm word.True) a b → ConnectorsTrue a b
 connectors_into a b h = BothWords h.1.1 h.2.1
 
-connectors_out : (a b : Tokens) → ConnectorsTrue a b → Seq (WordForm word.CONNECTORS) (WordForm word.TRUE) a b
+connectors_out : (a b : Tokens) → ConnectorsTrue a b → Seq (WordForm word.Connectors) (WordForm word.True) a b
 connectors_out a b (BothWords j k) = (_, (_, j), (_, k))
 
-pub connectors_same : Same (Seq (WordForm word.CONNECTORS) (WordForm word.TRUE)) ConnectorsTrue
+pub connectors_same : Same (Seq (WordForm word.Connectors) (WordForm word.True)) ConnectorsTrue
 connectors_same = record { into = connectors_into; out = connectors_out }
 
-pub connectors_shape : Shape (Word word.CONNECTORS ∷ []) 10 ConnectorsTrue
-connectors_shape = shape_as connectors_same (seq (word_shape word.CONNECTORS) (word_shape word.TRUE) refl)
+pub connectors_shape : Shape (Word word.Connectors ∷ []) 10 ConnectorsTrue
+connectors_shape = shape_as connectors_same (seq (word_shape word.Connectors) (word_shape word.True) refl)
 
 abbrev OneForm : Tokens → Tokens → Type 0
-OneForm = Seq (WordForm word.AT_LEAST_ONE) (Seq (WordForm word.CONNECTOR) (WordForm word.TRUE))
+OneForm = Seq (WordForm word.AtLeastOne) (Seq (WordForm word.Connector) (WordForm word.True))
 
 abbrev SomeForm : Tokens → Tokens → Type 0
-SomeForm = Seq (WordForm word.AT_LEAST) (Seq (Reads IsNumber) ConnectorsTrue)
+SomeForm = Seq (WordForm word.AtLeast) (Seq (Reads IsNumber) ConnectorsTrue)
 
 abbrev AllForm : Tokens → Tokens → Type 0
-AllForm = Seq (WordForm word.ALL) ConnectorsTrue
+AllForm = Seq (WordForm word.All) ConnectorsTrue
 
 abbrev JoinForm : Tokens → Tokens → Type 0
 JoinForm = Either OneForm (Either SomeForm AllForm)
@@ -109,34 +109,34 @@ join_out a b h = go h.1
 pub join_same : Same JoinForm (Reads IsJoin)
 join_same = record { into = join_into; out = join_out }
 
-pub one_rest : Shape (Word word.CONNECTOR ∷ []) 10 (Seq (WordForm word.CONNECTOR) (WordForm word.TRUE))
-one_rest = seq (word_shape word.CONNECTOR) (word_shape word.TRUE) refl
+pub one_rest : Shape (Word word.Connector ∷ []) 10 (Seq (WordForm word.Connector) (WordForm word.True))
+one_rest = seq (word_shape word.Connector) (word_shape word.True) refl
 
-pub one_shape : Shape (Word word.AT_LEAST_ONE ∷ []) 10 OneForm
-one_shape = seq (word_shape word.AT_LEAST_ONE) one_rest refl
+pub one_shape : Shape (Word word.AtLeastOne ∷ []) 10 OneForm
+one_shape = seq (word_shape word.AtLeastOne) one_rest refl
 
 pub some_rest : Shape (Number 0 ∷ []) 10 (Seq (Reads IsNumber) ConnectorsTrue)
 some_rest = seq number_shape connectors_shape refl
 
-pub some_shape : Shape (Word word.AT_LEAST ∷ []) 10 SomeForm
-some_shape = seq (word_shape word.AT_LEAST) some_rest refl
+pub some_shape : Shape (Word word.AtLeast ∷ []) 10 SomeForm
+some_shape = seq (word_shape word.AtLeast) some_rest refl
 
-pub all_shape : Shape (Word word.ALL ∷ []) 10 AllForm
-all_shape = seq (word_shape word.ALL) connectors_shape refl
+pub all_shape : Shape (Word word.All ∷ []) 10 AllForm
+all_shape = seq (word_shape word.All) connectors_shape refl
 
-pub some_all : Shape (Word word.AT_LEAST ∷ Word word.ALL ∷ []) 10 (Either SomeForm AllForm)
+pub some_all : Shape (Word word.AtLeast ∷ Word word.All ∷ []) 10 (Either SomeForm AllForm)
 some_all = either some_shape all_shape refl
 
-pub join_shape : Shape (Word word.AT_LEAST_ONE ∷ Word word.AT_LEAST ∷ Word word.ALL ∷ []) 10 (Reads IsJoin)
+pub join_shape : Shape (Word word.AtLeastOne ∷ Word word.AtLeast ∷ Word word.All ∷ []) 10 (Reads IsJoin)
 join_shape = shape_as join_same (either one_shape some_all refl)
 
 -- ---- attributes of any activity
 
 abbrev WhenForm : Tokens → Tokens → Type 0
-WhenForm = Seq (WordForm word.WHEN) (Reads IsJoin)
+WhenForm = Seq (WordForm word.When) (Reads IsJoin)
 
 abbrev ExitForm : Tokens → Tokens → Type 0
-ExitForm = Seq (WordForm word.EXIT) (Seq (WordForm word.WHEN) (Reads IsCondition))
+ExitForm = Seq (WordForm word.Exit) (Seq (WordForm word.When) (Reads IsCondition))
 
 common_into : (a b : Tokens) → Either WhenForm ExitForm a b → Reads IsCommonAttribute a b
 common_into a b (inl h) = (_, WhenJoin h.1.1 h.2.1)
@@ -152,14 +152,14 @@ common_out a b h = go h.1
 pub common_same : Same (Either WhenForm ExitForm) (Reads IsCommonAttribute)
 common_same = record { into = common_into; out = common_out }
 
-pub when_shape : Shape (Word word.WHEN ∷ []) 10 WhenForm
-when_shape = seq (word_shape word.WHEN) join_shape refl
+pub when_shape : Shape (Word word.When ∷ []) 10 WhenForm
+when_shape = seq (word_shape word.When) join_shape refl
 
-pub exit_when : Shape (Word word.WHEN ∷ []) 10 (Seq (WordForm word.WHEN) (Reads IsCondition))
-exit_when = seq (word_shape word.WHEN) condition_shape refl
+pub exit_when : Shape (Word word.When ∷ []) 10 (Seq (WordForm word.When) (Reads IsCondition))
+exit_when = seq (word_shape word.When) condition_shape refl
 
-pub exit_shape : Shape (Word word.EXIT ∷ []) 10 ExitForm
-exit_shape = seq (word_shape word.EXIT) exit_when refl
+pub exit_shape : Shape (Word word.Exit ∷ []) 10 ExitForm
+exit_shape = seq (word_shape word.Exit) exit_when refl
 
 pub common_shape : Shape common_kinds 10 (Reads IsCommonAttribute)
 common_shape = shape_as common_same (either when_shape exit_shape refl)
@@ -190,16 +190,16 @@ stops_commons h here s = stops_as commons_same (stops_many (loop_stops common_lo
 -- ---- who does an activity, how it is started
 
 abbrev RoleForm : Tokens → Tokens → Type 0
-RoleForm = Seq (WordForm word.ROLE) (Reads IsName)
+RoleForm = Seq (WordForm word.Role) (Reads IsName)
 
 abbrev PersonForm : Tokens → Tokens → Type 0
-PersonForm = Seq (WordForm word.PERSON) (Reads IsName)
+PersonForm = Seq (WordForm word.Person) (Reads IsName)
 
 abbrev PerformerForm : Tokens → Tokens → Type 0
-PerformerForm = Seq (WordForm word.PERFORMER) (Seq (WordForm word.OF) (Reads IsName))
+PerformerForm = Seq (WordForm word.Performer) (Seq (WordForm word.Of) (Reads IsName))
 
 abbrev DoneByForm : Tokens → Tokens → Type 0
-DoneByForm = Either RoleForm (Either PersonForm (Either (WordForm word.STARTER) PerformerForm))
+DoneByForm = Either RoleForm (Either PersonForm (Either (WordForm word.Starter) PerformerForm))
 
 done_by_into : (a b : Tokens) → DoneByForm a b → Reads IsDoneBy a b
 done_by_into a b (inl h) = (_, ByRole h.1.1 h.2.1)
@@ -219,54 +219,54 @@ done_by_out a b h = go h.1
 pub done_by_same : Same DoneByForm (Reads IsDoneBy)
 done_by_same = record { into = done_by_into; out = done_by_out }
 
-pub role_shape : Shape (Word word.ROLE ∷ []) 10 RoleForm
-role_shape = seq (word_shape word.ROLE) name_shape refl
+pub role_shape : Shape (Word word.Role ∷ []) 10 RoleForm
+role_shape = seq (word_shape word.Role) name_shape refl
 
-pub person_shape : Shape (Word word.PERSON ∷ []) 10 PersonForm
-person_shape = seq (word_shape word.PERSON) name_shape refl
+pub person_shape : Shape (Word word.Person ∷ []) 10 PersonForm
+person_shape = seq (word_shape word.Person) name_shape refl
 
-pub performer_of : Shape (Word word.OF ∷ []) 10 (Seq (WordForm word.OF) (Reads IsName))
-performer_of = seq (word_shape word.OF) name_shape refl
+pub performer_of : Shape (Word word.Of ∷ []) 10 (Seq (WordForm word.Of) (Reads IsName))
+performer_of = seq (word_shape word.Of) name_shape refl
 
-performer_shape : Shape (Word word.PERFORMER ∷ []) 10 PerformerForm
-performer_shape = seq (word_shape word.PERFORMER) performer_of refl
+performer_shape : Shape (Word word.Performer ∷ []) 10 PerformerForm
+performer_shape = seq (word_shape word.Performer) performer_of refl
 
-pub starter_or : Shape (Word word.STARTER ∷ Word word.PERFORMER ∷ []) 10 (Either (WordForm word.STARTER) PerformerForm)
-starter_or = either (word_shape word.STARTER) performer_shape refl
+pub starter_or : Shape (Word word.Starter ∷ Word word.Performer ∷ []) 10 (Either (WordForm word.Starter) PerformerForm)
+starter_or = either (word_shape word.Starter) performer_shape refl
 
-pub person_or : Shape (Word word.PERSON ∷ Word word.STARTER ∷ Word word.PERFORMER ∷ []) 10 (Either PersonForm (Either (WordForm word.STARTER) PerformerForm))
+pub person_or : Shape (Word word.Person ∷ Word word.Starter ∷ Word word.Performer ∷ []) 10 (Either PersonForm (Either (WordForm word.Starter) PerformerForm))
 person_or = either person_shape starter_or refl
 
-pub done_by_shape : Shape (Word word.ROLE ∷ Word word.PERSON ∷ Word word.STARTER ∷ Word word.PERFORMER ∷ []) 10 (Reads IsDoneBy)
+pub done_by_shape : Shape (Word word.Role ∷ Word word.Person ∷ Word word.Starter ∷ Word word.Performer ∷ []) 10 (Reads IsDoneBy)
 done_by_shape = shape_as done_by_same (either role_shape person_or refl)
 
-start_into : (a b : Tokens) → Either (WordForm word.MANUAL) (WordForm word.AUTOMATIC) a b → Reads IsStart a b
+start_into : (a b : Tokens) → Either (WordForm word.Manual) (WordForm word.Automatic) a b → Reads IsStart a b
 start_into a b (inl h) = (_, Manually h.1)
 start_into a b (inr h) = (_, Automatically h.1)
 
-start_out : (a b : Tokens) → Reads IsStart a b → Either (WordForm word.MANUAL) (WordForm word.AUTOMATIC) a b
+start_out : (a b : Tokens) → Reads IsStart a b → Either (WordForm word.Manual) (WordForm word.Automatic) a b
 start_out a b h = go h.1
   where
-    go : {x : AttrTree} → IsStart x a b → Either (WordForm word.MANUAL) (WordForm word.AUTOMATIC) a b
+    go : {x : AttrTree} → IsStart x a b → Either (WordForm word.Manual) (WordForm word.Automatic) a b
     go (Manually j) = inl (_, j)
     go (Automatically j) = inr (_, j)
 
-pub start_same : Same (Either (WordForm word.MANUAL) (WordForm word.AUTOMATIC)) (Reads IsStart)
+pub start_same : Same (Either (WordForm word.Manual) (WordForm word.Automatic)) (Reads IsStart)
 start_same = record { into = start_into; out = start_out }
 
-pub start_shape : Shape (Word word.MANUAL ∷ Word word.AUTOMATIC ∷ []) 10 (Reads IsStart)
-start_shape = shape_as start_same (either (word_shape word.MANUAL) (word_shape word.AUTOMATIC) refl)
+pub start_shape : Shape (Word word.Manual ∷ Word word.Automatic ∷ []) 10 (Reads IsStart)
+start_shape = shape_as start_same (either (word_shape word.Manual) (word_shape word.Automatic) refl)
 
 -- ---- attributes of program activities
 
 abbrev BeginForm : Tokens → Tokens → Type 0
-BeginForm = Seq (WordForm word.START) (Reads IsStart)
+BeginForm = Seq (WordForm word.Start) (Reads IsStart)
 
 abbrev ExpiresForm : Tokens → Tokens → Type 0
-ExpiresForm = Seq (WordForm word.EXPIRES) (Reads IsNumber)
+ExpiresForm = Seq (WordForm word.Expires) (Reads IsNumber)
 
 abbrev ByForm : Tokens → Tokens → Type 0
-ByForm = Seq (WordForm word.DONE_BY) (Reads IsDoneBy)
+ByForm = Seq (WordForm word.DoneBy) (Reads IsDoneBy)
 
 abbrev AttributeForm : Tokens → Tokens → Type 0
 AttributeForm = Either (Reads IsCommonAttribute) (Either BeginForm (Either ExpiresForm ByForm))
@@ -289,19 +289,19 @@ attribute_out a b h = go h.1
 pub attribute_same : Same AttributeForm (Reads IsAttribute)
 attribute_same = record { into = attribute_into; out = attribute_out }
 
-pub begin_shape : Shape (Word word.START ∷ []) 10 BeginForm
-begin_shape = seq (word_shape word.START) start_shape refl
+pub begin_shape : Shape (Word word.Start ∷ []) 10 BeginForm
+begin_shape = seq (word_shape word.Start) start_shape refl
 
-pub expires_shape : Shape (Word word.EXPIRES ∷ []) 10 ExpiresForm
-expires_shape = seq (word_shape word.EXPIRES) number_shape refl
+pub expires_shape : Shape (Word word.Expires ∷ []) 10 ExpiresForm
+expires_shape = seq (word_shape word.Expires) number_shape refl
 
-pub by_shape : Shape (Word word.DONE_BY ∷ []) 10 ByForm
-by_shape = seq (word_shape word.DONE_BY) done_by_shape refl
+pub by_shape : Shape (Word word.DoneBy ∷ []) 10 ByForm
+by_shape = seq (word_shape word.DoneBy) done_by_shape refl
 
-pub expires_or : Shape (Word word.EXPIRES ∷ Word word.DONE_BY ∷ []) 10 (Either ExpiresForm ByForm)
+pub expires_or : Shape (Word word.Expires ∷ Word word.DoneBy ∷ []) 10 (Either ExpiresForm ByForm)
 expires_or = either expires_shape by_shape refl
 
-pub begin_or : Shape (Word word.START ∷ Word word.EXPIRES ∷ Word word.DONE_BY ∷ []) 10 (Either BeginForm (Either ExpiresForm ByForm))
+pub begin_or : Shape (Word word.Start ∷ Word word.Expires ∷ Word word.DoneBy ∷ []) 10 (Either BeginForm (Either ExpiresForm ByForm))
 begin_or = either begin_shape expires_or refl
 
 attribute_shape : Shape attribute_kinds 10 (Reads IsAttribute)
@@ -333,7 +333,7 @@ stops_attributes h here s = stops_as attributes_same (stops_many (loop_stops att
 -- ---- program activities
 
 abbrev ProgramForm : Tokens → Tokens → Type 0
-ProgramForm = Seq (WordForm word.PROGRAM_ACTIVITY) (Seq (Reads IsName) (Seq Structures (Seq (Reads AreAttributes) (Reads IsClosing))))
+ProgramForm = Seq (WordForm word.ProgramActivity) (Seq (Reads IsName) (Seq Structures (Seq (Reads AreAttributes) (Reads IsClosing))))
 
 program_into : (a b : Tokens) → ProgramForm a b → Reads IsProgramActivity a b
 program_into a b h = (_, ProgramActivity h.1.1 h.2.1.1 h.2.2.1.2 h.2.2.2.1.1 h.2.2.2.2.1)
@@ -347,22 +347,22 @@ program_out a b h = go h.1
 pub program_same : Same ProgramForm (Reads IsProgramActivity)
 program_same = record { into = program_into; out = program_out }
 
-pub program_attributes : Shape (attribute_kinds ++ Word word.END ∷ []) 10 (Seq (Reads AreAttributes) (Reads IsClosing))
+pub program_attributes : Shape (attribute_kinds ++ Word word.End ∷ []) 10 (Seq (Reads AreAttributes) (Reads IsClosing))
 program_attributes = skip attributes_loose closing_shape refl
 
-pub program_structures : Shape (Mark mark.OPEN ∷ []) 10 (Seq Structures (Seq (Reads AreAttributes) (Reads IsClosing)))
+pub program_structures : Shape (Mark mark.Open ∷ []) 10 (Seq Structures (Seq (Reads AreAttributes) (Reads IsClosing)))
 program_structures = seq structures_shape program_attributes refl
 
 pub program_name : Shape (Name ∷ []) 10 (Seq (Reads IsName) (Seq Structures (Seq (Reads AreAttributes) (Reads IsClosing))))
 program_name = seq name_shape program_structures refl
 
-pub program_shape : Shape (Word word.PROGRAM_ACTIVITY ∷ []) 10 (Reads IsProgramActivity)
-program_shape = shape_as program_same (seq (word_shape word.PROGRAM_ACTIVITY) program_name refl)
+pub program_shape : Shape (Word word.ProgramActivity ∷ []) 10 (Reads IsProgramActivity)
+program_shape = shape_as program_same (seq (word_shape word.ProgramActivity) program_name refl)
 
 -- ---- process activities
 
 abbrev ProcessForm : Tokens → Tokens → Type 0
-ProcessForm = Seq (WordForm word.PROCESS_ACTIVITY) (Seq (Reads IsName) (Seq Structures (Seq (WordForm word.PROCESS) (Seq (Reads IsName) (Seq (Reads AreCommonAttributes) (Reads IsClosing))))))
+ProcessForm = Seq (WordForm word.ProcessActivity) (Seq (Reads IsName) (Seq Structures (Seq (WordForm word.Process) (Seq (Reads IsName) (Seq (Reads AreCommonAttributes) (Reads IsClosing))))))
 
 process_into : (a b : Tokens) → ProcessForm a b → Reads IsProcessActivity a b
 process_into a b h = (_, ProcessActivity h.1.1 h.2.1.1 h.2.2.1.2 h.2.2.2.1.1 h.2.2.2.2.1.1 h.2.2.2.2.2.1.1 h.2.2.2.2.2.2.1)
@@ -376,23 +376,23 @@ process_out a b h = go h.1
 pub process_same : Same ProcessForm (Reads IsProcessActivity)
 process_same = record { into = process_into; out = process_out }
 
-pub process_attributes : Shape (common_kinds ++ Word word.END ∷ []) 10 (Seq (Reads AreCommonAttributes) (Reads IsClosing))
+pub process_attributes : Shape (common_kinds ++ Word word.End ∷ []) 10 (Seq (Reads AreCommonAttributes) (Reads IsClosing))
 process_attributes = skip commons_loose closing_shape refl
 
 pub process_called : Shape (Name ∷ []) 10 (Seq (Reads IsName) (Seq (Reads AreCommonAttributes) (Reads IsClosing)))
 process_called = seq name_shape process_attributes refl
 
-pub process_word : Shape (Word word.PROCESS ∷ []) 10 (Seq (WordForm word.PROCESS) (Seq (Reads IsName) (Seq (Reads AreCommonAttributes) (Reads IsClosing))))
-process_word = seq (word_shape word.PROCESS) process_called refl
+pub process_word : Shape (Word word.Process ∷ []) 10 (Seq (WordForm word.Process) (Seq (Reads IsName) (Seq (Reads AreCommonAttributes) (Reads IsClosing))))
+process_word = seq (word_shape word.Process) process_called refl
 
-pub process_structures : Shape (Mark mark.OPEN ∷ []) 10 (Seq Structures (Seq (WordForm word.PROCESS) (Seq (Reads IsName) (Seq (Reads AreCommonAttributes) (Reads IsClosing)))))
+pub process_structures : Shape (Mark mark.Open ∷ []) 10 (Seq Structures (Seq (WordForm word.Process) (Seq (Reads IsName) (Seq (Reads AreCommonAttributes) (Reads IsClosing)))))
 process_structures = seq structures_shape process_word refl
 
-pub process_name : Shape (Name ∷ []) 10 (Seq (Reads IsName) (Seq Structures (Seq (WordForm word.PROCESS) (Seq (Reads IsName) (Seq (Reads AreCommonAttributes) (Reads IsClosing))))))
+pub process_name : Shape (Name ∷ []) 10 (Seq (Reads IsName) (Seq Structures (Seq (WordForm word.Process) (Seq (Reads IsName) (Seq (Reads AreCommonAttributes) (Reads IsClosing))))))
 process_name = seq name_shape process_structures refl
 
-pub process_shape : Shape (Word word.PROCESS_ACTIVITY ∷ []) 10 (Reads IsProcessActivity)
-process_shape = shape_as process_same (seq (word_shape word.PROCESS_ACTIVITY) process_name refl)
+pub process_shape : Shape (Word word.ProcessActivity ∷ []) 10 (Reads IsProcessActivity)
+process_shape = shape_as process_same (seq (word_shape word.ProcessActivity) process_name refl)
 
 -- ---- blocks, by how many levels are left
 
@@ -400,7 +400,7 @@ abbrev BlockEnd : ℕ → Tokens → Tokens → Type 0
 BlockEnd n = Seq (Reads (AreElements (n - 1))) (Reads IsClosing)
 
 abbrev BlockForm : ℕ → Tokens → Tokens → Type 0
-BlockForm n = Seq (WordForm word.BLOCK) (Seq (Reads IsName) (Seq Structures (Seq (Reads AreCommonAttributes) (BlockEnd n))))
+BlockForm n = Seq (WordForm word.Block) (Seq (Reads IsName) (Seq Structures (Seq (Reads AreCommonAttributes) (BlockEnd n))))
 
 block_into : (n : ℕ) → 0 < n → (a b : Tokens) → BlockForm n a b → Reads (IsBlock n) a b
 block_into n some a b h = (_, BlockActivity some h.1.1 h.2.1.1 h.2.2.1.2 h.2.2.2.1.1 h.2.2.2.2.1.1 h.2.2.2.2.2.1)
@@ -417,7 +417,7 @@ block_same n some = record { into = block_into n some; out = block_out n }
 -- ---- elements
 
 abbrev flat_kinds : List What
-flat_kinds = Word word.CONTROL ∷ Word word.DATA ∷ Word word.PROCESS_ACTIVITY ∷ Word word.PROGRAM_ACTIVITY ∷ []
+flat_kinds = Word word.Control ∷ Word word.Data ∷ Word word.ProcessActivity ∷ Word word.ProgramActivity ∷ []
 
 abbrev WorkForm : Tokens → Tokens → Type 0
 WorkForm = Either (Reads IsProcessActivity) (Reads IsProgramActivity)
@@ -467,19 +467,19 @@ last_out a b h = go (element_out 0 a b h)
 last_same : Same FlatForm (Reads (IsElement 0))
 last_same = record { into = flat_into 0; out = last_out }
 
-process_wide : Shape (Word word.PROCESS_ACTIVITY ∷ []) 4 (Reads IsProcessActivity)
+process_wide : Shape (Word word.ProcessActivity ∷ []) 4 (Reads IsProcessActivity)
 process_wide = widen process_shape refl
 
-program_wide : Shape (Word word.PROGRAM_ACTIVITY ∷ []) 4 (Reads IsProgramActivity)
+program_wide : Shape (Word word.ProgramActivity ∷ []) 4 (Reads IsProgramActivity)
 program_wide = widen program_shape refl
 
-data_wide : Shape (Word word.DATA ∷ []) 4 (Reads IsDataLine)
+data_wide : Shape (Word word.Data ∷ []) 4 (Reads IsDataLine)
 data_wide = widen data_shape refl
 
-work_shape : Shape (Word word.PROCESS_ACTIVITY ∷ Word word.PROGRAM_ACTIVITY ∷ []) 4 WorkForm
+work_shape : Shape (Word word.ProcessActivity ∷ Word word.ProgramActivity ∷ []) 4 WorkForm
 work_shape = either process_wide program_wide refl
 
-line_shape : Shape (Word word.DATA ∷ Word word.PROCESS_ACTIVITY ∷ Word word.PROGRAM_ACTIVITY ∷ []) 4 DataForm
+line_shape : Shape (Word word.Data ∷ Word word.ProcessActivity ∷ Word word.ProgramActivity ∷ []) 4 DataForm
 line_shape = either data_wide work_shape refl
 
 flat_shape : Shape flat_kinds 4 FlatForm
@@ -502,23 +502,23 @@ loops_of n f = record { one = f; begun = refl; calm = refl; less = refl }
 elements_of : (n : ℕ) → Shape element_kinds 4 (Reads (IsElement n)) → Loose element_kinds 3 (Reads (AreElements n))
 elements_of n f = loose_as (elements_same n) (star (loops_of n f))
 
-block_end_of : (n : ℕ) → Shape element_kinds 4 (Reads (IsElement (n - 1))) → Shape (element_kinds ++ Word word.END ∷ []) 10 (BlockEnd n)
+block_end_of : (n : ℕ) → Shape element_kinds 4 (Reads (IsElement (n - 1))) → Shape (element_kinds ++ Word word.End ∷ []) 10 (BlockEnd n)
 block_end_of n f = skip (elements_of (n - 1) f) closing_shape refl
 
-block_attributes_of : (n : ℕ) → Shape element_kinds 4 (Reads (IsElement (n - 1))) → Shape (common_kinds ++ element_kinds ++ Word word.END ∷ []) 10 (Seq (Reads AreCommonAttributes) (BlockEnd n))
+block_attributes_of : (n : ℕ) → Shape element_kinds 4 (Reads (IsElement (n - 1))) → Shape (common_kinds ++ element_kinds ++ Word word.End ∷ []) 10 (Seq (Reads AreCommonAttributes) (BlockEnd n))
 block_attributes_of n f = skip commons_loose (block_end_of n f) refl
 
-block_structures_of : (n : ℕ) → Shape element_kinds 4 (Reads (IsElement (n - 1))) → Shape (Mark mark.OPEN ∷ []) 10 (Seq Structures (Seq (Reads AreCommonAttributes) (BlockEnd n)))
+block_structures_of : (n : ℕ) → Shape element_kinds 4 (Reads (IsElement (n - 1))) → Shape (Mark mark.Open ∷ []) 10 (Seq Structures (Seq (Reads AreCommonAttributes) (BlockEnd n)))
 block_structures_of n f = seq structures_shape (block_attributes_of n f) refl
 
 block_name_of : (n : ℕ) → Shape element_kinds 4 (Reads (IsElement (n - 1))) → Shape (Name ∷ []) 10 (Seq (Reads IsName) (Seq Structures (Seq (Reads AreCommonAttributes) (BlockEnd n))))
 block_name_of n f = seq name_shape (block_structures_of n f) refl
 
-block_of : (n : ℕ) → 0 < n → Shape element_kinds 4 (Reads (IsElement (n - 1))) → Shape (Word word.BLOCK ∷ []) 4 (Reads (IsBlock n))
-block_of n some f = widen (shape_as (block_same n some) (seq (word_shape word.BLOCK) (block_name_of n f) refl)) refl
+block_of : (n : ℕ) → 0 < n → Shape element_kinds 4 (Reads (IsElement (n - 1))) → Shape (Word word.Block ∷ []) 4 (Reads (IsBlock n))
+block_of n some f = widen (shape_as (block_same n some) (seq (word_shape word.Block) (block_name_of n f) refl)) refl
 
 element_shape : (n : ℕ) → Shape element_kinds 4 (Reads (IsElement n))
-element_shape zero = with_more (Word word.BLOCK ∷ []) (shape_as last_same flat_shape)
+element_shape zero = with_more (Word word.Block ∷ []) (shape_as last_same flat_shape)
 element_shape (suc n) =
     let less : n ≡ suc n - 1 = omega arith in
     let f = subst (λ (k : ℕ). Shape element_kinds 4 (Reads (IsElement k))) less (element_shape n) in
@@ -529,18 +529,18 @@ element_shape (suc n) =
 pub block_name : (n : ℕ) → Shape (Name ∷ []) 10 (Seq (Reads IsName) (Seq Structures (Seq (Reads AreCommonAttributes) (BlockEnd n))))
 block_name n = block_name_of n (element_shape (n - 1))
 
-pub block_structures : (n : ℕ) → Shape (Mark mark.OPEN ∷ []) 10 (Seq Structures (Seq (Reads AreCommonAttributes) (BlockEnd n)))
+pub block_structures : (n : ℕ) → Shape (Mark mark.Open ∷ []) 10 (Seq Structures (Seq (Reads AreCommonAttributes) (BlockEnd n)))
 block_structures n = block_structures_of n (element_shape (n - 1))
 
-pub block_attributes : (n : ℕ) → Shape (common_kinds ++ element_kinds ++ Word word.END ∷ []) 10 (Seq (Reads AreCommonAttributes) (BlockEnd n))
+pub block_attributes : (n : ℕ) → Shape (common_kinds ++ element_kinds ++ Word word.End ∷ []) 10 (Seq (Reads AreCommonAttributes) (BlockEnd n))
 block_attributes n = block_attributes_of n (element_shape (n - 1))
 
-pub block_end : (n : ℕ) → Shape (element_kinds ++ Word word.END ∷ []) 10 (BlockEnd n)
+pub block_end : (n : ℕ) → Shape (element_kinds ++ Word word.End ∷ []) 10 (BlockEnd n)
 block_end n = block_end_of n (element_shape (n - 1))
 
 -- ---- where an element is taken and where it stops
 
-block_shape : (n : ℕ) → 0 < n → Shape (Word word.BLOCK ∷ []) 4 (Reads (IsBlock n))
+block_shape : (n : ℕ) → 0 < n → Shape (Word word.Block ∷ []) 4 (Reads (IsBlock n))
 block_shape n some = block_of n some (element_shape (n - 1))
 
 block_some : {n : ℕ} {x : ActivityTree} {a b : Tokens} → IsBlock n x a b → 0 < n
@@ -549,7 +549,7 @@ block_some (BlockActivity some j k l m n o) = some
 pub element_block : {n : ℕ} {a b : Tokens} → Reads (IsBlock n) a b → IsTaken (Looser 4) (Reads (IsElement n)) a b
 element_block {n} h =
     let some : 0 < n = block_some h.1 in
-    let f : Shape (Word word.BLOCK ∷ []) 10 (Reads (IsBlock n)) = shape_as (block_same n some) (seq (word_shape word.BLOCK) (block_name n) refl) in
+    let f : Shape (Word word.Block ∷ []) 10 (Reads (IsBlock n)) = shape_as (block_same n some) (seq (word_shape word.Block) (block_name n) refl) in
     takes_as (element_same n) (take_left (block_shape n some) flat_shape refl (free_taken (sure f h)))
 
 -- at any level
@@ -576,31 +576,31 @@ pub element_program : (n : ℕ) {a b : Tokens} → Reads IsProgramActivity a b �
 element_program n h = work_taken n (take_right process_wide program_wide refl (free_taken (sure program_shape h)))
 
 -- at the last level a block stops at once
-pub stops_block : (n : ℕ) {a r : Tokens} {e : SyntaxFault} → first_kind a ≡ Some (Word word.BLOCK) → (n ≡ 0 → r ≡ a) → (0 < n → Stops Anything (Reads (IsBlock n)) a r e) → Stops (Looser 4) (Reads (IsElement n)) a r e
+pub stops_block : (n : ℕ) {a r : Tokens} {e : SyntaxFault} → first_kind a ≡ Some (Word word.Block) → (n ≡ 0 → r ≡ a) → (0 < n → Stops Anything (Reads (IsBlock n)) a r e) → Stops (Looser 4) (Reads (IsElement n)) a r e
 stops_block zero {a} {r} {e} here last h =
     subst (λ (x : Tokens). Stops (Looser 4) (Reads (IsElement 0)) a x e) (sym (last refl))
-    (stops_as last_same (record { stop = λ place is q. no_shape flat_shape (λ k. among_apart (Word word.BLOCK ∷ []) flat_kinds (first_kind a) refl (inl here) k) }))
+    (stops_as last_same (record { stop = λ place is q. no_shape flat_shape (λ k. among_apart (Word word.Block ∷ []) flat_kinds (first_kind a) refl (inl here) k) }))
 stops_block (suc n) here last h = stops_as (element_same (suc n)) (stop_left (block_shape (suc n) (omega arith)) flat_shape refl (inl here) (any_stops (h (omega arith))))
 
-flat_stops : (n : ℕ) {a r : Tokens} {e : SyntaxFault} → first_kind a ≢ Some (Word word.BLOCK) → Stops (Looser 4) FlatForm a r e → Stops (Looser 4) (Reads (IsElement n)) a r e
+flat_stops : (n : ℕ) {a r : Tokens} {e : SyntaxFault} → first_kind a ≢ Some (Word word.Block) → Stops (Looser 4) FlatForm a r e → Stops (Looser 4) (Reads (IsElement n)) a r e
 flat_stops zero not h = stops_as last_same h
 flat_stops (suc n) not h = stops_as (element_same (suc n)) (stop_right (block_shape (suc n) (omega arith)) (not, tt) h)
 
-pub stops_control : (n : ℕ) {a r : Tokens} {e : SyntaxFault} → first_kind a ≢ Some (Word word.BLOCK) → first_kind a ≡ Some (Word word.CONTROL) → Stops (Looser 4) (Reads IsControl) a r e → Stops (Looser 4) (Reads (IsElement n)) a r e
+pub stops_control : (n : ℕ) {a r : Tokens} {e : SyntaxFault} → first_kind a ≢ Some (Word word.Block) → first_kind a ≡ Some (Word word.Control) → Stops (Looser 4) (Reads IsControl) a r e → Stops (Looser 4) (Reads (IsElement n)) a r e
 stops_control n not here h = flat_stops n not (stop_left control_shape line_shape refl (inl here) h)
 
-line_stops : (n : ℕ) {a r : Tokens} {e : SyntaxFault} → first_kind a ≢ Some (Word word.BLOCK) → first_kind a ≢ Some (Word word.CONTROL) → Stops (Looser 4) DataForm a r e → Stops (Looser 4) (Reads (IsElement n)) a r e
+line_stops : (n : ℕ) {a r : Tokens} {e : SyntaxFault} → first_kind a ≢ Some (Word word.Block) → first_kind a ≢ Some (Word word.Control) → Stops (Looser 4) DataForm a r e → Stops (Looser 4) (Reads (IsElement n)) a r e
 line_stops n not nor h = flat_stops n not (stop_right control_shape (nor, tt) h)
 
-pub stops_data : (n : ℕ) {a r : Tokens} {e : SyntaxFault} → first_kind a ≢ Some (Word word.BLOCK) → first_kind a ≢ Some (Word word.CONTROL) → first_kind a ≡ Some (Word word.DATA) → Stops (Looser 5) (Reads IsDataLine) a r e
+pub stops_data : (n : ℕ) {a r : Tokens} {e : SyntaxFault} → first_kind a ≢ Some (Word word.Block) → first_kind a ≢ Some (Word word.Control) → first_kind a ≡ Some (Word word.Data) → Stops (Looser 5) (Reads IsDataLine) a r e
     → Stops (Looser 4) (Reads (IsElement n)) a r e
 stops_data n not nor here h = line_stops n not nor (stop_left data_wide work_shape refl (inl here) (stops_less (λ x q. omega (arith, q)) h))
 
-pub stops_process : (n : ℕ) {a r : Tokens} {e : SyntaxFault} → first_kind a ≢ Some (Word word.BLOCK) → first_kind a ≢ Some (Word word.CONTROL) → first_kind a ≢ Some (Word word.DATA) → first_kind a ≡ Some (Word word.PROCESS_ACTIVITY)
+pub stops_process : (n : ℕ) {a r : Tokens} {e : SyntaxFault} → first_kind a ≢ Some (Word word.Block) → first_kind a ≢ Some (Word word.Control) → first_kind a ≢ Some (Word word.Data) → first_kind a ≡ Some (Word word.ProcessActivity)
     → Stops Anything (Reads IsProcessActivity) a r e → Stops (Looser 4) (Reads (IsElement n)) a r e
 stops_process n not nor data_ here h = line_stops n not nor (stop_right data_wide (data_, tt) (stop_left process_wide program_wide refl (inl here) (any_stops h)))
 
-pub stops_program : (n : ℕ) {a r : Tokens} {e : SyntaxFault} → first_kind a ≢ Some (Word word.BLOCK) → first_kind a ≢ Some (Word word.CONTROL) → first_kind a ≢ Some (Word word.DATA) → first_kind a ≢ Some (Word word.PROCESS_ACTIVITY)
+pub stops_program : (n : ℕ) {a r : Tokens} {e : SyntaxFault} → first_kind a ≢ Some (Word word.Block) → first_kind a ≢ Some (Word word.Control) → first_kind a ≢ Some (Word word.Data) → first_kind a ≢ Some (Word word.ProcessActivity)
     → Stops Anything (Reads IsProgramActivity) a r e → Stops (Looser 4) (Reads (IsElement n)) a r e
 stops_program n not nor data_ process h = line_stops n not nor (stop_right data_wide (data_, tt) (stop_right process_wide (process, tt) (any_stops h)))
 

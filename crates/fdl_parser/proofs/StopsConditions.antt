@@ -1,7 +1,7 @@
 -- How far the forms of a condition are read.
 use Rattle.std.proofs.Common.{◌≡◌, ℕ, suc, zero, ◌-◌, ◌<◌, List, [], ◌∷◌, Option, Some, refl, ap, sym, ◌∙◌, subst, arith, inl, inr}
 use Rattle.std.specs.Prelude.{◌≢◌}
-use Rattle.flow_table.specs.declared.keyword.TheConstants as word
+use Rattle.flow_table.specs.declared.keyword.Keyword.TheVariants as word
 use Rattle.flow_model.specs.declared.graphs.Operator.{Operator}
 use Rattle.flow_model.specs.declared.graphs.Operator.TheVariants.{Eq, Ne, Lt, Le, Gt, Ge}
 use Rattle.flow_model.specs.declared.trees.NumberAt.{NumberAt}
@@ -14,7 +14,7 @@ use Rattle.flow_model.specs.declared.trees.Cond.{Cond}
 use Rattle.flow_model.specs.declared.trees.CondAt.{CondAt}
 use Rattle.fdl_lexer.specs.declared.kinds.What.{What}
 use Rattle.fdl_lexer.specs.declared.kinds.What.TheVariants.{Word, Name, Rc, Number, Text, Mark}
-use Rattle.fdl_parser.specs.declared.cursor.mark.TheConstants as mark
+use Rattle.fdl_lexer.specs.declared.kinds.Mark.TheVariants as mark
 use Rattle.fdl_parser.specs.declared.cursor.SyntaxFault.{SyntaxFault}
 use Rattle.fdl_parser.specs.Tokens.{Tokens, first_kind, IsWord, IsMark, IsSigned, Unsigned, Negative, IsFirstStep, RcFirst, NameFirst, IsLeaf, FirstStep, MoreSteps}
 use Rattle.fdl_parser.specs.Tiers.{kind_tier, tier, Looser}
@@ -39,7 +39,7 @@ leaf_begins (MoreSteps h j) = leaf_begins h
 
 -- what goes on less tightly than a step is none
 pub looser_no_step : (x : Tokens) → Looser 9 x → NoStep x
-looser_no_step x q = (λ e. tight (Mark mark.DOT) refl e, λ e. tight (Mark mark.OPEN_BRACKET) refl e)
+looser_no_step x q = (λ e. tight (Mark mark.Dot) refl e, λ e. tight (Mark mark.OpenBracket) refl e)
   where
     tight : (k : What) → kind_tier k ≡ 9 → first_kind x ≡ Some k → ⊥
     tight k t e = let s : tier x ≡ 9 = tier_first x ∙ ap opt_tier e ∙ t in omega (arith, s, q)
@@ -61,7 +61,7 @@ pub leaf_takes : {a b : Tokens} → IsTaken NoStep (Reads IsLeaf) a b → IsTake
 leaf_takes h = taken_less looser_no_step h
 
 abbrev signed_kinds : List What
-signed_kinds = Mark mark.MINUS ∷ Number 0 ∷ []
+signed_kinds = Mark mark.Minus ∷ Number 0 ∷ []
 
 signed_begins : {n : NumberAt} {a b : Tokens} → IsSigned n a b → Among signed_kinds (first_kind a)
 signed_begins (Unsigned {n = n} h) = inr (inl (n.size, ap first_kind h.first.first))
@@ -76,7 +76,7 @@ quote_shape = shape_any (λ a b h. inl (ap first_kind h.2.first)) can_quote (λ 
 -- ---- operands
 
 abbrev operand_kinds : List What
-operand_kinds = Name ∷ Rc ∷ Mark mark.MINUS ∷ Number 0 ∷ []
+operand_kinds = Name ∷ Rc ∷ Mark mark.Minus ∷ Number 0 ∷ []
 
 abbrev OperandForm : Tokens → Tokens → Type 0
 OperandForm = Either (Reads IsLeaf) (Reads IsSigned)
@@ -117,10 +117,10 @@ stops_number_operand not h = stops_as operand_same (stop_right leaf_shape not (a
 -- ---- further terms
 
 abbrev MinusForm : Tokens → Tokens → Type 0
-MinusForm = Seq (MarkForm mark.MINUS) (Reads IsOperand)
+MinusForm = Seq (MarkForm mark.Minus) (Reads IsOperand)
 
 abbrev PlusForm : Tokens → Tokens → Type 0
-PlusForm = Seq (MarkForm mark.PLUS) (Reads IsOperand)
+PlusForm = Seq (MarkForm mark.Plus) (Reads IsOperand)
 
 term_into : (a b : Tokens) → Either MinusForm PlusForm a b → Reads IsNextTerm a b
 term_into a b (inl h) = (_, MinusTerm h.1.1 h.2.1)
@@ -136,29 +136,29 @@ term_out a b h = go h.1
 term_same : Same (Either MinusForm PlusForm) (Reads IsNextTerm)
 term_same = record { into = term_into; out = term_out }
 
-minus_shape : Shape (Mark mark.MINUS ∷ []) 9 MinusForm
-minus_shape = seq (mark_shape mark.MINUS) operand_shape refl
+minus_shape : Shape (Mark mark.Minus ∷ []) 9 MinusForm
+minus_shape = seq (mark_shape mark.Minus) operand_shape refl
 
-plus_shape : Shape (Mark mark.PLUS ∷ []) 9 PlusForm
-plus_shape = seq (mark_shape mark.PLUS) operand_shape refl
+plus_shape : Shape (Mark mark.Plus ∷ []) 9 PlusForm
+plus_shape = seq (mark_shape mark.Plus) operand_shape refl
 
-term_shape : Shape (Mark mark.MINUS ∷ Mark mark.PLUS ∷ []) 9 (Reads IsNextTerm)
+term_shape : Shape (Mark mark.Minus ∷ Mark mark.Plus ∷ []) 9 (Reads IsNextTerm)
 term_shape = shape_as term_same (either minus_shape plus_shape refl)
 
-pub term_minus : {p : ℕ} {a b c : Tokens} → IsMark mark.MINUS p a b → IsTaken (Looser 9) (Reads IsOperand) b c → IsTaken (Looser 9) (Reads IsNextTerm) a c
-term_minus m h = takes_as term_same (take_left minus_shape plus_shape refl (take_then (mark_shape mark.MINUS) (_, m) h))
+pub term_minus : {p : ℕ} {a b c : Tokens} → IsMark mark.Minus p a b → IsTaken (Looser 9) (Reads IsOperand) b c → IsTaken (Looser 9) (Reads IsNextTerm) a c
+term_minus m h = takes_as term_same (take_left minus_shape plus_shape refl (take_then (mark_shape mark.Minus) (_, m) h))
 
-pub term_plus : {p : ℕ} {a b c : Tokens} → IsMark mark.PLUS p a b → IsTaken (Looser 9) (Reads IsOperand) b c → IsTaken (Looser 9) (Reads IsNextTerm) a c
-term_plus m h = takes_as term_same (take_right minus_shape plus_shape refl (take_then (mark_shape mark.PLUS) (_, m) h))
+pub term_plus : {p : ℕ} {a b c : Tokens} → IsMark mark.Plus p a b → IsTaken (Looser 9) (Reads IsOperand) b c → IsTaken (Looser 9) (Reads IsNextTerm) a c
+term_plus m h = takes_as term_same (take_right minus_shape plus_shape refl (take_then (mark_shape mark.Plus) (_, m) h))
 
-pub stops_minus_operand : {p : ℕ} {a b r : Tokens} {e : SyntaxFault} → IsMark mark.MINUS p a b → Stops (Looser 9) (Reads IsOperand) b r e → Stops (Looser 9) (Reads IsNextTerm) a r e
-stops_minus_operand m h = stops_as term_same (stop_left minus_shape plus_shape refl (inl (ap first_kind m.first)) (stop_then (mark_shape mark.MINUS) (_, m) h))
+pub stops_minus_operand : {p : ℕ} {a b r : Tokens} {e : SyntaxFault} → IsMark mark.Minus p a b → Stops (Looser 9) (Reads IsOperand) b r e → Stops (Looser 9) (Reads IsNextTerm) a r e
+stops_minus_operand m h = stops_as term_same (stop_left minus_shape plus_shape refl (inl (ap first_kind m.first)) (stop_then (mark_shape mark.Minus) (_, m) h))
 
-pub stops_plus : {a r : Tokens} {e : SyntaxFault} → first_kind a ≢ Some (Mark mark.MINUS) → Stops Anything (MarkForm mark.PLUS) a r e → Stops (Looser 9) (Reads IsNextTerm) a r e
+pub stops_plus : {a r : Tokens} {e : SyntaxFault} → first_kind a ≢ Some (Mark mark.Minus) → Stops Anything (MarkForm mark.Plus) a r e → Stops (Looser 9) (Reads IsNextTerm) a r e
 stops_plus not h = stops_as term_same (stop_right minus_shape (not, tt) (stop_now operand_shape.can h))
 
-pub stops_plus_operand : {p : ℕ} {a b r : Tokens} {e : SyntaxFault} → first_kind a ≢ Some (Mark mark.MINUS) → IsMark mark.PLUS p a b → Stops (Looser 9) (Reads IsOperand) b r e → Stops (Looser 9) (Reads IsNextTerm) a r e
-stops_plus_operand not m h = stops_as term_same (stop_right minus_shape (not, tt) (stop_then (mark_shape mark.PLUS) (_, m) h))
+pub stops_plus_operand : {p : ℕ} {a b r : Tokens} {e : SyntaxFault} → first_kind a ≢ Some (Mark mark.Minus) → IsMark mark.Plus p a b → Stops (Looser 9) (Reads IsOperand) b r e → Stops (Looser 9) (Reads IsNextTerm) a r e
+stops_plus_operand not m h = stops_as term_same (stop_right minus_shape (not, tt) (stop_then (mark_shape mark.Plus) (_, m) h))
 
 -- ---- sides
 
@@ -179,7 +179,7 @@ sum_form (MoreTerms h t) = let w = sum_form h in (w.0, w.1, star_snoc w.2 (_, t)
 sum_same : Same SumForm (Reads IsSum)
 sum_same = record { into = sum_into; out = λ a b h. sum_form h.1 }
 
-term_loops : Loops (Mark mark.MINUS ∷ Mark mark.PLUS ∷ []) 9 8 (Reads IsNextTerm)
+term_loops : Loops (Mark mark.Minus ∷ Mark mark.Plus ∷ []) 9 8 (Reads IsNextTerm)
 term_loops = record { one = term_shape; begun = refl; calm = refl; less = refl }
 
 sum_shape : Shape operand_kinds 8 (Reads IsSum)
@@ -224,7 +224,7 @@ sum_more h j = loop_more term_loops h j
 pub side_text : {a b : Tokens} → Quotes a b → IsTaken (Looser 8) (Reads IsSide) a b
 side_text h = takes_as side_same (take_left text_shape sum_shape refl (any_taken (taken_quote h.2)))
 
-pub side_sum : {a b : Tokens} → SumSoFar a b → NotAmong (Mark mark.MINUS ∷ Mark mark.PLUS ∷ []) (first_kind b) → IsTaken (Looser 8) (Reads IsSide) a b
+pub side_sum : {a b : Tokens} → SumSoFar a b → NotAmong (Mark mark.Minus ∷ Mark mark.Plus ∷ []) (first_kind b) → IsTaken (Looser 8) (Reads IsSide) a b
 side_sum h not = takes_as side_same (take_right text_shape sum_shape refl (takes_as sum_same (loop_taken term_loops h not)))
 
 pub stops_text_side : {a r : Tokens} {e : SyntaxFault} → first_kind a ≡ Some Text → Stops Anything Quotes a r e → Stops (Looser 8) (Reads IsSide) a r e
@@ -233,7 +233,7 @@ stops_text_side here h = stops_as side_same (stop_left text_shape sum_shape refl
 pub stops_first_operand : {a r : Tokens} {e : SyntaxFault} → first_kind a ≢ Some Text → Stops (Looser 9) (Reads IsOperand) a r e → Stops (Looser 8) (Reads IsSide) a r e
 stops_first_operand not h = stops_as side_same (stop_right text_shape (not, tt) (stops_as sum_same (loop_now term_loops h)))
 
-pub stops_next_term : {a b r : Tokens} {e : SyntaxFault} → first_kind a ≢ Some Text → SumSoFar a b → Among (Mark mark.MINUS ∷ Mark mark.PLUS ∷ []) (first_kind b) → Stops (Looser 9) (Reads IsNextTerm) b r e
+pub stops_next_term : {a b r : Tokens} {e : SyntaxFault} → first_kind a ≢ Some Text → SumSoFar a b → Among (Mark mark.Minus ∷ Mark mark.Plus ∷ []) (first_kind b) → Stops (Looser 9) (Reads IsNextTerm) b r e
     → Stops (Looser 8) (Reads IsSide) a r e
 stops_next_term not s here h = stops_as side_same (stop_right text_shape (not, tt) (stops_as sum_same (loop_stops term_loops s here h)))
 
@@ -243,7 +243,7 @@ abbrev OpForm : Tokens → Tokens → Type 0
 OpForm a b = (o : Operator) × Reads (IsMark (mark_of o)) a b
 
 abbrev op_kinds : List What
-op_kinds = Mark mark.EQUAL ∷ Mark mark.NOT_EQUAL ∷ Mark mark.LESS ∷ Mark mark.AT_MOST ∷ Mark mark.GREATER ∷ Mark mark.AT_LEAST ∷ []
+op_kinds = Mark mark.Equal ∷ Mark mark.NotEqual ∷ Mark mark.Less ∷ Mark mark.AtMost ∷ Mark mark.Greater ∷ Mark mark.AtLeast ∷ []
 
 op_begins : (o : Operator) (k : Option What) → k ≡ Some (Mark (mark_of o)) → Among op_kinds k
 op_begins Eq k e = inl e
@@ -259,7 +259,7 @@ tail_of (t ∷ ts) = ts
 
 op_form : OfOne OpForm
 op_form = record {
-  one = record { kind = Mark mark.EQUAL; place = 0; bytes = [] };
+  one = record { kind = Mark mark.Equal; place = 0; bytes = [] };
   lexed = (tt, tt);
   reads = λ rest. (Eq, (0, record { bytes = []; first = refl }));
   tail = λ t ts b h. sym (ap tail_of h.1.1.first);
@@ -310,16 +310,16 @@ stops_right_side o l m h = stops_as compare_same (stops_second (before {n = 8} r
 -- ---- negations, by how many levels are left
 
 abbrev negation_kinds : List What
-negation_kinds = Word word.NOT ∷ Mark mark.OPEN ∷ side_kinds
+negation_kinds = Word word.Not ∷ Mark mark.Open ∷ side_kinds
 
 abbrev DenyForm : ℕ → Tokens → Tokens → Type 0
-DenyForm n = Seq (WordForm word.NOT) (Reads (IsNegation (n - 1)))
+DenyForm n = Seq (WordForm word.Not) (Reads (IsNegation (n - 1)))
 
 abbrev InnerForm : ℕ → Tokens → Tokens → Type 0
-InnerForm n = Seq (Reads (IsDisjunction (n - 1))) (MarkForm mark.CLOSE)
+InnerForm n = Seq (Reads (IsDisjunction (n - 1))) (MarkForm mark.Close)
 
 abbrev BracketForm : ℕ → Tokens → Tokens → Type 0
-BracketForm n = Seq (MarkForm mark.OPEN) (InnerForm n)
+BracketForm n = Seq (MarkForm mark.Open) (InnerForm n)
 
 abbrev NegationForm : ℕ → Tokens → Tokens → Type 0
 NegationForm n = Either (DenyForm n) (Either (BracketForm n) (Reads IsComparison))
@@ -354,7 +354,7 @@ last_same = record { into = λ a b h. (h.0, Comparison h.1); out = last_out }
 -- ---- conjunctions of such
 
 abbrev AndForm : ℕ → Tokens → Tokens → Type 0
-AndForm n = Seq (WordForm word.AND) (Reads (IsNegation n))
+AndForm n = Seq (WordForm word.And) (Reads (IsNegation n))
 
 abbrev ConjunctionForm : ℕ → Tokens → Tokens → Type 0
 ConjunctionForm n = Seq (Reads (IsNegation n)) (Star (AndForm n))
@@ -384,8 +384,8 @@ conjunction_out n a b h = go h.1
 conjunction_same : (n : ℕ) → Same (ConjunctionForm n) (Reads (IsConjunction n))
 conjunction_same n = record { into = conjunction_into n; out = conjunction_out n }
 
-and_loops : (n : ℕ) → Shape negation_kinds 8 (Reads (IsNegation n)) → Loops (Word word.AND ∷ []) 8 7 (AndForm n)
-and_loops n f = record { one = seq (word_shape word.AND) f refl; begun = refl; calm = refl; less = refl }
+and_loops : (n : ℕ) → Shape negation_kinds 8 (Reads (IsNegation n)) → Loops (Word word.And ∷ []) 8 7 (AndForm n)
+and_loops n f = record { one = seq (word_shape word.And) f refl; begun = refl; calm = refl; less = refl }
 
 conjunction_of : (n : ℕ) → Shape negation_kinds 8 (Reads (IsNegation n)) → Shape negation_kinds 7 (Reads (IsConjunction n))
 conjunction_of n f = shape_as (conjunction_same n) (seq_end f (star (and_loops n f)) refl refl)
@@ -393,7 +393,7 @@ conjunction_of n f = shape_as (conjunction_same n) (seq_end f (star (and_loops n
 -- ---- disjunctions of these
 
 abbrev OrForm : ℕ → Tokens → Tokens → Type 0
-OrForm n = Seq (WordForm word.OR) (Reads (IsConjunction n))
+OrForm n = Seq (WordForm word.Or) (Reads (IsConjunction n))
 
 abbrev DisjunctionForm : ℕ → Tokens → Tokens → Type 0
 DisjunctionForm n = Seq (Reads (IsConjunction n)) (Star (OrForm n))
@@ -423,31 +423,31 @@ disjunction_out n a b h = go h.1
 disjunction_same : (n : ℕ) → Same (DisjunctionForm n) (Reads (IsDisjunction n))
 disjunction_same n = record { into = disjunction_into n; out = disjunction_out n }
 
-or_loops : (n : ℕ) → Shape negation_kinds 7 (Reads (IsConjunction n)) → Loops (Word word.OR ∷ []) 7 6 (OrForm n)
-or_loops n f = record { one = seq (word_shape word.OR) f refl; begun = refl; calm = refl; less = refl }
+or_loops : (n : ℕ) → Shape negation_kinds 7 (Reads (IsConjunction n)) → Loops (Word word.Or ∷ []) 7 6 (OrForm n)
+or_loops n f = record { one = seq (word_shape word.Or) f refl; begun = refl; calm = refl; less = refl }
 
 disjunction_of : (n : ℕ) → Shape negation_kinds 7 (Reads (IsConjunction n)) → Shape negation_kinds 6 (Reads (IsDisjunction n))
 disjunction_of n f = shape_as (disjunction_same n) (seq_end f (star (or_loops n f)) refl refl)
 
 -- ---- their shapes
 
-deny_of : (n : ℕ) → Shape negation_kinds 8 (Reads (IsNegation (n - 1))) → Shape (Word word.NOT ∷ []) 8 (DenyForm n)
-deny_of n f = seq (word_shape word.NOT) f refl
+deny_of : (n : ℕ) → Shape negation_kinds 8 (Reads (IsNegation (n - 1))) → Shape (Word word.Not ∷ []) 8 (DenyForm n)
+deny_of n f = seq (word_shape word.Not) f refl
 
 inner_of : (n : ℕ) → Shape negation_kinds 6 (Reads (IsDisjunction (n - 1))) → Shape negation_kinds 10 (InnerForm n)
-inner_of n f = seq f (mark_shape mark.CLOSE) refl
+inner_of n f = seq f (mark_shape mark.Close) refl
 
-bracket_of : (n : ℕ) → Shape negation_kinds 6 (Reads (IsDisjunction (n - 1))) → Shape (Mark mark.OPEN ∷ []) 8 (BracketForm n)
-bracket_of n f = widen (seq (mark_shape mark.OPEN) (inner_of n f) refl) refl
+bracket_of : (n : ℕ) → Shape negation_kinds 6 (Reads (IsDisjunction (n - 1))) → Shape (Mark mark.Open ∷ []) 8 (BracketForm n)
+bracket_of n f = widen (seq (mark_shape mark.Open) (inner_of n f) refl) refl
 
-rest_of : (n : ℕ) → Shape negation_kinds 6 (Reads (IsDisjunction (n - 1))) → Shape (Mark mark.OPEN ∷ side_kinds) 8 (Either (BracketForm n) (Reads IsComparison))
+rest_of : (n : ℕ) → Shape negation_kinds 6 (Reads (IsDisjunction (n - 1))) → Shape (Mark mark.Open ∷ side_kinds) 8 (Either (BracketForm n) (Reads IsComparison))
 rest_of n f = either (bracket_of n f) compare_shape refl
 
 negation_of : (n : ℕ) → 0 < n → Shape negation_kinds 8 (Reads (IsNegation (n - 1))) → Shape negation_kinds 8 (Reads (IsNegation n))
 negation_of n some f = shape_as (negation_same n some) (either (deny_of n f) (rest_of n (disjunction_of (n - 1) (conjunction_of (n - 1) f))) refl)
 
 negation_shape : (n : ℕ) → Shape negation_kinds 8 (Reads (IsNegation n))
-negation_shape zero = with_more (Word word.NOT ∷ Mark mark.OPEN ∷ []) (shape_as last_same compare_shape)
+negation_shape zero = with_more (Word word.Not ∷ Mark mark.Open ∷ []) (shape_as last_same compare_shape)
 negation_shape (suc n) =
     let less : n ≡ suc n - 1 = omega arith in
     negation_of (suc n) (omega arith) (subst (λ (k : ℕ). Shape negation_kinds 8 (Reads (IsNegation k))) less (negation_shape n))
@@ -458,13 +458,13 @@ conjunction_shape n = conjunction_of n (negation_shape n)
 disjunction_shape : (n : ℕ) → Shape negation_kinds 6 (Reads (IsDisjunction n))
 disjunction_shape n = disjunction_of n (conjunction_shape n)
 
-deny_shape : (n : ℕ) → Shape (Word word.NOT ∷ []) 8 (DenyForm n)
+deny_shape : (n : ℕ) → Shape (Word word.Not ∷ []) 8 (DenyForm n)
 deny_shape n = deny_of n (negation_shape (n - 1))
 
-bracket_shape : (n : ℕ) → Shape (Mark mark.OPEN ∷ []) 8 (BracketForm n)
+bracket_shape : (n : ℕ) → Shape (Mark mark.Open ∷ []) 8 (BracketForm n)
 bracket_shape n = bracket_of n (disjunction_shape (n - 1))
 
-rest_shape : (n : ℕ) → Shape (Mark mark.OPEN ∷ side_kinds) 8 (Either (BracketForm n) (Reads IsComparison))
+rest_shape : (n : ℕ) → Shape (Mark mark.Open ∷ side_kinds) 8 (Either (BracketForm n) (Reads IsComparison))
 rest_shape n = rest_of n (disjunction_shape (n - 1))
 
 -- ---- where a negation is taken and where it stops
@@ -474,40 +474,40 @@ negation_compared zero h = takes_as last_same h
 negation_compared (suc n) h =
     takes_as (negation_same (suc n) (omega arith)) (take_right (deny_shape (suc n)) (rest_shape (suc n)) refl (take_right (bracket_shape (suc n)) compare_shape refl h))
 
-pub negation_denied : {n p : ℕ} {a b c : Tokens} → 0 < n → IsWord word.NOT p a b → IsTaken (Looser 8) (Reads (IsNegation (n - 1))) b c → IsTaken (Looser 8) (Reads (IsNegation n)) a c
-negation_denied {n} some t h = takes_as (negation_same n some) (take_left (deny_shape n) (rest_shape n) refl (take_then (word_shape word.NOT) (_, t) h))
+pub negation_denied : {n p : ℕ} {a b c : Tokens} → 0 < n → IsWord word.Not p a b → IsTaken (Looser 8) (Reads (IsNegation (n - 1))) b c → IsTaken (Looser 8) (Reads (IsNegation n)) a c
+negation_denied {n} some t h = takes_as (negation_same n some) (take_left (deny_shape n) (rest_shape n) refl (take_then (word_shape word.Not) (_, t) h))
 
-pub negation_bracketed : {n p q : ℕ} {a b c d : Tokens} → 0 < n → IsMark mark.OPEN p a b → IsTaken (Looser 6) (Reads (IsDisjunction (n - 1))) b c → IsMark mark.CLOSE q c d → IsTaken (Looser 8) (Reads (IsNegation n)) a d
+pub negation_bracketed : {n p q : ℕ} {a b c d : Tokens} → 0 < n → IsMark mark.Open p a b → IsTaken (Looser 6) (Reads (IsDisjunction (n - 1))) b c → IsMark mark.Close q c d → IsTaken (Looser 8) (Reads (IsNegation n)) a d
 negation_bracketed {n} some m h k =
-    takes_as (negation_same n some) (take_right (deny_shape n) (rest_shape n) refl (take_left (bracket_shape n) compare_shape refl (free_taken (take_then (mark_shape mark.OPEN) (_, m) (taken_both (before {n = 6} (mark_shape mark.CLOSE) refl) h (any_taken (taken_mark k)))))))
+    takes_as (negation_same n some) (take_right (deny_shape n) (rest_shape n) refl (take_left (bracket_shape n) compare_shape refl (free_taken (take_then (mark_shape mark.Open) (_, m) (taken_both (before {n = 6} (mark_shape mark.Close) refl) h (any_taken (taken_mark k)))))))
 
-pub stops_comparison : (n : ℕ) {a r : Tokens} {e : SyntaxFault} → first_kind a ≢ Some (Word word.NOT) → first_kind a ≢ Some (Mark mark.OPEN) → Stops (Looser 8) (Reads IsComparison) a r e → Stops (Looser 8) (Reads (IsNegation n)) a r e
+pub stops_comparison : (n : ℕ) {a r : Tokens} {e : SyntaxFault} → first_kind a ≢ Some (Word word.Not) → first_kind a ≢ Some (Mark mark.Open) → Stops (Looser 8) (Reads IsComparison) a r e → Stops (Looser 8) (Reads (IsNegation n)) a r e
 stops_comparison zero deny bracket h = stops_as last_same h
 stops_comparison (suc n) deny bracket h = stops_as (negation_same (suc n) (omega arith)) (stop_right (deny_shape (suc n)) (deny, tt) (stop_right (bracket_shape (suc n)) (bracket, tt) h))
 
 -- at the last level
-stops_last : {a : Tokens} {e : SyntaxFault} → Among (Word word.NOT ∷ Mark mark.OPEN ∷ []) (first_kind a) → Stops (Looser 8) (Reads (IsNegation 0)) a a e
-stops_last {a} here = stops_as last_same (record { stop = λ place is q. no_shape compare_shape (λ h. among_apart (Word word.NOT ∷ Mark mark.OPEN ∷ []) side_kinds (first_kind a) refl here h) })
+stops_last : {a : Tokens} {e : SyntaxFault} → Among (Word word.Not ∷ Mark mark.Open ∷ []) (first_kind a) → Stops (Looser 8) (Reads (IsNegation 0)) a a e
+stops_last {a} here = stops_as last_same (record { stop = λ place is q. no_shape compare_shape (λ h. among_apart (Word word.Not ∷ Mark mark.Open ∷ []) side_kinds (first_kind a) refl here h) })
 
-pub stops_level : (n : ℕ) {a : Tokens} {e : SyntaxFault} → n ≡ 0 → Among (Word word.NOT ∷ Mark mark.OPEN ∷ []) (first_kind a) → Stops (Looser 8) (Reads (IsNegation n)) a a e
+pub stops_level : (n : ℕ) {a : Tokens} {e : SyntaxFault} → n ≡ 0 → Among (Word word.Not ∷ Mark mark.Open ∷ []) (first_kind a) → Stops (Looser 8) (Reads (IsNegation n)) a a e
 stops_level n {a} {e} last here = subst (λ (k : ℕ). Stops (Looser 8) (Reads (IsNegation k)) a a e) (sym last) (stops_last here)
 
-pub stops_denied : {n p : ℕ} {a b r : Tokens} {e : SyntaxFault} → 0 < n → IsWord word.NOT p a b → Stops (Looser 8) (Reads (IsNegation (n - 1))) b r e → Stops (Looser 8) (Reads (IsNegation n)) a r e
-stops_denied {n} some t h = stops_as (negation_same n some) (stop_left (deny_shape n) (rest_shape n) refl (inl (ap first_kind t.first)) (stop_then (word_shape word.NOT) (_, t) h))
+pub stops_denied : {n p : ℕ} {a b r : Tokens} {e : SyntaxFault} → 0 < n → IsWord word.Not p a b → Stops (Looser 8) (Reads (IsNegation (n - 1))) b r e → Stops (Looser 8) (Reads (IsNegation n)) a r e
+stops_denied {n} some t h = stops_as (negation_same n some) (stop_left (deny_shape n) (rest_shape n) refl (inl (ap first_kind t.first)) (stop_then (word_shape word.Not) (_, t) h))
 
-stops_bracket : {n p : ℕ} {a b r : Tokens} {e : SyntaxFault} → 0 < n → IsMark mark.OPEN p a b → Stops (Looser 10) (InnerForm n) b r e → Stops (Looser 8) (Reads (IsNegation n)) a r e
+stops_bracket : {n p : ℕ} {a b r : Tokens} {e : SyntaxFault} → 0 < n → IsMark mark.Open p a b → Stops (Looser 10) (InnerForm n) b r e → Stops (Looser 8) (Reads (IsNegation n)) a r e
 stops_bracket {n} some m h =
-    stops_as (negation_same n some) (stop_right (deny_shape n) (λ e. no_denial (sym (ap first_kind m.first) ∙ e), tt) (stop_left (bracket_shape n) compare_shape refl (inl (ap first_kind m.first)) (free_stops (stop_then (mark_shape mark.OPEN) (_, m) h))))
+    stops_as (negation_same n some) (stop_right (deny_shape n) (λ e. no_denial (sym (ap first_kind m.first) ∙ e), tt) (stop_left (bracket_shape n) compare_shape refl (inl (ap first_kind m.first)) (free_stops (stop_then (mark_shape mark.Open) (_, m) h))))
   where
-    no_denial : Some (Mark mark.OPEN) ≡ Some (Word word.NOT) → ⊥
+    no_denial : Some (Mark mark.Open) ≡ Some (Word word.Not) → ⊥
     no_denial e = cc
 
-pub stops_inner : {n p : ℕ} {a b r : Tokens} {e : SyntaxFault} → 0 < n → IsMark mark.OPEN p a b → Stops (Looser 6) (Reads (IsDisjunction (n - 1))) b r e → Stops (Looser 8) (Reads (IsNegation n)) a r e
-stops_inner {n} some m h = stops_bracket some m (at_first (mark_shape mark.CLOSE).can (before {n = 6} (mark_shape mark.CLOSE) refl) h)
+pub stops_inner : {n p : ℕ} {a b r : Tokens} {e : SyntaxFault} → 0 < n → IsMark mark.Open p a b → Stops (Looser 6) (Reads (IsDisjunction (n - 1))) b r e → Stops (Looser 8) (Reads (IsNegation n)) a r e
+stops_inner {n} some m h = stops_bracket some m (at_first (mark_shape mark.Close).can (before {n = 6} (mark_shape mark.Close) refl) h)
 
-pub stops_closing : {n p : ℕ} {a b c r : Tokens} {e : SyntaxFault} → 0 < n → IsMark mark.OPEN p a b → IsTaken (Looser 6) (Reads (IsDisjunction (n - 1))) b c → Stops Anything (MarkForm mark.CLOSE) c r e
+pub stops_closing : {n p : ℕ} {a b c r : Tokens} {e : SyntaxFault} → 0 < n → IsMark mark.Open p a b → IsTaken (Looser 6) (Reads (IsDisjunction (n - 1))) b c → Stops Anything (MarkForm mark.Close) c r e
     → Stops (Looser 8) (Reads (IsNegation n)) a r e
-stops_closing {n} some m h s = stops_bracket some m (stops_second (before {n = 6} (mark_shape mark.CLOSE) refl) h (any_stops s))
+stops_closing {n} some m h s = stops_bracket some m (stops_second (before {n = 6} (mark_shape mark.Close) refl) h (any_stops s))
 
 -- ---- conjunctions and disjunctions
 
@@ -518,17 +518,17 @@ ConjunctionSoFar n a b = Through (Looser 7) (Reads (IsNegation n)) (AndForm n) a
 pub conjunction_first : {n : ℕ} {a b : Tokens} → IsTaken (Looser 8) (Reads (IsNegation n)) a b → ConjunctionSoFar n a b
 conjunction_first {n} h = loop_first (and_loops n (negation_shape n)) h
 
-pub conjunction_more : {n p : ℕ} {a b c d : Tokens} → ConjunctionSoFar n a b → IsWord word.AND p b c → IsTaken (Looser 8) (Reads (IsNegation n)) c d → ConjunctionSoFar n a d
-conjunction_more {n} h t j = loop_more (and_loops n (negation_shape n)) h (take_then (word_shape word.AND) (_, t) j)
+pub conjunction_more : {n p : ℕ} {a b c d : Tokens} → ConjunctionSoFar n a b → IsWord word.And p b c → IsTaken (Looser 8) (Reads (IsNegation n)) c d → ConjunctionSoFar n a d
+conjunction_more {n} h t j = loop_more (and_loops n (negation_shape n)) h (take_then (word_shape word.And) (_, t) j)
 
-pub conjunction_taken : {n : ℕ} {a b : Tokens} → ConjunctionSoFar n a b → first_kind b ≢ Some (Word word.AND) → IsTaken (Looser 7) (Reads (IsConjunction n)) a b
+pub conjunction_taken : {n : ℕ} {a b : Tokens} → ConjunctionSoFar n a b → first_kind b ≢ Some (Word word.And) → IsTaken (Looser 7) (Reads (IsConjunction n)) a b
 conjunction_taken {n} h not = takes_as (conjunction_same n) (loop_taken (and_loops n (negation_shape n)) h (not, tt))
 
 pub stops_first_negation : {n : ℕ} {a r : Tokens} {e : SyntaxFault} → Stops (Looser 8) (Reads (IsNegation n)) a r e → Stops (Looser 7) (Reads (IsConjunction n)) a r e
 stops_first_negation {n} h = stops_as (conjunction_same n) (loop_now (and_loops n (negation_shape n)) h)
 
-pub stops_next_negation : {n p : ℕ} {a b c r : Tokens} {e : SyntaxFault} → ConjunctionSoFar n a b → IsWord word.AND p b c → Stops (Looser 8) (Reads (IsNegation n)) c r e → Stops (Looser 7) (Reads (IsConjunction n)) a r e
-stops_next_negation {n} h t s = stops_as (conjunction_same n) (loop_stops (and_loops n (negation_shape n)) h (inl (ap first_kind t.first)) (stop_then (word_shape word.AND) (_, t) s))
+pub stops_next_negation : {n p : ℕ} {a b c r : Tokens} {e : SyntaxFault} → ConjunctionSoFar n a b → IsWord word.And p b c → Stops (Looser 8) (Reads (IsNegation n)) c r e → Stops (Looser 7) (Reads (IsConjunction n)) a r e
+stops_next_negation {n} h t s = stops_as (conjunction_same n) (loop_stops (and_loops n (negation_shape n)) h (inl (ap first_kind t.first)) (stop_then (word_shape word.And) (_, t) s))
 
 abbrev pub DisjunctionSoFar : ℕ → Tokens → Tokens → Type 0
 DisjunctionSoFar n a b = Through (Looser 6) (Reads (IsConjunction n)) (OrForm n) a b
@@ -536,25 +536,25 @@ DisjunctionSoFar n a b = Through (Looser 6) (Reads (IsConjunction n)) (OrForm n)
 pub disjunction_first : {n : ℕ} {a b : Tokens} → IsTaken (Looser 7) (Reads (IsConjunction n)) a b → DisjunctionSoFar n a b
 disjunction_first {n} h = loop_first (or_loops n (conjunction_shape n)) h
 
-pub disjunction_more : {n p : ℕ} {a b c d : Tokens} → DisjunctionSoFar n a b → IsWord word.OR p b c → IsTaken (Looser 7) (Reads (IsConjunction n)) c d → DisjunctionSoFar n a d
-disjunction_more {n} h t j = loop_more (or_loops n (conjunction_shape n)) h (take_then (word_shape word.OR) (_, t) j)
+pub disjunction_more : {n p : ℕ} {a b c d : Tokens} → DisjunctionSoFar n a b → IsWord word.Or p b c → IsTaken (Looser 7) (Reads (IsConjunction n)) c d → DisjunctionSoFar n a d
+disjunction_more {n} h t j = loop_more (or_loops n (conjunction_shape n)) h (take_then (word_shape word.Or) (_, t) j)
 
-pub disjunction_taken : {n : ℕ} {a b : Tokens} → DisjunctionSoFar n a b → first_kind b ≢ Some (Word word.OR) → IsTaken (Looser 6) (Reads (IsDisjunction n)) a b
+pub disjunction_taken : {n : ℕ} {a b : Tokens} → DisjunctionSoFar n a b → first_kind b ≢ Some (Word word.Or) → IsTaken (Looser 6) (Reads (IsDisjunction n)) a b
 disjunction_taken {n} h not = takes_as (disjunction_same n) (loop_taken (or_loops n (conjunction_shape n)) h (not, tt))
 
 pub stops_first_conjunction : {n : ℕ} {a r : Tokens} {e : SyntaxFault} → Stops (Looser 7) (Reads (IsConjunction n)) a r e → Stops (Looser 6) (Reads (IsDisjunction n)) a r e
 stops_first_conjunction {n} h = stops_as (disjunction_same n) (loop_now (or_loops n (conjunction_shape n)) h)
 
-pub stops_next_conjunction : {n p : ℕ} {a b c r : Tokens} {e : SyntaxFault} → DisjunctionSoFar n a b → IsWord word.OR p b c → Stops (Looser 7) (Reads (IsConjunction n)) c r e → Stops (Looser 6) (Reads (IsDisjunction n)) a r e
-stops_next_conjunction {n} h t s = stops_as (disjunction_same n) (loop_stops (or_loops n (conjunction_shape n)) h (inl (ap first_kind t.first)) (stop_then (word_shape word.OR) (_, t) s))
+pub stops_next_conjunction : {n p : ℕ} {a b c r : Tokens} {e : SyntaxFault} → DisjunctionSoFar n a b → IsWord word.Or p b c → Stops (Looser 7) (Reads (IsConjunction n)) c r e → Stops (Looser 6) (Reads (IsDisjunction n)) a r e
+stops_next_conjunction {n} h t s = stops_as (disjunction_same n) (loop_stops (or_loops n (conjunction_shape n)) h (inl (ap first_kind t.first)) (stop_then (word_shape word.Or) (_, t) s))
 
 -- ---- conditions in their parentheses
 
 abbrev ClosedForm : Tokens → Tokens → Type 0
-ClosedForm = Seq (Reads (IsDisjunction condition_levels)) (MarkForm mark.CLOSE)
+ClosedForm = Seq (Reads (IsDisjunction condition_levels)) (MarkForm mark.Close)
 
 abbrev WholeForm : Tokens → Tokens → Type 0
-WholeForm = Seq (MarkForm mark.OPEN) ClosedForm
+WholeForm = Seq (MarkForm mark.Open) ClosedForm
 
 whole_into : (a b : Tokens) → WholeForm a b → Reads IsCondition a b
 whole_into a b h = (_, Whole h.1.1 h.2.1.1 h.2.2.1)
@@ -569,16 +569,16 @@ whole_same : Same WholeForm (Reads IsCondition)
 whole_same = record { into = whole_into; out = whole_out }
 
 closed_shape : Shape negation_kinds 10 ClosedForm
-closed_shape = seq (disjunction_shape condition_levels) (mark_shape mark.CLOSE) refl
+closed_shape = seq (disjunction_shape condition_levels) (mark_shape mark.Close) refl
 
-pub condition_shape : Shape (Mark mark.OPEN ∷ []) 10 (Reads IsCondition)
-condition_shape = shape_as whole_same (seq (mark_shape mark.OPEN) closed_shape refl)
+pub condition_shape : Shape (Mark mark.Open ∷ []) 10 (Reads IsCondition)
+condition_shape = shape_as whole_same (seq (mark_shape mark.Open) closed_shape refl)
 
-pub stops_condition_open : {a r : Tokens} {e : SyntaxFault} → Stops Anything (MarkForm mark.OPEN) a r e → Stops Anything (Reads IsCondition) a r e
+pub stops_condition_open : {a r : Tokens} {e : SyntaxFault} → Stops Anything (MarkForm mark.Open) a r e → Stops Anything (Reads IsCondition) a r e
 stops_condition_open h = free_stops (stops_as whole_same (stop_now closed_shape.can h))
 
-pub stops_condition : {p : ℕ} {a b r : Tokens} {e : SyntaxFault} → IsMark mark.OPEN p a b → Stops (Looser 6) (Reads (IsDisjunction condition_levels)) b r e → Stops Anything (Reads IsCondition) a r e
-stops_condition m h = free_stops (stops_as whole_same (stop_then (mark_shape mark.OPEN) (_, m) (at_first (mark_shape mark.CLOSE).can (before {n = 6} (mark_shape mark.CLOSE) refl) h)))
+pub stops_condition : {p : ℕ} {a b r : Tokens} {e : SyntaxFault} → IsMark mark.Open p a b → Stops (Looser 6) (Reads (IsDisjunction condition_levels)) b r e → Stops Anything (Reads IsCondition) a r e
+stops_condition m h = free_stops (stops_as whole_same (stop_then (mark_shape mark.Open) (_, m) (at_first (mark_shape mark.Close).can (before {n = 6} (mark_shape mark.Close) refl) h)))
 
-pub stops_condition_close : {p : ℕ} {a b c r : Tokens} {e : SyntaxFault} → IsMark mark.OPEN p a b → IsTaken (Looser 6) (Reads (IsDisjunction condition_levels)) b c → Stops Anything (MarkForm mark.CLOSE) c r e → Stops Anything (Reads IsCondition) a r e
-stops_condition_close m t h = free_stops (stops_as whole_same (stop_then (mark_shape mark.OPEN) (_, m) (stops_second (before {n = 6} (mark_shape mark.CLOSE) refl) t (any_stops h))))
+pub stops_condition_close : {p : ℕ} {a b c r : Tokens} {e : SyntaxFault} → IsMark mark.Open p a b → IsTaken (Looser 6) (Reads (IsDisjunction condition_levels)) b c → Stops Anything (MarkForm mark.Close) c r e → Stops Anything (Reads IsCondition) a r e
+stops_condition_close m t h = free_stops (stops_as whole_same (stop_then (mark_shape mark.Open) (_, m) (stops_second (before {n = 6} (mark_shape mark.Close) refl) t (any_stops h))))

@@ -1,7 +1,7 @@
 -- How far the items of a text are read, and where a text is refused.
 use Rattle.std.proofs.Common.{◌≡◌, ℕ, ◌==◌, Bool, true, false, List, [], ◌∷◌, ◌++◌, length, Option, Some, None as Nothing, refl, ap, sym, ◌∙◌, subst, inl, inr, append-nil}
 use Rattle.std.specs.Prelude.{◌≢◌}
-use Rattle.flow_table.specs.declared.keyword.TheConstants as word
+use Rattle.flow_table.specs.declared.keyword.Keyword.TheVariants as word
 use Rattle.flow_model.specs.declared.trees.NameAt.{NameAt}
 use Rattle.flow_model.specs.declared.trees.NumberAt.{NumberAt}
 use Rattle.flow_model.specs.declared.trees.KindTree.{KindTree}
@@ -13,7 +13,7 @@ use Rattle.flow_model.specs.declared.trees.ItemTree.{ItemTree}
 use Rattle.fdl_lexer.specs.declared.kinds.Token.{Token}
 use Rattle.fdl_lexer.specs.declared.kinds.What.{What}
 use Rattle.fdl_lexer.specs.declared.kinds.What.TheVariants.{Word, Name, Number, Mark}
-use Rattle.fdl_parser.specs.declared.cursor.mark.TheConstants as mark
+use Rattle.fdl_lexer.specs.declared.kinds.Mark.TheVariants as mark
 use Rattle.fdl_parser.specs.declared.cursor.SyntaxFault.{SyntaxFault}
 use Rattle.fdl_parser.specs.declared.cursor.SyntaxFault.TheVariants.{At, NoMemory}
 use Rattle.fdl_parser.specs.Tokens.{Tokens, Reading, reading, spell, first_kind, IsWord, IsMark, IsName, IsNumber, IsRest}
@@ -31,7 +31,7 @@ use Rattle.fdl_parser.proofs.StopsActivities.{structures_shape, closing_shape, e
 -- ---- members
 
 abbrev KindForm : Tokens → Tokens → Type 0
-KindForm = Either (WordForm word.LONG) (Either (WordForm word.STRING) (Reads IsName))
+KindForm = Either (WordForm word.Long) (Either (WordForm word.String) (Reads IsName))
 
 kind_into : (a b : Tokens) → KindForm a b → Reads IsKind a b
 kind_into a b (inl h) = (_, LongKind h.1)
@@ -49,14 +49,14 @@ kind_out a b h = go h.1
 pub kind_same : Same KindForm (Reads IsKind)
 kind_same = record { into = kind_into; out = kind_out }
 
-string_or : Shape (Word word.STRING ∷ Name ∷ []) 10 (Either (WordForm word.STRING) (Reads IsName))
-string_or = either (word_shape word.STRING) name_shape refl
+string_or : Shape (Word word.String ∷ Name ∷ []) 10 (Either (WordForm word.String) (Reads IsName))
+string_or = either (word_shape word.String) name_shape refl
 
-pub kind_shape : Shape (Word word.LONG ∷ Word word.STRING ∷ Name ∷ []) 10 (Reads IsKind)
-kind_shape = shape_as kind_same (either (word_shape word.LONG) string_or refl)
+pub kind_shape : Shape (Word word.Long ∷ Word word.String ∷ Name ∷ []) 10 (Reads IsKind)
+kind_shape = shape_as kind_same (either (word_shape word.Long) string_or refl)
 
 abbrev SomeCount : Tokens → Tokens → Type 0
-SomeCount = Seq (MarkForm mark.OPEN) (Seq (Reads IsNumber) (MarkForm mark.CLOSE))
+SomeCount = Seq (MarkForm mark.Open) (Seq (Reads IsNumber) (MarkForm mark.Close))
 
 count_into : (a b : Tokens) → Maybe SomeCount a b → Reads IsCount a b
 count_into a b (inl e) = (Nothing, subst (λ (x : Tokens). IsCount Nothing a x) (sym e) NoCount)
@@ -72,32 +72,32 @@ count_out a b h = go h.1
 count_same : Same (Maybe SomeCount) (Reads IsCount)
 count_same = record { into = count_into; out = count_out }
 
-pub count_number : Shape (Number 0 ∷ []) 10 (Seq (Reads IsNumber) (MarkForm mark.CLOSE))
-count_number = seq number_shape (mark_shape mark.CLOSE) refl
+pub count_number : Shape (Number 0 ∷ []) 10 (Seq (Reads IsNumber) (MarkForm mark.Close))
+count_number = seq number_shape (mark_shape mark.Close) refl
 
-some_count : Shape (Mark mark.OPEN ∷ []) 10 SomeCount
-some_count = seq (mark_shape mark.OPEN) count_number refl
+some_count : Shape (Mark mark.Open ∷ []) 10 SomeCount
+some_count = seq (mark_shape mark.Open) count_number refl
 
-pub count_loose : Loose (Mark mark.OPEN ∷ []) 1 (Reads IsCount)
+pub count_loose : Loose (Mark mark.Open ∷ []) 1 (Reads IsCount)
 count_loose = loose_as count_same (maybe some_count refl refl)
 
-pub count_none : {a : Tokens} → first_kind a ≢ Some (Mark mark.OPEN) → IsTaken (Looser 1) (Reads IsCount) a a
+pub count_none : {a : Tokens} → first_kind a ≢ Some (Mark mark.Open) → IsTaken (Looser 1) (Reads IsCount) a a
 count_none not = takes_as count_same (take_none {n = 10} some_count refl (not, tt))
 
-pub count_some : {n : NumberAt} {p q : ℕ} {a b c d : Tokens} → IsMark mark.OPEN p a b → IsNumber n b c → IsMark mark.CLOSE q c d → IsTaken (Looser 1) (Reads IsCount) a d
+pub count_some : {n : NumberAt} {p q : ℕ} {a b c d : Tokens} → IsMark mark.Open p a b → IsNumber n b c → IsMark mark.Close q c d → IsTaken (Looser 1) (Reads IsCount) a d
 count_some m n k = takes_as count_same (take_some {n = 10} some_count refl (free_taken (sure some_count (_, (_, m), (_, (_, n), (_, k))))))
 
-count_stops : {a r : Tokens} {e : SyntaxFault} → first_kind a ≡ Some (Mark mark.OPEN) → Stops (Looser 10) SomeCount a r e → Stops (Looser 1) (Reads IsCount) a r e
+count_stops : {a r : Tokens} {e : SyntaxFault} → first_kind a ≡ Some (Mark mark.Open) → Stops (Looser 10) SomeCount a r e → Stops (Looser 1) (Reads IsCount) a r e
 count_stops here h = stops_as count_same (stop_some {n = 10} some_count refl (inl here) (free_stops h))
 
-pub stops_count : {p : ℕ} {a b r : Tokens} {e : SyntaxFault} → IsMark mark.OPEN p a b → Stops Anything (Reads IsNumber) b r e → Stops (Looser 1) (Reads IsCount) a r e
-stops_count m h = count_stops (ap first_kind m.first) (stop_then (mark_shape mark.OPEN) (_, m) (stop_now (mark_shape mark.CLOSE).can h))
+pub stops_count : {p : ℕ} {a b r : Tokens} {e : SyntaxFault} → IsMark mark.Open p a b → Stops Anything (Reads IsNumber) b r e → Stops (Looser 1) (Reads IsCount) a r e
+stops_count m h = count_stops (ap first_kind m.first) (stop_then (mark_shape mark.Open) (_, m) (stop_now (mark_shape mark.Close).can h))
 
-pub stops_count_close : {n : NumberAt} {p : ℕ} {a b c r : Tokens} {e : SyntaxFault} → IsMark mark.OPEN p a b → IsNumber n b c → Stops Anything (MarkForm mark.CLOSE) c r e → Stops (Looser 1) (Reads IsCount) a r e
-stops_count_close m n h = count_stops (ap first_kind m.first) (stop_then (mark_shape mark.OPEN) (_, m) (stop_then number_shape (_, n) (any_stops h)))
+pub stops_count_close : {n : NumberAt} {p : ℕ} {a b c r : Tokens} {e : SyntaxFault} → IsMark mark.Open p a b → IsNumber n b c → Stops Anything (MarkForm mark.Close) c r e → Stops (Looser 1) (Reads IsCount) a r e
+stops_count_close m n h = count_stops (ap first_kind m.first) (stop_then (mark_shape mark.Open) (_, m) (stop_then number_shape (_, n) (any_stops h)))
 
 abbrev MemberForm : Tokens → Tokens → Type 0
-MemberForm = Seq (Reads IsName) (Seq (MarkForm mark.COLON) (Seq (Reads IsKind) (Seq (Reads IsCount) (MarkForm mark.SEMICOLON))))
+MemberForm = Seq (Reads IsName) (Seq (MarkForm mark.Colon) (Seq (Reads IsKind) (Seq (Reads IsCount) (MarkForm mark.Semicolon))))
 
 member_into : (a b : Tokens) → MemberForm a b → Reads IsMember a b
 member_into a b h = (_, OneMember h.1.1 h.2.1.1 h.2.2.1.1 h.2.2.2.1.1 h.2.2.2.2.1)
@@ -111,14 +111,14 @@ member_out a b h = go h.1
 pub member_same : Same MemberForm (Reads IsMember)
 member_same = record { into = member_into; out = member_out }
 
-pub member_count : Shape (Mark mark.OPEN ∷ Mark mark.SEMICOLON ∷ []) 10 (Seq (Reads IsCount) (MarkForm mark.SEMICOLON))
-member_count = skip count_loose (mark_shape mark.SEMICOLON) refl
+pub member_count : Shape (Mark mark.Open ∷ Mark mark.Semicolon ∷ []) 10 (Seq (Reads IsCount) (MarkForm mark.Semicolon))
+member_count = skip count_loose (mark_shape mark.Semicolon) refl
 
-pub member_kind : Shape (Word word.LONG ∷ Word word.STRING ∷ Name ∷ []) 10 (Seq (Reads IsKind) (Seq (Reads IsCount) (MarkForm mark.SEMICOLON)))
+pub member_kind : Shape (Word word.Long ∷ Word word.String ∷ Name ∷ []) 10 (Seq (Reads IsKind) (Seq (Reads IsCount) (MarkForm mark.Semicolon)))
 member_kind = seq kind_shape member_count refl
 
-pub member_colon : Shape (Mark mark.COLON ∷ []) 10 (Seq (MarkForm mark.COLON) (Seq (Reads IsKind) (Seq (Reads IsCount) (MarkForm mark.SEMICOLON))))
-member_colon = seq (mark_shape mark.COLON) member_kind refl
+pub member_colon : Shape (Mark mark.Colon ∷ []) 10 (Seq (MarkForm mark.Colon) (Seq (Reads IsKind) (Seq (Reads IsCount) (MarkForm mark.Semicolon))))
+member_colon = seq (mark_shape mark.Colon) member_kind refl
 
 member_shape : Shape (Name ∷ []) 10 (Reads IsMember)
 member_shape = shape_as member_same (seq name_shape member_colon refl)
@@ -143,7 +143,7 @@ members_loose = loose_as members_same (star member_loops)
 -- ---- structures
 
 abbrev StructureForm : Tokens → Tokens → Type 0
-StructureForm = Seq (WordForm word.STRUCTURE) (Seq (Reads IsName) (Seq (Reads AreMembers) (Reads IsClosing)))
+StructureForm = Seq (WordForm word.Structure) (Seq (Reads IsName) (Seq (Reads AreMembers) (Reads IsClosing)))
 
 structure_into : (a b : Tokens) → StructureForm a b → Reads IsStructure a b
 structure_into a b h = (_, OneStructure h.1.1 h.2.1.1 h.2.2.1.1 h.2.2.2.1)
@@ -157,14 +157,14 @@ structure_out a b h = go h.1
 pub structure_same : Same StructureForm (Reads IsStructure)
 structure_same = record { into = structure_into; out = structure_out }
 
-pub structure_members : Shape (Name ∷ Word word.END ∷ []) 10 (Seq (Reads AreMembers) (Reads IsClosing))
+pub structure_members : Shape (Name ∷ Word word.End ∷ []) 10 (Seq (Reads AreMembers) (Reads IsClosing))
 structure_members = skip members_loose closing_shape refl
 
 pub structure_name : Shape (Name ∷ []) 10 (Seq (Reads IsName) (Seq (Reads AreMembers) (Reads IsClosing)))
 structure_name = seq name_shape structure_members refl
 
-structure_shape : Shape (Word word.STRUCTURE ∷ []) 10 (Reads IsStructure)
-structure_shape = shape_as structure_same (seq (word_shape word.STRUCTURE) structure_name refl)
+structure_shape : Shape (Word word.Structure ∷ []) 10 (Reads IsStructure)
+structure_shape = shape_as structure_same (seq (word_shape word.Structure) structure_name refl)
 
 -- where a member stops
 pub stops_member : {xs : List Member} {a b r : Tokens} {e : SyntaxFault} → AreMembers xs a b → first_kind b ≡ Some Name → Stops Anything (Reads IsMember) b r e → Stops (Looser 10) (Seq (Reads AreMembers) (Reads IsClosing)) a r e
@@ -179,10 +179,10 @@ stops_members_end h not s =
 -- ---- persons
 
 abbrev FirstRoleForm : Tokens → Tokens → Type 0
-FirstRoleForm = Seq (WordForm word.ROLES) (Reads IsName)
+FirstRoleForm = Seq (WordForm word.Roles) (Reads IsName)
 
 abbrev NextRoleForm : Tokens → Tokens → Type 0
-NextRoleForm = Seq (MarkForm mark.COMMA) (Reads IsName)
+NextRoleForm = Seq (MarkForm mark.Comma) (Reads IsName)
 
 abbrev RolesForm : Tokens → Tokens → Type 0
 RolesForm = Seq FirstRoleForm (Star NextRoleForm)
@@ -209,42 +209,42 @@ roles_out a b h = go h.1
 roles_same : Same (Maybe RolesForm) (Reads AreRoles)
 roles_same = record { into = roles_into; out = roles_out }
 
-first_role : Shape (Word word.ROLES ∷ []) 10 FirstRoleForm
-first_role = seq (word_shape word.ROLES) name_shape refl
+first_role : Shape (Word word.Roles ∷ []) 10 FirstRoleForm
+first_role = seq (word_shape word.Roles) name_shape refl
 
-role_loops : Loops (Mark mark.COMMA ∷ []) 10 4 NextRoleForm
-role_loops = record { one = seq (mark_shape mark.COMMA) name_shape refl; begun = refl; calm = refl; less = refl }
+role_loops : Loops (Mark mark.Comma ∷ []) 10 4 NextRoleForm
+role_loops = record { one = seq (mark_shape mark.Comma) name_shape refl; begun = refl; calm = refl; less = refl }
 
-roles_shape : Shape (Word word.ROLES ∷ []) 4 RolesForm
+roles_shape : Shape (Word word.Roles ∷ []) 4 RolesForm
 roles_shape = seq_end first_role (star role_loops) refl refl
 
-pub roles_loose : Loose (Word word.ROLES ∷ []) 4 (Reads AreRoles)
+pub roles_loose : Loose (Word word.Roles ∷ []) 4 (Reads AreRoles)
 roles_loose = loose_as roles_same (maybe roles_shape refl refl)
 
 -- the roles up to some place
 roles_so_far : {ns : List NameAt} {a b : Tokens} → AreNamed ns a b → Through (Looser 4) FirstRoleForm NextRoleForm a b
 roles_so_far (FirstRole t j) = loop_first role_loops (sure first_role (_, (_, t), (_, j)))
-roles_so_far (NextRole h m j) = loop_more role_loops (roles_so_far h) (sure (seq (mark_shape mark.COMMA) name_shape refl) (_, (_, m), (_, j)))
+roles_so_far (NextRole h m j) = loop_more role_loops (roles_so_far h) (sure (seq (mark_shape mark.Comma) name_shape refl) (_, (_, m), (_, j)))
 
-roles_begin : {ns : List NameAt} {a b : Tokens} → AreNamed ns a b → first_kind a ≡ Some (Word word.ROLES)
+roles_begin : {ns : List NameAt} {a b : Tokens} → AreNamed ns a b → first_kind a ≡ Some (Word word.Roles)
 roles_begin (FirstRole t j) = ap first_kind t.first
 roles_begin (NextRole h m j) = roles_begin h
 
-pub roles_none : {a : Tokens} → first_kind a ≢ Some (Word word.ROLES) → IsTaken (Looser 4) (Reads AreRoles) a a
+pub roles_none : {a : Tokens} → first_kind a ≢ Some (Word word.Roles) → IsTaken (Looser 4) (Reads AreRoles) a a
 roles_none not = takes_as roles_same (take_none {n = 4} roles_shape refl (not, tt))
 
-pub roles_taken : {ns : List NameAt} {a b : Tokens} → AreNamed ns a b → first_kind b ≢ Some (Mark mark.COMMA) → IsTaken (Looser 4) (Reads AreRoles) a b
+pub roles_taken : {ns : List NameAt} {a b : Tokens} → AreNamed ns a b → first_kind b ≢ Some (Mark mark.Comma) → IsTaken (Looser 4) (Reads AreRoles) a b
 roles_taken h not = takes_as roles_same (take_some {n = 4} roles_shape refl (loop_taken role_loops (roles_so_far h) (not, tt)))
 
-pub stops_first_role : {p : ℕ} {a b r : Tokens} {e : SyntaxFault} → IsWord word.ROLES p a b → Stops Anything (Reads IsName) b r e → Stops (Looser 4) (Reads AreRoles) a r e
-stops_first_role t h = stops_as roles_same (stop_some {n = 4} roles_shape refl (inl (ap first_kind t.first)) (loop_now role_loops (stop_then (word_shape word.ROLES) (_, t) (any_stops h))))
+pub stops_first_role : {p : ℕ} {a b r : Tokens} {e : SyntaxFault} → IsWord word.Roles p a b → Stops Anything (Reads IsName) b r e → Stops (Looser 4) (Reads AreRoles) a r e
+stops_first_role t h = stops_as roles_same (stop_some {n = 4} roles_shape refl (inl (ap first_kind t.first)) (loop_now role_loops (stop_then (word_shape word.Roles) (_, t) (any_stops h))))
 
-pub stops_next_role : {ns : List NameAt} {p : ℕ} {a b c r : Tokens} {e : SyntaxFault} → AreNamed ns a b → IsMark mark.COMMA p b c → Stops Anything (Reads IsName) c r e → Stops (Looser 4) (Reads AreRoles) a r e
+pub stops_next_role : {ns : List NameAt} {p : ℕ} {a b c r : Tokens} {e : SyntaxFault} → AreNamed ns a b → IsMark mark.Comma p b c → Stops Anything (Reads IsName) c r e → Stops (Looser 4) (Reads AreRoles) a r e
 stops_next_role s m h =
-    stops_as roles_same (stop_some {n = 4} roles_shape refl (inl (roles_begin s)) (loop_stops role_loops (roles_so_far s) (inl (ap first_kind m.first)) (stop_then (mark_shape mark.COMMA) (_, m) (any_stops h))))
+    stops_as roles_same (stop_some {n = 4} roles_shape refl (inl (roles_begin s)) (loop_stops role_loops (roles_so_far s) (inl (ap first_kind m.first)) (stop_then (mark_shape mark.Comma) (_, m) (any_stops h))))
 
 abbrev PersonForm : Tokens → Tokens → Type 0
-PersonForm = Seq (WordForm word.PERSON) (Seq (Reads IsName) (Seq (Reads AreRoles) (Reads IsClosing)))
+PersonForm = Seq (WordForm word.Person) (Seq (Reads IsName) (Seq (Reads AreRoles) (Reads IsClosing)))
 
 person_into : (a b : Tokens) → PersonForm a b → Reads IsPerson a b
 person_into a b h = (_, OnePerson h.1.1 h.2.1.1 h.2.2.1.1 h.2.2.2.1)
@@ -258,19 +258,19 @@ person_out a b h = go h.1
 pub person_same : Same PersonForm (Reads IsPerson)
 person_same = record { into = person_into; out = person_out }
 
-pub person_roles : Shape (Word word.ROLES ∷ Word word.END ∷ []) 10 (Seq (Reads AreRoles) (Reads IsClosing))
+pub person_roles : Shape (Word word.Roles ∷ Word word.End ∷ []) 10 (Seq (Reads AreRoles) (Reads IsClosing))
 person_roles = skip roles_loose closing_shape refl
 
 pub person_name : Shape (Name ∷ []) 10 (Seq (Reads IsName) (Seq (Reads AreRoles) (Reads IsClosing)))
 person_name = seq name_shape person_roles refl
 
-person_shape : Shape (Word word.PERSON ∷ []) 10 (Reads IsPerson)
-person_shape = shape_as person_same (seq (word_shape word.PERSON) person_name refl)
+person_shape : Shape (Word word.Person ∷ []) 10 (Reads IsPerson)
+person_shape = shape_as person_same (seq (word_shape word.Person) person_name refl)
 
 -- ---- processes
 
 abbrev ProcessForm : Tokens → Tokens → Type 0
-ProcessForm = Seq (WordForm word.PROCESS) (Seq (Reads IsName) (Seq Structures (Seq (Reads (AreElements block_levels)) (Reads IsClosing))))
+ProcessForm = Seq (WordForm word.Process) (Seq (Reads IsName) (Seq Structures (Seq (Reads (AreElements block_levels)) (Reads IsClosing))))
 
 process_into : (a b : Tokens) → ProcessForm a b → Reads IsProcess a b
 process_into a b h = (_, OneProcess h.1.1 h.2.1.1 h.2.2.1.2 h.2.2.2.1.1 h.2.2.2.2.1)
@@ -284,17 +284,17 @@ process_out a b h = go h.1
 pub process_same : Same ProcessForm (Reads IsProcess)
 process_same = record { into = process_into; out = process_out }
 
-pub process_elements : Shape (Word word.BLOCK ∷ Word word.CONTROL ∷ Word word.DATA ∷ Word word.PROCESS_ACTIVITY ∷ Word word.PROGRAM_ACTIVITY ∷ Word word.END ∷ []) 10 (Seq (Reads (AreElements block_levels)) (Reads IsClosing))
+pub process_elements : Shape (Word word.Block ∷ Word word.Control ∷ Word word.Data ∷ Word word.ProcessActivity ∷ Word word.ProgramActivity ∷ Word word.End ∷ []) 10 (Seq (Reads (AreElements block_levels)) (Reads IsClosing))
 process_elements = skip (elements_loose block_levels) closing_shape refl
 
-pub process_structures : Shape (Mark mark.OPEN ∷ []) 10 (Seq Structures (Seq (Reads (AreElements block_levels)) (Reads IsClosing)))
+pub process_structures : Shape (Mark mark.Open ∷ []) 10 (Seq Structures (Seq (Reads (AreElements block_levels)) (Reads IsClosing)))
 process_structures = seq structures_shape process_elements refl
 
 pub process_name : Shape (Name ∷ []) 10 (Seq (Reads IsName) (Seq Structures (Seq (Reads (AreElements block_levels)) (Reads IsClosing))))
 process_name = seq name_shape process_structures refl
 
-process_shape : Shape (Word word.PROCESS ∷ []) 10 (Reads IsProcess)
-process_shape = shape_as process_same (seq (word_shape word.PROCESS) process_name refl)
+process_shape : Shape (Word word.Process ∷ []) 10 (Reads IsProcess)
+process_shape = shape_as process_same (seq (word_shape word.Process) process_name refl)
 
 -- ---- items
 
@@ -317,19 +317,19 @@ item_out a b h = go h.1
 item_same : Same ItemForm (Reads IsItem)
 item_same = record { into = item_into; out = item_out }
 
-person_or : Shape (Word word.PERSON ∷ Word word.PROCESS ∷ []) 10 (Either (Reads IsPerson) (Reads IsProcess))
+person_or : Shape (Word word.Person ∷ Word word.Process ∷ []) 10 (Either (Reads IsPerson) (Reads IsProcess))
 person_or = either person_shape process_shape refl
 
-item_shape : Shape (Word word.STRUCTURE ∷ Word word.PERSON ∷ Word word.PROCESS ∷ []) 10 (Reads IsItem)
+item_shape : Shape (Word word.Structure ∷ Word word.Person ∷ Word word.Process ∷ []) 10 (Reads IsItem)
 item_shape = shape_as item_same (either structure_shape person_or refl)
 
-pub stops_structure : {a r : Tokens} {e : SyntaxFault} → first_kind a ≡ Some (Word word.STRUCTURE) → Stops Anything (Reads IsStructure) a r e → Stops Anything (Reads IsItem) a r e
+pub stops_structure : {a r : Tokens} {e : SyntaxFault} → first_kind a ≡ Some (Word word.Structure) → Stops Anything (Reads IsStructure) a r e → Stops Anything (Reads IsItem) a r e
 stops_structure here h = free_stops (stops_as item_same (stop_left structure_shape person_or refl (inl here) (any_stops h)))
 
-pub stops_person : {a r : Tokens} {e : SyntaxFault} → first_kind a ≢ Some (Word word.STRUCTURE) → first_kind a ≡ Some (Word word.PERSON) → Stops Anything (Reads IsPerson) a r e → Stops Anything (Reads IsItem) a r e
+pub stops_person : {a r : Tokens} {e : SyntaxFault} → first_kind a ≢ Some (Word word.Structure) → first_kind a ≡ Some (Word word.Person) → Stops Anything (Reads IsPerson) a r e → Stops Anything (Reads IsItem) a r e
 stops_person not here h = free_stops (stops_as item_same (stop_right structure_shape (not, tt) (stop_left person_shape process_shape refl (inl here) (any_stops h))))
 
-pub stops_process : {a r : Tokens} {e : SyntaxFault} → first_kind a ≢ Some (Word word.STRUCTURE) → first_kind a ≢ Some (Word word.PERSON) → Stops Anything (Reads IsProcess) a r e → Stops Anything (Reads IsItem) a r e
+pub stops_process : {a r : Tokens} {e : SyntaxFault} → first_kind a ≢ Some (Word word.Structure) → first_kind a ≢ Some (Word word.Person) → Stops Anything (Reads IsProcess) a r e → Stops Anything (Reads IsItem) a r e
 stops_process not nor h = free_stops (stops_as item_same (stop_right structure_shape (not, tt) (stop_right person_shape (nor, tt) (any_stops h))))
 
 -- ---- texts
@@ -351,10 +351,10 @@ is_some w k e n = no (sym e ∙ n)
 item_some : (a b : Tokens) → Reads IsItem a b → SomeToken (first_kind a)
 item_some a b h = go (item_shape.begins a b h)
   where
-    go : Among (Word word.STRUCTURE ∷ Word word.PERSON ∷ Word word.PROCESS ∷ []) (first_kind a) → SomeToken (first_kind a)
-    go (inl e) = is_some (Word word.STRUCTURE) (first_kind a) e
-    go (inr (inl e)) = is_some (Word word.PERSON) (first_kind a) e
-    go (inr (inr (inl e))) = is_some (Word word.PROCESS) (first_kind a) e
+    go : Among (Word word.Structure ∷ Word word.Person ∷ Word word.Process ∷ []) (first_kind a) → SomeToken (first_kind a)
+    go (inl e) = is_some (Word word.Structure) (first_kind a) e
+    go (inr (inl e)) = is_some (Word word.Person) (first_kind a) e
+    go (inr (inr (inl e))) = is_some (Word word.Process) (first_kind a) e
     go (inr (inr (inr e))) = absurd e
 
 items_open : Opens SomeToken AtEnd (Reads IsItem)

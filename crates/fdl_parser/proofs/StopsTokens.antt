@@ -7,10 +7,12 @@ use Rattle.flow_model.specs.declared.trees.NumberAt.{NumberAt}
 use Rattle.flow_model.specs.declared.trees.StepTree.{StepTree}
 use Rattle.flow_model.specs.declared.trees.StepTree.TheVariants as step
 use Rattle.flow_model.specs.declared.trees.LeafAt.{LeafAt}
+use Rattle.flow_table.specs.declared.keyword.Keyword.{Keyword}
 use Rattle.fdl_lexer.specs.Bytes.{single_quoted, doubled, double_quoted}
 use Rattle.fdl_lexer.specs.declared.kinds.What.{What}
 use Rattle.fdl_lexer.specs.declared.kinds.What.TheVariants as what
-use Rattle.fdl_parser.specs.declared.cursor.mark.TheConstants as mark
+use Rattle.fdl_lexer.specs.declared.kinds.Mark.{Mark}
+use Rattle.fdl_lexer.specs.declared.kinds.Mark.TheVariants as mark
 use Rattle.fdl_parser.specs.declared.cursor.SyntaxFault.{SyntaxFault}
 use Rattle.fdl_parser.specs.Faults.{Names}
 use Rattle.fdl_parser.specs.Lexed.{IsQuoted, AreQuoted}
@@ -71,28 +73,28 @@ stop_token o a not = stop_one o a (λ b c same h. not (sym same ∙ ap first_kin
 pub stops_here : {P : Tokens → Type 0} {F : Tokens → Tokens → Type 0} → (old new : Reading) (e : SyntaxFault) → new ≡ old → IsStop P F old.left old.left → Stops P F old.left new.left e
 stops_here {P} {F} old new e same h = record { stop = λ place is q. subst (λ (r : Reading). IsStop P F old.left r.left) (sym same) h }
 
-word_form : (w : ℕ) → OfOne (Reads (IsToken (what.Word w)))
+word_form : (w : Keyword) → OfOne (Reads (IsToken (what.Word w)))
 word_form w = token_form (what.Word w) [] tt
 
-mark_form : (m : ℕ) → OfOne (Reads (IsToken (what.Mark m)))
+mark_form : (m : Mark) → OfOne (Reads (IsToken (what.Mark m)))
 mark_form m = token_form (what.Mark m) [] tt
 
-pub can_word : (w : ℕ) → CanRead Anything (Reads (IsToken (what.Word w)))
+pub can_word : (w : Keyword) → CanRead Anything (Reads (IsToken (what.Word w)))
 can_word w = can_one (word_form w)
 
-pub can_mark : (m : ℕ) → CanRead Anything (Reads (IsToken (what.Mark m)))
+pub can_mark : (m : Mark) → CanRead Anything (Reads (IsToken (what.Mark m)))
 can_mark m = can_one (mark_form m)
 
-pub taken_word : {w p : ℕ} {a b : Tokens} → IsToken (what.Word w) p a b → IsTaken Anything (Reads (IsToken (what.Word w))) a b
+pub taken_word : {w : Keyword} {p : ℕ} {a b : Tokens} → IsToken (what.Word w) p a b → IsTaken Anything (Reads (IsToken (what.Word w))) a b
 taken_word {w} h = taken_token (word_form w) h
 
-pub taken_mark : {m p : ℕ} {a b : Tokens} → IsToken (what.Mark m) p a b → IsTaken Anything (Reads (IsToken (what.Mark m))) a b
+pub taken_mark : {m : Mark} {p : ℕ} {a b : Tokens} → IsToken (what.Mark m) p a b → IsTaken Anything (Reads (IsToken (what.Mark m))) a b
 taken_mark {m} h = taken_token (mark_form m) h
 
-pub stops_word : (w : ℕ) (old new : Reading) (e : SyntaxFault) → Names old e × (new ≡ old) × (first_kind old.left ≢ Some (what.Word w)) → Stops Anything (Reads (IsToken (what.Word w))) old.left new.left e
+pub stops_word : (w : Keyword) (old new : Reading) (e : SyntaxFault) → Names old e × (new ≡ old) × (first_kind old.left ≢ Some (what.Word w)) → Stops Anything (Reads (IsToken (what.Word w))) old.left new.left e
 stops_word w old new e h = stops_here old new e h.1 (stop_token (word_form w) old.left h.2)
 
-pub stops_mark : (m : ℕ) (old new : Reading) (e : SyntaxFault) → Names old e × (new ≡ old) × (first_kind old.left ≢ Some (what.Mark m)) → Stops Anything (Reads (IsToken (what.Mark m))) old.left new.left e
+pub stops_mark : (m : Mark) (old new : Reading) (e : SyntaxFault) → Names old e × (new ≡ old) × (first_kind old.left ≢ Some (what.Mark m)) → Stops Anything (Reads (IsToken (what.Mark m))) old.left new.left e
 stops_mark m old new e h = stops_here old new e h.1 (stop_token (mark_form m) old.left h.2)
 
 -- ---- a name
@@ -229,10 +231,10 @@ no_number a not = stop_one number_form a (λ b c same h. not h.0.size (sym same 
 -- ---- a number with a sign
 
 abbrev Minus : Option What → Type 0
-Minus k = k ≡ Some (what.Mark mark.MINUS)
+Minus k = k ≡ Some (what.Mark mark.Minus)
 
 abbrev SignedForm : Tokens → Tokens → Type 0
-SignedForm = Either (Seq (Reads (IsToken (what.Mark mark.MINUS))) (Reads IsNumber)) (Reads IsNumber)
+SignedForm = Either (Seq (Reads (IsToken (what.Mark mark.Minus))) (Reads IsNumber)) (Reads IsNumber)
 
 signed_into : (a b : Tokens) → SignedForm a b → Reads IsSigned a b
 signed_into a b (inl h) = (record { minus = Some h.1.0; size = h.2.0.size; place = h.2.0.place }, Negative {n = h.2.0} h.1.1 h.2.1)
@@ -245,13 +247,13 @@ signed_out a b h = go h.1
     go (Unsigned {n = n} j) = inr (n, j)
     go (Negative {n = n} {p = p} {b = c} j k) = inl (c, (p, j), (n, k))
 
-minus_begins : (a b : Tokens) → Seq (Reads (IsToken (what.Mark mark.MINUS))) (Reads IsNumber) a b → Minus (first_kind a)
+minus_begins : (a b : Tokens) → Seq (Reads (IsToken (what.Mark mark.Minus))) (Reads IsNumber) a b → Minus (first_kind a)
 minus_begins a b h = ap first_kind h.1.1.first
 
 no_minus : (a b : Tokens) → Reads IsNumber a b → Minus (first_kind a) → ⊥
 no_minus a b h is = apart h.0.size (sym (ap first_kind h.1.first.first) ∙ is)
   where
-    apart : (n : ℕ) → Some (what.Number n) ≡ Some (what.Mark mark.MINUS) → ⊥
+    apart : (n : ℕ) → Some (what.Number n) ≡ Some (what.Mark mark.Minus) → ⊥
     apart n e = cc
 
 pub can_signed : CanRead Anything (Reads IsSigned)
@@ -261,10 +263,10 @@ pub taken_signed : {n : NumberAt} {a b : Tokens} → IsSigned n a b → IsTaken 
 taken_signed (Unsigned h) = taken_as signed_into signed_out (taken_right Minus minus_begins no_minus (taken_number h))
 taken_signed (Negative h j) = taken_as signed_into signed_out (taken_left Minus minus_begins no_minus (taken_both (λ b c q g. tt) (taken_mark h) (taken_number j)))
 
-pub stops_unsigned : {a r : Tokens} {e : SyntaxFault} → first_kind a ≢ Some (what.Mark mark.MINUS) → Stops Anything (Reads IsNumber) a r e → Stops Anything (Reads IsSigned) a r e
+pub stops_unsigned : {a r : Tokens} {e : SyntaxFault} → first_kind a ≢ Some (what.Mark mark.Minus) → Stops Anything (Reads IsNumber) a r e → Stops Anything (Reads IsSigned) a r e
 stops_unsigned not h = stops_form signed_into signed_out (stops_right Minus minus_begins not h)
 
-pub stops_negative : {p : ℕ} {a b r : Tokens} {e : SyntaxFault} → IsToken (what.Mark mark.MINUS) p a b → Stops Anything (Reads IsNumber) b r e → Stops Anything (Reads IsSigned) a r e
+pub stops_negative : {p : ℕ} {a b r : Tokens} {e : SyntaxFault} → IsToken (what.Mark mark.Minus) p a b → Stops Anything (Reads IsNumber) b r e → Stops Anything (Reads IsSigned) a r e
 stops_negative m h = stops_form signed_into signed_out (stops_left Minus no_minus (ap first_kind m.first) (stops_second (λ b c q g. tt) (taken_mark m) h))
 
 -- ---- the steps of a leaf
@@ -309,13 +311,13 @@ pub stops_first_step : {a r : Tokens} {e : SyntaxFault} → first_kind a ≢ Som
 stops_first_step not h = stops_form first_into first_out (stops_right Code code_begins not h)
 
 abbrev Dot : Option What → Type 0
-Dot k = k ≡ Some (what.Mark mark.DOT)
+Dot k = k ≡ Some (what.Mark mark.Dot)
 
 abbrev PlaceForm : Tokens → Tokens → Type 0
-PlaceForm = Seq (Reads (IsToken (what.Mark mark.OPEN_BRACKET))) (Seq (Reads IsNumber) (Reads (IsToken (what.Mark mark.CLOSE_BRACKET))))
+PlaceForm = Seq (Reads (IsToken (what.Mark mark.OpenBracket))) (Seq (Reads IsNumber) (Reads (IsToken (what.Mark mark.CloseBracket))))
 
 abbrev NextForm : Tokens → Tokens → Type 0
-NextForm = Either (Seq (Reads (IsToken (what.Mark mark.DOT))) (Reads IsName)) PlaceForm
+NextForm = Either (Seq (Reads (IsToken (what.Mark mark.Dot))) (Reads IsName)) PlaceForm
 
 next_into : (a b : Tokens) → NextForm a b → Reads IsNextStep a b
 next_into a b (inl h) = (step.Member h.2.0.name, MemberNext h.1.1 h.2.1)
@@ -328,39 +330,39 @@ next_out a b h = go h.1
     go (MemberNext {n = n} {p = p} {b = c} j k) = inl (c, (p, j), (n, k))
     go (PlaceNext {n = n} {p = p} {q = q} {b = c} {c = d} j k l) = inr (c, (p, j), (d, (n, k), (q, l)))
 
-dot_begins : (a b : Tokens) → Seq (Reads (IsToken (what.Mark mark.DOT))) (Reads IsName) a b → Dot (first_kind a)
+dot_begins : (a b : Tokens) → Seq (Reads (IsToken (what.Mark mark.Dot))) (Reads IsName) a b → Dot (first_kind a)
 dot_begins a b h = ap first_kind h.1.1.first
 
 no_dot : (a b : Tokens) → PlaceForm a b → Dot (first_kind a) → ⊥
 no_dot a b h is = apart (sym (ap first_kind h.1.1.first) ∙ is)
   where
-    apart : Some (what.Mark mark.OPEN_BRACKET) ≡ Some (what.Mark mark.DOT) → ⊥
+    apart : Some (what.Mark mark.OpenBracket) ≡ Some (what.Mark mark.Dot) → ⊥
     apart e = cc
 
 taken_next : {s : StepTree} {a b : Tokens} → IsNextStep s a b → IsTaken Anything (Reads IsNextStep) a b
 taken_next (MemberNext h j) = taken_as next_into next_out (taken_left Dot dot_begins no_dot (taken_both (λ b c q g. tt) (taken_mark h) (taken_name j)))
 taken_next (PlaceNext h j k) = taken_as next_into next_out (taken_right Dot dot_begins no_dot (taken_both (λ b c q g. tt) (taken_mark h) (taken_both (λ b c q g. tt) (taken_number j) (taken_mark k))))
 
-pub stops_member : {p : ℕ} {a b r : Tokens} {e : SyntaxFault} → IsToken (what.Mark mark.DOT) p a b → Stops Anything (Reads IsName) b r e → Stops Anything (Reads IsNextStep) a r e
+pub stops_member : {p : ℕ} {a b r : Tokens} {e : SyntaxFault} → IsToken (what.Mark mark.Dot) p a b → Stops Anything (Reads IsName) b r e → Stops Anything (Reads IsNextStep) a r e
 stops_member m h = stops_form next_into next_out (stops_left Dot no_dot (ap first_kind m.first) (stops_second (λ b c q g. tt) (taken_mark m) h))
 
-pub stops_place : {a r : Tokens} {e : SyntaxFault} → first_kind a ≢ Some (what.Mark mark.DOT) → Stops Anything PlaceForm a r e → Stops Anything (Reads IsNextStep) a r e
+pub stops_place : {a r : Tokens} {e : SyntaxFault} → first_kind a ≢ Some (what.Mark mark.Dot) → Stops Anything PlaceForm a r e → Stops Anything (Reads IsNextStep) a r e
 stops_place not h = stops_form next_into next_out (stops_right Dot dot_begins not h)
 
-pub stops_open : {a r : Tokens} {e : SyntaxFault} → first_kind a ≢ Some (what.Mark mark.DOT) → Stops Anything (Reads (IsToken (what.Mark mark.OPEN_BRACKET))) a r e → Stops Anything (Reads IsNextStep) a r e
-stops_open not h = stops_place not (stops_first (λ b c q g. tt) h (can_both (λ b c q g. tt) can_number (can_mark mark.CLOSE_BRACKET)))
+pub stops_open : {a r : Tokens} {e : SyntaxFault} → first_kind a ≢ Some (what.Mark mark.Dot) → Stops Anything (Reads (IsToken (what.Mark mark.OpenBracket))) a r e → Stops Anything (Reads IsNextStep) a r e
+stops_open not h = stops_place not (stops_first (λ b c q g. tt) h (can_both (λ b c q g. tt) can_number (can_mark mark.CloseBracket)))
 
-pub stops_number : {p : ℕ} {a b r : Tokens} {e : SyntaxFault} → first_kind a ≢ Some (what.Mark mark.DOT) → IsToken (what.Mark mark.OPEN_BRACKET) p a b → Stops Anything (Reads IsNumber) b r e → Stops Anything (Reads IsNextStep) a r e
-stops_number not m h = stops_place not (stops_second (λ b c q g. tt) (taken_mark m) (stops_first (λ b c q g. tt) h (can_mark mark.CLOSE_BRACKET)))
+pub stops_number : {p : ℕ} {a b r : Tokens} {e : SyntaxFault} → first_kind a ≢ Some (what.Mark mark.Dot) → IsToken (what.Mark mark.OpenBracket) p a b → Stops Anything (Reads IsNumber) b r e → Stops Anything (Reads IsNextStep) a r e
+stops_number not m h = stops_place not (stops_second (λ b c q g. tt) (taken_mark m) (stops_first (λ b c q g. tt) h (can_mark mark.CloseBracket)))
 
-pub stops_close : {p : ℕ} {n : NumberAt} {a b c r : Tokens} {e : SyntaxFault} → first_kind a ≢ Some (what.Mark mark.DOT) → IsToken (what.Mark mark.OPEN_BRACKET) p a b → IsNumber n b c
-    → Stops Anything (Reads (IsToken (what.Mark mark.CLOSE_BRACKET))) c r e → Stops Anything (Reads IsNextStep) a r e
+pub stops_close : {p : ℕ} {n : NumberAt} {a b c r : Tokens} {e : SyntaxFault} → first_kind a ≢ Some (what.Mark mark.Dot) → IsToken (what.Mark mark.OpenBracket) p a b → IsNumber n b c
+    → Stops Anything (Reads (IsToken (what.Mark mark.CloseBracket))) c r e → Stops Anything (Reads IsNextStep) a r e
 stops_close not m n h = stops_place not (stops_second (λ b c q g. tt) (taken_mark m) (stops_second (λ b c q g. tt) (taken_number n) h))
 
 -- ---- a leaf
 
 abbrev StepKind : Option What → Type 0
-StepKind k = (k ≡ Some (what.Mark mark.DOT)) ⊎ (k ≡ Some (what.Mark mark.OPEN_BRACKET))
+StepKind k = (k ≡ Some (what.Mark mark.Dot)) ⊎ (k ≡ Some (what.Mark mark.OpenBracket))
 
 abbrev LeafForm : Tokens → Tokens → Type 0
 LeafForm = Seq FirstSteps (Star (Reads IsNextStep))

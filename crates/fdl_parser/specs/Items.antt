@@ -1,6 +1,6 @@
 -- The grammar of a text and its items, with their trees.
 use Rattle.std.specs.Prelude.{ℕ, List, [], ◌∷◌, ◌++◌, Option, Some, None}
-use Rattle.flow_table.specs.declared.keyword.TheConstants as word
+use Rattle.flow_table.specs.declared.keyword.Keyword.TheVariants as word
 use Rattle.flow_model.specs.declared.trees.NameAt.{NameAt}
 use Rattle.flow_model.specs.declared.trees.NumberAt.{NumberAt}
 use Rattle.flow_model.specs.declared.trees.KindTree.{KindTree}
@@ -13,7 +13,7 @@ use Rattle.flow_model.specs.declared.trees.ProcessTree.{ProcessTree}
 use Rattle.flow_model.specs.declared.trees.ItemTree.{ItemTree}
 use Rattle.flow_model.specs.declared.trees.ItemTree.TheVariants as item
 use Rattle.flow_model.specs.declared.trees.Tree.{Tree}
-use Rattle.fdl_parser.specs.declared.cursor.mark.TheConstants as mark
+use Rattle.fdl_lexer.specs.declared.kinds.Mark.TheVariants as mark
 use Rattle.fdl_parser.specs.Tokens.{Tokens, IsWord, IsMark, IsName, IsNumber}
 use Rattle.fdl_parser.specs.Activities.{AreStructures, IsClosing, AreElements}
 
@@ -23,20 +23,20 @@ block_levels = 64
 
 -- the kind of a member: LONG | STRING | name
 pub data IsKind : KindTree → Tokens → Tokens → Type 0 where
-  LongKind : {p : ℕ} {a b : Tokens} → IsWord word.LONG p a b → IsKind kind.Long a b
-  StringKind : {p : ℕ} {a b : Tokens} → IsWord word.STRING p a b → IsKind kind.Str a b
+  LongKind : {p : ℕ} {a b : Tokens} → IsWord word.Long p a b → IsKind kind.Long a b
+  StringKind : {p : ℕ} {a b : Tokens} → IsWord word.String p a b → IsKind kind.Str a b
   StructKind : {n : NameAt} {a b : Tokens} → IsName n a b → IsKind (kind.Struct n) a b
 
 -- the count of an array: [ ( number ) ]
 pub data IsCount : Option NumberAt → Tokens → Tokens → Type 0 where
   NoCount : {a : Tokens} → IsCount None a a
-  OneCount : {n : NumberAt} {p q : ℕ} {a b c d : Tokens} → IsMark mark.OPEN p a b → IsNumber n b c
-      → IsMark mark.CLOSE q c d → IsCount (Some n) a d
+  OneCount : {n : NumberAt} {p q : ℕ} {a b c d : Tokens} → IsMark mark.Open p a b → IsNumber n b c
+      → IsMark mark.Close q c d → IsCount (Some n) a d
 
 -- member = name : kind [ ( number ) ] ;
 pub data IsMember : Member → Tokens → Tokens → Type 0 where
   OneMember : {name : NameAt} {k : KindTree} {count : Option NumberAt} {p q : ℕ} {a b c d e f : Tokens}
-      → IsName name a b → IsMark mark.COLON p b c → IsKind k c d → IsCount count d e → IsMark mark.SEMICOLON q e f
+      → IsName name a b → IsMark mark.Colon p b c → IsKind k c d → IsCount count d e → IsMark mark.Semicolon q e f
       → IsMember (record { name = name; kind = k; count = count }) a f
 
 -- member*
@@ -47,14 +47,14 @@ pub data AreMembers : List Member → Tokens → Tokens → Type 0 where
 
 -- STRUCTURE name member* END name
 pub data IsStructure : StructDef → Tokens → Tokens → Type 0 where
-  OneStructure : {name end : NameAt} {members : List Member} {p : ℕ} {a b c d e : Tokens} → IsWord word.STRUCTURE p a b
+  OneStructure : {name end : NameAt} {members : List Member} {p : ℕ} {a b c d e : Tokens} → IsWord word.Structure p a b
       → IsName name b c → AreMembers members c d → IsClosing end d e
       → IsStructure (record { name = name; members = members; end = end }) a e
 
 -- ROLES name (, name)*
 pub data AreNamed : List NameAt → Tokens → Tokens → Type 0 where
-  FirstRole : {n : NameAt} {p : ℕ} {a b c : Tokens} → IsWord word.ROLES p a b → IsName n b c → AreNamed (n ∷ []) a c
-  NextRole : {ns : List NameAt} {n : NameAt} {p : ℕ} {a b c d : Tokens} → AreNamed ns a b → IsMark mark.COMMA p b c
+  FirstRole : {n : NameAt} {p : ℕ} {a b c : Tokens} → IsWord word.Roles p a b → IsName n b c → AreNamed (n ∷ []) a c
+  NextRole : {ns : List NameAt} {n : NameAt} {p : ℕ} {a b c d : Tokens} → AreNamed ns a b → IsMark mark.Comma p b c
       → IsName n c d → AreNamed (ns ++ n ∷ []) a d
 
 -- the roles of a person, if there are any
@@ -64,14 +64,14 @@ pub data AreRoles : List NameAt → Tokens → Tokens → Type 0 where
 
 -- PERSON name [ROLES name (, name)*] END name
 pub data IsPerson : PersonTree → Tokens → Tokens → Type 0 where
-  OnePerson : {name end : NameAt} {roles : List NameAt} {p : ℕ} {a b c d e : Tokens} → IsWord word.PERSON p a b
+  OnePerson : {name end : NameAt} {roles : List NameAt} {p : ℕ} {a b c d e : Tokens} → IsWord word.Person p a b
       → IsName name b c → AreRoles roles c d → IsClosing end d e
       → IsPerson (record { name = name; roles = roles; end = end }) a e
 
 -- PROCESS name ( name , name ) element* END name
 pub data IsProcess : ProcessTree → Tokens → Tokens → Type 0 where
   OneProcess : {name input output end : NameAt} {elements : List ElementTree} {p : ℕ} {a b c d e f : Tokens}
-      → IsWord word.PROCESS p a b → IsName name b c → AreStructures input output c d
+      → IsWord word.Process p a b → IsName name b c → AreStructures input output c d
       → AreElements block_levels elements d e → IsClosing end e f
       → IsProcess (record { place = p; name = name; input = input; output = output; elements = elements; end = end }) a
       f

@@ -6,8 +6,8 @@ use Rattle.fdl_parser.specs.Lexed.{AreQuoted}
 use Rattle.fdl_lexer.specs.declared.kinds.What.{What}
 use Rattle.fdl_lexer.specs.declared.kinds.What.TheVariants as what
 use Rattle.flow_model.specs.declared.trees.StepTree.{StepTree}
-use Rattle.fdl_parser.specs.declared.cursor.mark.TheConstants as mark
-use Rattle.flow_table.specs.declared.keyword.TheConstants as word
+use Rattle.fdl_lexer.specs.declared.kinds.Mark.TheVariants as mark
+use Rattle.flow_table.specs.declared.keyword.Keyword.TheVariants as word
 use Rattle.flow_model.specs.declared.trees.NameAt.{NameAt}
 use Rattle.fdl_parser.specs.Activities.{AreStructures}
 use Rattle.fdl_parser.specs.Tokens.{Tokens, first_kind, IsQuote, IsFirstStep}
@@ -30,17 +30,17 @@ Structures before after = (input : NameAt) × (output : NameAt) × AreStructures
 
 -- the words with which an attribute of any activity begins
 abbrev pub common_kinds : List What
-common_kinds = what.Word word.WHEN ∷ what.Word word.EXIT ∷ []
+common_kinds = what.Word word.When ∷ what.Word word.Exit ∷ []
 
 -- an attribute of a program activity
 abbrev pub attribute_kinds : List What
-attribute_kinds = what.Word word.WHEN ∷ what.Word word.EXIT ∷ what.Word word.START ∷ what.Word word.EXPIRES ∷ what.Word
-    word.DONE_BY ∷ []
+attribute_kinds = what.Word word.When ∷ what.Word word.Exit ∷ what.Word word.Start ∷ what.Word word.Expires ∷ what.Word
+    word.DoneBy ∷ []
 
 -- an element
 abbrev pub element_kinds : List What
-element_kinds = what.Word word.BLOCK ∷ what.Word word.CONTROL ∷ what.Word word.DATA ∷ what.Word word.PROCESS_ACTIVITY ∷
-    what.Word word.PROGRAM_ACTIVITY ∷ []
+element_kinds = what.Word word.Block ∷ what.Word word.Control ∷ what.Word word.Data ∷ what.Word word.ProcessActivity ∷
+    what.Word word.ProgramActivity ∷ []
 
 -- a token of one of these kinds comes next
 abbrev pub OneComes : List What → Tokens → Type 0
@@ -54,11 +54,11 @@ NoneComes (k ∷ ks) rest = (first_kind rest ≢ Some k) × NoneComes ks rest
 
 -- a further step of a leaf begins here
 abbrev pub StepComes : Tokens → Type 0
-StepComes rest = (first_kind rest ≡ Some (what.Mark mark.DOT)) ⊎ (first_kind rest ≡ Some (what.Mark mark.OPEN_BRACKET))
+StepComes rest = (first_kind rest ≡ Some (what.Mark mark.Dot)) ⊎ (first_kind rest ≡ Some (what.Mark mark.OpenBracket))
 
 -- none does
 abbrev pub NoStep : Tokens → Type 0
-NoStep rest = (first_kind rest ≢ Some (what.Mark mark.DOT)) × (first_kind rest ≢ Some (what.Mark mark.OPEN_BRACKET))
+NoStep rest = (first_kind rest ≢ Some (what.Mark mark.Dot)) × (first_kind rest ≢ Some (what.Mark mark.OpenBracket))
 
 -- anything may stand behind
 abbrev pub Anything : Tokens → Type 0

@@ -1,32 +1,44 @@
 -- How tightly a token goes on with what stands before it: what may stand behind a form goes on less tightly than its
 -- parts.
-use Rattle.std.specs.Prelude.{ℕ, ◌<◌, ◌==◌, ◌||◌, [], ◌∷◌, if◌then◌else◌}
-use Rattle.flow_table.specs.declared.keyword.TheConstants as word
+use Rattle.std.specs.Prelude.{ℕ, ◌<◌, [], ◌∷◌}
+use Rattle.flow_table.specs.declared.keyword.Keyword.{Keyword}
+use Rattle.flow_table.specs.declared.keyword.Keyword.TheVariants as word
+use Rattle.fdl_lexer.specs.declared.kinds.Mark.{Mark as Sign}
+use Rattle.fdl_lexer.specs.declared.kinds.Mark.TheVariants as mark
 use Rattle.fdl_lexer.specs.declared.kinds.What.{What}
 use Rattle.fdl_lexer.specs.declared.kinds.What.TheVariants.{Word, Name, Mark}
-use Rattle.fdl_parser.specs.declared.cursor.mark.TheConstants as mark
 use Rattle.fdl_parser.specs.Tokens.{Tokens}
 
 -- how tightly a word goes on
-abbrev pub word_tier : ℕ → ℕ
-word_tier w =
-    if w == word.AND then 7
-    else (if w == word.OR then 6
-    else (if w == word.WHEN || w == word.OTHERWISE || w == word.EXIT || w == word.START || w == word.EXPIRES || w ==
-    word.DONE_BY || w == word.ROLES then 4
-    else (if w == word.PROGRAM_ACTIVITY || w == word.PROCESS_ACTIVITY || w == word.BLOCK || w == word.CONTROL || w ==
-    word.DATA then 3
-    else (if w == word.STRUCTURE || w == word.PERSON || w == word.PROCESS then 1
-    else 0))))
+abbrev pub word_tier : Keyword → ℕ
+word_tier word.And = 7
+word_tier word.Or = 6
+word_tier word.When = 4
+word_tier word.Otherwise = 4
+word_tier word.Exit = 4
+word_tier word.Start = 4
+word_tier word.Expires = 4
+word_tier word.DoneBy = 4
+word_tier word.Roles = 4
+word_tier word.ProgramActivity = 3
+word_tier word.ProcessActivity = 3
+word_tier word.Block = 3
+word_tier word.Control = 3
+word_tier word.Data = 3
+word_tier word.Structure = 1
+word_tier word.Person = 1
+word_tier word.Process = 1
+word_tier _ = 0
 
 -- how tightly a mark does
-abbrev pub mark_tier : ℕ → ℕ
-mark_tier m =
-    if m == mark.DOT || m == mark.OPEN_BRACKET then 9
-    else (if m == mark.PLUS || m == mark.MINUS then 8
-    else (if m == mark.COMMA then 5
-    else (if m == mark.OPEN then 1
-    else 0)))
+abbrev pub mark_tier : Sign → ℕ
+mark_tier mark.Dot = 9
+mark_tier mark.OpenBracket = 9
+mark_tier mark.Plus = 8
+mark_tier mark.Minus = 8
+mark_tier mark.Comma = 5
+mark_tier mark.Open = 1
+mark_tier _ = 0
 
 -- how tightly a token of this kind does
 abbrev pub kind_tier : What → ℕ

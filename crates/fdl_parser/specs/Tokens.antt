@@ -1,6 +1,9 @@
 -- The tokens as the grammar sees them, and the parts that one or two of them make.
 use Rattle.std.specs.Prelude.{◌≡◌, ℕ, List, [], ◌∷◌, ◌++◌, map, slice_range, Some, None, Option, length, min}
+use Rattle.flow_table.specs.declared.keyword.Keyword.{Keyword}
 use Rattle.fdl_lexer.specs.Bytes.{single_quoted, double_quoted}
+use Rattle.fdl_lexer.specs.declared.kinds.Mark.{Mark}
+use Rattle.fdl_lexer.specs.declared.kinds.Mark.TheVariants as mark
 use Rattle.fdl_lexer.specs.declared.kinds.Token.{Token}
 use Rattle.fdl_lexer.specs.declared.kinds.What.{What}
 use Rattle.fdl_lexer.specs.declared.kinds.What.TheVariants as what
@@ -9,7 +12,6 @@ use Rattle.flow_model.specs.declared.trees.NumberAt.{NumberAt}
 use Rattle.flow_model.specs.declared.trees.StepTree.{StepTree}
 use Rattle.flow_model.specs.declared.trees.StepTree.TheVariants as step
 use Rattle.flow_model.specs.declared.trees.LeafAt.{LeafAt}
-use Rattle.fdl_parser.specs.declared.cursor.mark.TheConstants as mark
 
 -- a token: what it is, where it begins, and its bytes
 pub record Spelled : Type 0 where
@@ -68,11 +70,11 @@ HasBytes kind bytes [] = ⊥
 HasBytes kind bytes (t ∷ ts) = (t.kind ≡ kind) × (t.bytes ≡ bytes)
 
 -- this word comes first
-abbrev pub IsWord : ℕ → ℕ → Tokens → Tokens → Type 0
+abbrev pub IsWord : Keyword → ℕ → Tokens → Tokens → Type 0
 IsWord word place before after = IsToken (what.Word word) place before after
 
 -- this mark comes first
-abbrev pub IsMark : ℕ → ℕ → Tokens → Tokens → Type 0
+abbrev pub IsMark : Mark → ℕ → Tokens → Tokens → Type 0
 IsMark mark place before after = IsToken (what.Mark mark) place before after
 
 -- this name comes first: what its quotes hold
@@ -100,7 +102,7 @@ pub record IsNumber (number : NumberAt) (before after : Tokens) : Type 0 where
 -- this number comes first, with a sign or without: [-] number
 pub data IsSigned : NumberAt → Tokens → Tokens → Type 0 where
   Unsigned : {n : NumberAt} {a b : Tokens} → IsNumber n a b → IsSigned n a b
-  Negative : {n : NumberAt} {p : ℕ} {a b c : Tokens} → IsMark mark.MINUS p a b → IsNumber n b c
+  Negative : {n : NumberAt} {p : ℕ} {a b c : Tokens} → IsMark mark.Minus p a b → IsNumber n b c
       → IsSigned (record { minus = Some p; size = n.size; place = n.place }) a c
 
 -- a leaf's first step, at this place: name | '_RC'
@@ -110,10 +112,10 @@ pub data IsFirstStep : StepTree → ℕ → Tokens → Tokens → Type 0 where
 
 -- a leaf's next step: . name | [ number ]
 pub data IsNextStep : StepTree → Tokens → Tokens → Type 0 where
-  MemberNext : {n : NameAt} {p : ℕ} {a b c : Tokens} → IsMark mark.DOT p a b → IsName n b c
+  MemberNext : {n : NameAt} {p : ℕ} {a b c : Tokens} → IsMark mark.Dot p a b → IsName n b c
       → IsNextStep (step.Member n.name) a c
-  PlaceNext : {n : NumberAt} {p q : ℕ} {a b c d : Tokens} → IsMark mark.OPEN_BRACKET p a b → IsNumber n b c
-      → IsMark mark.CLOSE_BRACKET q c d → IsNextStep (step.Place n.size) a d
+  PlaceNext : {n : NumberAt} {p q : ℕ} {a b c d : Tokens} → IsMark mark.OpenBracket p a b → IsNumber n b c
+      → IsMark mark.CloseBracket q c d → IsNextStep (step.Place n.size) a d
 
 -- a leaf: first step (next step)*
 pub data IsLeaf : LeafAt → Tokens → Tokens → Type 0 where

@@ -9,9 +9,10 @@ ghost use Rattle.fdl_parser.specs.Activities.{AreStructures, IsClosing, IsJoin, 
 ghost use Rattle.fdl_parser.specs.Activities.{AreCommonAttributes, IsDoneBy, IsStart, IsAttribute, AreAttributes};
 ghost use Rattle.fdl_parser.specs.Activities.{IsProgramActivity, IsProcessActivity, IsBlock, IsElement, AreElements};
 
-use crate::cursor::{Cursor, SyntaxFault, mark};
+use crate::cursor::{Cursor, SyntaxFault};
+use fdl_lexer::Mark;
 use flow_model::{ActivityTree, AttrAt, AttrTree, ElementTree, JoinTree, List, NameAt, WorkTree};
-use flow_table::keyword;
+use flow_table::Keyword;
 
 /// How many levels of BLOCK a text may have.
 pub(crate) const LEVELS: u32 = 64;
@@ -25,11 +26,11 @@ impl<'a> Cursor<'a> {
         ensures names { IfErr result (Names self.new) }
         ensures stops { IfErr result (Stops Anything Structures self.old.left self.new.left) }
     {
-        self.mark(mark::OPEN)?;
+        self.mark(Mark::Open)?;
         let input = self.name()?;
-        self.mark(mark::COMMA)?;
+        self.mark(Mark::Comma)?;
         let output = self.name()?;
-        self.mark(mark::CLOSE)?;
+        self.mark(Mark::Close)?;
         Ok((input, output))
     }
 
@@ -41,7 +42,7 @@ impl<'a> Cursor<'a> {
         ensures names { IfErr result (Names self.new) }
         ensures stops { IfErr result (Stops Anything (Reads IsClosing) self.old.left self.new.left) }
     {
-        self.word(keyword::END)?;
+        self.word(Keyword::End)?;
         let name = self.name()?;
         Ok(name)
     }
@@ -54,19 +55,19 @@ impl<'a> Cursor<'a> {
         ensures names { IfErr result (Names self.new) }
         ensures stops { IfErr result (Stops Anything (Reads IsJoin) self.old.left self.new.left) }
     {
-        if self.is_word(keyword::AT_LEAST_ONE) {
-            self.word(keyword::AT_LEAST_ONE)?;
-            self.word(keyword::CONNECTOR)?;
-            self.word(keyword::TRUE)?;
+        if self.is_word(Keyword::AtLeastOne) {
+            self.word(Keyword::AtLeastOne)?;
+            self.word(Keyword::Connector)?;
+            self.word(Keyword::True)?;
             return Ok(JoinTree::AtLeastOne);
         }
-        if self.is_word(keyword::AT_LEAST) {
-            self.word(keyword::AT_LEAST)?;
+        if self.is_word(Keyword::AtLeast) {
+            self.word(Keyword::AtLeast)?;
             let number = self.number()?;
             self.connectors_true()?;
             return Ok(JoinTree::AtLeast(number));
         }
-        self.word(keyword::ALL)?;
+        self.word(Keyword::All)?;
         self.connectors_true()?;
         Ok(JoinTree::All)
     }
@@ -78,8 +79,8 @@ impl<'a> Cursor<'a> {
         ensures names { IfErr result (Names self.new) }
         ensures stops { IfErr result (Stops Anything ConnectorsTrue self.old.left self.new.left) }
     {
-        self.word(keyword::CONNECTORS)?;
-        self.word(keyword::TRUE)?;
+        self.word(Keyword::Connectors)?;
+        self.word(Keyword::True)?;
         Ok(())
     }
 
@@ -88,7 +89,7 @@ impl<'a> Cursor<'a> {
         ensures yes { result ≡ true → OneComes common_kinds self.now.left }
         ensures no { result ≡ false → NoneComes common_kinds self.now.left }
     {
-        self.is_word(keyword::WHEN) || self.is_word(keyword::EXIT)
+        self.is_word(Keyword::When) || self.is_word(Keyword::Exit)
     }
 
     /// Takes a start condition or an exit condition.
@@ -99,14 +100,14 @@ impl<'a> Cursor<'a> {
         ensures names { IfErr result (Names self.new) }
         ensures stops { IfErr result (Stops Anything (Reads IsCommonAttribute) self.old.left self.new.left) }
     {
-        if self.is_word(keyword::WHEN) {
-            let place = self.word(keyword::WHEN)?;
+        if self.is_word(Keyword::When) {
+            let place = self.word(Keyword::When)?;
             let join = self.join()?;
             let what = AttrTree::When(join);
             return Ok(AttrAt { place, what });
         }
-        let place = self.word(keyword::EXIT)?;
-        self.word(keyword::WHEN)?;
+        let place = self.word(Keyword::Exit)?;
+        self.word(Keyword::When)?;
         let condition = self.condition()?;
         let what = AttrTree::Exit(condition);
         Ok(AttrAt { place, what })
@@ -135,22 +136,22 @@ impl<'a> Cursor<'a> {
         ensures names { IfErr result (Names self.new) }
         ensures stops { IfErr result (Stops Anything (Reads IsDoneBy) self.old.left self.new.left) }
     {
-        if self.is_word(keyword::ROLE) {
-            self.word(keyword::ROLE)?;
+        if self.is_word(Keyword::Role) {
+            self.word(Keyword::Role)?;
             let role = self.name()?;
             return Ok(AttrTree::Role(role));
         }
-        if self.is_word(keyword::PERSON) {
-            self.word(keyword::PERSON)?;
+        if self.is_word(Keyword::Person) {
+            self.word(Keyword::Person)?;
             let person = self.name()?;
             return Ok(AttrTree::Person(person));
         }
-        if self.is_word(keyword::STARTER) {
-            self.word(keyword::STARTER)?;
+        if self.is_word(Keyword::Starter) {
+            self.word(Keyword::Starter)?;
             return Ok(AttrTree::Starter);
         }
-        self.word(keyword::PERFORMER)?;
-        self.word(keyword::OF)?;
+        self.word(Keyword::Performer)?;
+        self.word(Keyword::Of)?;
         let performer = self.name()?;
         Ok(AttrTree::Performer(performer))
     }
@@ -163,11 +164,11 @@ impl<'a> Cursor<'a> {
         ensures names { IfErr result (Names self.new) }
         ensures stops { IfErr result (Stops Anything (Reads IsStart) self.old.left self.new.left) }
     {
-        if self.is_word(keyword::MANUAL) {
-            self.word(keyword::MANUAL)?;
+        if self.is_word(Keyword::Manual) {
+            self.word(Keyword::Manual)?;
             return Ok(AttrTree::Start(true));
         }
-        self.word(keyword::AUTOMATIC)?;
+        self.word(Keyword::Automatic)?;
         Ok(AttrTree::Start(false))
     }
 
@@ -176,11 +177,11 @@ impl<'a> Cursor<'a> {
         ensures yes { result ≡ true → OneComes attribute_kinds self.now.left }
         ensures no { result ≡ false → NoneComes attribute_kinds self.now.left }
     {
-        self.is_word(keyword::WHEN)
-            || self.is_word(keyword::EXIT)
-            || self.is_word(keyword::START)
-            || self.is_word(keyword::EXPIRES)
-            || self.is_word(keyword::DONE_BY)
+        self.is_word(Keyword::When)
+            || self.is_word(Keyword::Exit)
+            || self.is_word(Keyword::Start)
+            || self.is_word(Keyword::Expires)
+            || self.is_word(Keyword::DoneBy)
     }
 
     fn attribute(&mut self) -> Result<AttrAt, SyntaxFault>
@@ -194,18 +195,18 @@ impl<'a> Cursor<'a> {
             let attribute = self.common_attribute()?;
             return Ok(attribute);
         }
-        if self.is_word(keyword::START) {
-            let place = self.word(keyword::START)?;
+        if self.is_word(Keyword::Start) {
+            let place = self.word(Keyword::Start)?;
             let what = self.start()?;
             return Ok(AttrAt { place, what });
         }
-        if self.is_word(keyword::EXPIRES) {
-            let place = self.word(keyword::EXPIRES)?;
+        if self.is_word(Keyword::Expires) {
+            let place = self.word(Keyword::Expires)?;
             let number = self.number()?;
             let what = AttrTree::Expires(number);
             return Ok(AttrAt { place, what });
         }
-        let place = self.word(keyword::DONE_BY)?;
+        let place = self.word(Keyword::DoneBy)?;
         let what = self.done_by()?;
         Ok(AttrAt { place, what })
     }
@@ -232,7 +233,7 @@ impl<'a> Cursor<'a> {
         ensures names { IfErr result (Names self.new) }
         ensures stops { IfErr result (Stops Anything (Reads IsProgramActivity) self.old.left self.new.left) }
     {
-        let place = self.word(keyword::PROGRAM_ACTIVITY)?;
+        let place = self.word(Keyword::ProgramActivity)?;
         let name = self.name()?;
         let (input, output) = self.structures()?;
         let attrs = self.attributes()?;
@@ -255,10 +256,10 @@ impl<'a> Cursor<'a> {
         ensures names { IfErr result (Names self.new) }
         ensures stops { IfErr result (Stops Anything (Reads IsProcessActivity) self.old.left self.new.left) }
     {
-        let place = self.word(keyword::PROCESS_ACTIVITY)?;
+        let place = self.word(Keyword::ProcessActivity)?;
         let name = self.name()?;
         let (input, output) = self.structures()?;
-        self.word(keyword::PROCESS)?;
+        self.word(Keyword::Process)?;
         let process = self.name()?;
         let attrs = self.common_attributes()?;
         let end = self.closing()?;
@@ -286,7 +287,7 @@ impl<'a> Cursor<'a> {
         if levels == 0 {
             return Err(self.fault());
         }
-        let place = self.word(keyword::BLOCK)?;
+        let place = self.word(Keyword::Block)?;
         let name = self.name()?;
         let (input, output) = self.structures()?;
         let attrs = self.common_attributes()?;
@@ -308,11 +309,11 @@ impl<'a> Cursor<'a> {
         ensures yes { result ≡ true → OneComes element_kinds self.now.left }
         ensures no { result ≡ false → NoneComes element_kinds self.now.left }
     {
-        self.is_word(keyword::BLOCK)
-            || self.is_word(keyword::CONTROL)
-            || self.is_word(keyword::DATA)
-            || self.is_word(keyword::PROCESS_ACTIVITY)
-            || self.is_word(keyword::PROGRAM_ACTIVITY)
+        self.is_word(Keyword::Block)
+            || self.is_word(Keyword::Control)
+            || self.is_word(Keyword::Data)
+            || self.is_word(Keyword::ProcessActivity)
+            || self.is_word(Keyword::ProgramActivity)
     }
 
     #[cycle(elements)]
@@ -324,19 +325,19 @@ impl<'a> Cursor<'a> {
         ensures taken { IfOk result (λ _. IsTaken (Looser 4) (Reads (IsElement levels)) self.old.left self.new.left) }
         ensures stops { IfErr result (Stops (Looser 4) (Reads (IsElement levels)) self.old.left self.new.left) }
     {
-        if self.is_word(keyword::BLOCK) {
+        if self.is_word(Keyword::Block) {
             let block = self.block(levels)?;
             return Ok(ElementTree::Activity(block));
         }
-        if self.is_word(keyword::CONTROL) {
+        if self.is_word(Keyword::Control) {
             let control = self.control()?;
             return Ok(ElementTree::Control(control));
         }
-        if self.is_word(keyword::DATA) {
+        if self.is_word(Keyword::Data) {
             let line = self.data_line()?;
             return Ok(ElementTree::Line(line));
         }
-        if self.is_word(keyword::PROCESS_ACTIVITY) {
+        if self.is_word(Keyword::ProcessActivity) {
             let process = self.process_activity()?;
             return Ok(ElementTree::Activity(process));
         }

@@ -1,7 +1,7 @@
 //! Conditions.
 ghost use Rattle.std.specs.Prelude.{◌≡◌, ◌≢◌, ◌<◌, length, IfOk, IfErr, IfSome, Some, None, true, false, [], ◌∷◌};
 ghost use Rattle.flow_model.specs.declared.trees.Cond.TheVariants as form;
-ghost use Rattle.fdl_parser.specs.declared.cursor.mark.TheConstants as sign;
+ghost use Rattle.fdl_lexer.specs.declared.kinds.Mark.TheVariants as sign;
 ghost use Rattle.fdl_parser.specs.Faults.{Names};
 ghost use Rattle.fdl_parser.specs.Stops.{Reads, Anything, OneComes, NoneComes, IsTaken, Stops};
 ghost use Rattle.fdl_parser.specs.Tiers.{Looser};
@@ -9,10 +9,10 @@ ghost use Rattle.fdl_parser.specs.Tokens.{StaysWithin};
 ghost use Rattle.fdl_parser.specs.Conditions.{mark_of, IsOperand, IsNextTerm, IsSide, IsComparison, IsNegation};
 ghost use Rattle.fdl_parser.specs.Conditions.{IsConjunction, IsDisjunction, IsCondition};
 
-use crate::cursor::{Cursor, SyntaxFault, mark};
-use fdl_lexer::What;
+use crate::cursor::{Cursor, SyntaxFault};
+use fdl_lexer::{Mark, What};
 use flow_model::{Boxed, Cond, CondAt, List, OperandTree, Operator, Side, TermTree};
-use flow_table::keyword;
+use flow_table::Keyword;
 use std::alloc::Global;
 
 /// How many levels of NOT and parentheses a condition may have.
@@ -24,27 +24,27 @@ fn operator_of(what: Option<What>) -> Option<Operator>
     ensures none { result ≡ None → (operator : Operator) → what ≢ Some (What.Mark (mark_of operator)) }
 {
     match what {
-        Some(What::Mark(mark::EQUAL)) => Some(Operator::Eq),
-        Some(What::Mark(mark::NOT_EQUAL)) => Some(Operator::Ne),
-        Some(What::Mark(mark::LESS)) => Some(Operator::Lt),
-        Some(What::Mark(mark::AT_MOST)) => Some(Operator::Le),
-        Some(What::Mark(mark::GREATER)) => Some(Operator::Gt),
-        Some(What::Mark(mark::AT_LEAST)) => Some(Operator::Ge),
+        Some(What::Mark(Mark::Equal)) => Some(Operator::Eq),
+        Some(What::Mark(Mark::NotEqual)) => Some(Operator::Ne),
+        Some(What::Mark(Mark::Less)) => Some(Operator::Lt),
+        Some(What::Mark(Mark::AtMost)) => Some(Operator::Le),
+        Some(What::Mark(Mark::Greater)) => Some(Operator::Gt),
+        Some(What::Mark(Mark::AtLeast)) => Some(Operator::Ge),
         _ => None,
     }
 }
 
 /// The mark of a comparison.
-fn mark_of(operator: Operator) -> u8
+fn mark_of(operator: Operator) -> Mark
     ensures { result ≡ mark_of operator }
 {
     match operator {
-        Operator::Eq => mark::EQUAL,
-        Operator::Ne => mark::NOT_EQUAL,
-        Operator::Lt => mark::LESS,
-        Operator::Le => mark::AT_MOST,
-        Operator::Gt => mark::GREATER,
-        Operator::Ge => mark::AT_LEAST,
+        Operator::Eq => Mark::Equal,
+        Operator::Ne => Mark::NotEqual,
+        Operator::Lt => Mark::Less,
+        Operator::Le => Mark::AtMost,
+        Operator::Gt => Mark::Greater,
+        Operator::Ge => Mark::AtLeast,
     }
 }
 
@@ -82,15 +82,15 @@ impl<'a> Cursor<'a> {
         ensures taken { IfOk result (λ _. IsTaken (Looser 9) (Reads IsNextTerm) self.old.left self.new.left) }
         ensures stops { IfErr result (Stops (Looser 9) (Reads IsNextTerm) self.old.left self.new.left) }
     {
-        if self.is_mark(mark::MINUS) {
-            self.mark(mark::MINUS)?;
+        if self.is_mark(Mark::Minus) {
+            self.mark(Mark::Minus)?;
             let operand = self.operand()?;
             return Ok(TermTree {
                 minus: true,
                 operand,
             });
         }
-        self.mark(mark::PLUS)?;
+        self.mark(Mark::Plus)?;
         let operand = self.operand()?;
         Ok(TermTree {
             minus: false,
@@ -100,10 +100,10 @@ impl<'a> Cursor<'a> {
 
     /// Whether a further operand of a sum comes next.
     fn is_term_next(&self) -> bool
-        ensures yes { result ≡ true → OneComes (What.Mark sign.MINUS ∷ What.Mark sign.PLUS ∷ []) self.now.left }
-        ensures no { result ≡ false → NoneComes (What.Mark sign.MINUS ∷ What.Mark sign.PLUS ∷ []) self.now.left }
+        ensures yes { result ≡ true → OneComes (What.Mark sign.Minus ∷ What.Mark sign.Plus ∷ []) self.now.left }
+        ensures no { result ≡ false → NoneComes (What.Mark sign.Minus ∷ What.Mark sign.Plus ∷ []) self.now.left }
     {
-        self.is_mark(mark::MINUS) || self.is_mark(mark::PLUS)
+        self.is_mark(Mark::Minus) || self.is_mark(Mark::Plus)
     }
 
     fn side(&mut self) -> Result<Side, SyntaxFault>
@@ -157,8 +157,8 @@ impl<'a> Cursor<'a> {
         ensures taken { IfOk result (λ _. IsTaken (Looser 8) (Reads (IsNegation levels)) self.old.left self.new.left) }
         ensures stops { IfErr result (Stops (Looser 8) (Reads (IsNegation levels)) self.old.left self.new.left) }
     {
-        let denies = self.is_word(keyword::NOT);
-        if !denies && !self.is_mark(mark::OPEN) {
+        let denies = self.is_word(Keyword::Not);
+        if !denies && !self.is_mark(Mark::Open) {
             let comparison = self.comparison()?;
             return Ok(comparison);
         }
@@ -166,14 +166,14 @@ impl<'a> Cursor<'a> {
             return Err(self.fault());
         }
         if denies {
-            self.word(keyword::NOT)?;
+            self.word(Keyword::Not)?;
             let denied = self.negation(levels - 1)?;
             let denial = not_of(self.alloc(), denied)?;
             return Ok(denial);
         }
-        self.mark(mark::OPEN)?;
+        self.mark(Mark::Open)?;
         let inner = self.disjunction(levels - 1)?;
-        self.mark(mark::CLOSE)?;
+        self.mark(Mark::Close)?;
         Ok(inner)
     }
 
@@ -188,15 +188,15 @@ impl<'a> Cursor<'a> {
         ensures stops { IfErr result (Stops (Looser 7) (Reads (IsConjunction levels)) self.old.left self.new.left) }
     {
         let first = self.negation(levels)?;
-        if !self.is_word(keyword::AND) {
+        if !self.is_word(Keyword::And) {
             return Ok(first);
         }
         let mut members = List::new(self.alloc());
         members.push(first)?;
-        self.word(keyword::AND)?;
+        self.word(Keyword::And)?;
         members.push(self.negation(levels)?)?;
-        while self.is_word(keyword::AND) {
-            self.word(keyword::AND)?;
+        while self.is_word(Keyword::And) {
+            self.word(Keyword::And)?;
             members.push(self.negation(levels)?)?;
         }
         Ok(Cond::And(members))
@@ -213,15 +213,15 @@ impl<'a> Cursor<'a> {
         ensures stops { IfErr result (Stops (Looser 6) (Reads (IsDisjunction levels)) self.old.left self.new.left) }
     {
         let first = self.conjunction(levels)?;
-        if !self.is_word(keyword::OR) {
+        if !self.is_word(Keyword::Or) {
             return Ok(first);
         }
         let mut members = List::new(self.alloc());
         members.push(first)?;
-        self.word(keyword::OR)?;
+        self.word(Keyword::Or)?;
         members.push(self.conjunction(levels)?)?;
-        while self.is_word(keyword::OR) {
-            self.word(keyword::OR)?;
+        while self.is_word(Keyword::Or) {
+            self.word(Keyword::Or)?;
             members.push(self.conjunction(levels)?)?;
         }
         Ok(Cond::Or(members))
@@ -235,9 +235,9 @@ impl<'a> Cursor<'a> {
         ensures names { IfErr result (Names self.new) }
         ensures stops { IfErr result (Stops Anything (Reads IsCondition) self.old.left self.new.left) }
     {
-        let place = self.mark(mark::OPEN)?;
+        let place = self.mark(Mark::Open)?;
         let cond = self.disjunction(LEVELS)?;
-        self.mark(mark::CLOSE)?;
+        self.mark(Mark::Close)?;
         Ok(CondAt { place, cond })
     }
 }

@@ -8,46 +8,12 @@ ghost use Rattle.fdl_parser.specs.Stops.{Reads, Anything, Quotes, FirstSteps, St
 ghost use Rattle.fdl_parser.specs.Tokens.{reading, StaysWithin, first_kind, HasBytes, IsToken, IsName, IsQuote};
 ghost use Rattle.fdl_parser.specs.Tokens.{IsItemToken, IsNumber, IsSigned, IsFirstStep, IsNextStep, IsLeaf};
 
-use fdl_lexer::{Token, What, text_value};
+use fdl_lexer::{Mark, Token, What, text_value};
 use flow_model::{Bytes, LeafAt, List, Name, NameAt, NameFault, NumberAt, StepTree, Txt};
+use flow_table::Keyword;
 use std::alloc::{AllocError, Global};
 use std::marker::Model;
 use thiserror::Error;
-
-/// The numbers of the marks, from 1 in the order in which the lexer counts them.
-pub mod mark {
-    pub const OPEN: u8 = 1;
-
-    pub const CLOSE: u8 = 2;
-
-    pub const COMMA: u8 = 3;
-
-    pub const SEMICOLON: u8 = 4;
-
-    pub const COLON: u8 = 5;
-
-    pub const DOT: u8 = 6;
-
-    pub const OPEN_BRACKET: u8 = 7;
-
-    pub const CLOSE_BRACKET: u8 = 8;
-
-    pub const EQUAL: u8 = 9;
-
-    pub const NOT_EQUAL: u8 = 10;
-
-    pub const LESS: u8 = 11;
-
-    pub const AT_MOST: u8 = 12;
-
-    pub const GREATER: u8 = 13;
-
-    pub const AT_LEAST: u8 = 14;
-
-    pub const PLUS: u8 = 15;
-
-    pub const MINUS: u8 = 16;
-}
 
 /// Why tokens have no tree.
 #[derive(Clone, Copy, Debug, PartialEq, Eq, Drop, Error)]
@@ -142,13 +108,13 @@ impl<'a> Cursor<'a> {
         ensures no { result ≡ false → first_kind self.now.left ≢ Some what }
     {
         match self.left {
-            [token, ..] => token.what == what,
+            [token, ..] => is_same(token.what, what),
             [] => false,
         }
     }
 
     /// Whether the next token is this word.
-    pub fn is_word(&self, word: u8) -> bool
+    pub fn is_word(&self, word: Keyword) -> bool
         ensures yes { result ≡ true → first_kind self.now.left ≡ Some (What.Word word) }
         ensures no { result ≡ false → first_kind self.now.left ≢ Some (What.Word word) }
     {
@@ -156,7 +122,7 @@ impl<'a> Cursor<'a> {
     }
 
     /// Whether the next token is this mark.
-    pub fn is_mark(&self, mark: u8) -> bool
+    pub fn is_mark(&self, mark: Mark) -> bool
         ensures yes { result ≡ true → first_kind self.now.left ≡ Some (What.Mark mark) }
         ensures no { result ≡ false → first_kind self.now.left ≢ Some (What.Mark mark) }
     {
@@ -172,7 +138,7 @@ impl<'a> Cursor<'a> {
             × (first_kind self.old.left ≢ Some what)) }
     {
         match self.left {
-            [token, rest @ ..] if token.what == what => {
+            [token, rest @ ..] if is_same(token.what, what) => {
                 self.left = rest;
                 Ok(token.from)
             }
@@ -181,7 +147,7 @@ impl<'a> Cursor<'a> {
     }
 
     /// Takes the next token, if it is this word; gives its place.
-    pub fn word(&mut self, word: u8) -> Result<u32, SyntaxFault>
+    pub fn word(&mut self, word: Keyword) -> Result<u32, SyntaxFault>
         ensures shorter { IfOk result (λ _. length self.new.left < length self.old.left) }
         ensures within { StaysWithin self.old self.new }
         ensures read { IfOk result (λ place. IsToken (What.Word word) place self.old.left self.new.left) }
@@ -192,7 +158,7 @@ impl<'a> Cursor<'a> {
     }
 
     /// Takes the next token, if it is this mark; gives its place.
-    pub fn mark(&mut self, mark: u8) -> Result<u32, SyntaxFault>
+    pub fn mark(&mut self, mark: Mark) -> Result<u32, SyntaxFault>
         ensures shorter { IfOk result (λ _. length self.new.left < length self.old.left) }
         ensures within { StaysWithin self.old self.new }
         ensures read { IfOk result (λ place. IsToken (What.Mark mark) place self.old.left self.new.left) }
@@ -209,7 +175,7 @@ impl<'a> Cursor<'a> {
         ensures other { IfErr result (λ _. first_kind self.now.left ≢ Some what) }
     {
         match self.left {
-            [token, ..] if token.what == what => {
+            [token, ..] if is_same(token.what, what) => {
                 Ok(bytes_between(self.text, token.from as usize, token.to as usize))
             }
             _ => Err(self.fault()),
@@ -306,11 +272,11 @@ impl<'a> Cursor<'a> {
         ensures names { IfErr result (Names self.new) }
         ensures stops { IfErr result (Stops Anything (Reads IsSigned) self.old.left self.new.left) }
     {
-        if !self.is_mark(mark::MINUS) {
+        if !self.is_mark(Mark::Minus) {
             let unsigned = self.number()?;
             return Ok(unsigned);
         }
-        let minus = self.mark(mark::MINUS)?;
+        let minus = self.mark(Mark::Minus)?;
         let number = self.number()?;
         Ok(NumberAt {
             minus: Some(minus),
@@ -343,14 +309,14 @@ impl<'a> Cursor<'a> {
         ensures names { IfErr result (Names self.new) }
         ensures stops { IfErr result (Stops Anything (Reads IsNextStep) self.old.left self.new.left) }
     {
-        if self.is_mark(mark::DOT) {
-            self.mark(mark::DOT)?;
+        if self.is_mark(Mark::Dot) {
+            self.mark(Mark::Dot)?;
             let member = self.name()?;
             return Ok(StepTree::Member(member.name));
         }
-        self.mark(mark::OPEN_BRACKET)?;
+        self.mark(Mark::OpenBracket)?;
         let number = self.number()?;
-        self.mark(mark::CLOSE_BRACKET)?;
+        self.mark(Mark::CloseBracket)?;
         Ok(StepTree::Place(number.size))
     }
 
@@ -359,7 +325,7 @@ impl<'a> Cursor<'a> {
         ensures yes { result ≡ true → StepComes self.now.left }
         ensures no { result ≡ false → NoStep self.now.left }
     {
-        self.is_mark(mark::DOT) || self.is_mark(mark::OPEN_BRACKET)
+        self.is_mark(Mark::Dot) || self.is_mark(Mark::OpenBracket)
     }
 
     /// Takes a leaf.
@@ -379,6 +345,14 @@ impl<'a> Cursor<'a> {
         }
         Ok(LeafAt { steps, place })
     }
+}
+
+/// Whether a token is this one.
+fn is_same(token: What, what: What) -> bool
+    ensures yes { result ≡ true → token ≡ what }
+    ensures no { result ≡ false → token ≢ what }
+{
+    token == what
 }
 
 /// What a token counts, if it is a number.

@@ -10,12 +10,12 @@ ghost use Rattle.fdl_parser.specs.Items.{IsKind, IsCount, IsMember, IsStructure,
 ghost use Rattle.fdl_parser.specs.Items.{IsTree};
 
 use crate::activities::LEVELS;
-use crate::cursor::{Cursor, SyntaxFault, mark};
-use fdl_lexer::{Tokens, What};
+use crate::cursor::{Cursor, SyntaxFault};
+use fdl_lexer::{Mark, Tokens, What};
 use flow_model::{
     ItemTree, KindTree, List, Member, NameAt, NumberAt, PersonTree, ProcessTree, StructDef, Tree,
 };
-use flow_table::keyword;
+use flow_table::Keyword;
 use std::alloc::Global;
 
 impl<'a> Cursor<'a> {
@@ -26,12 +26,12 @@ impl<'a> Cursor<'a> {
         ensures names { IfErr result (Names self.new) }
         ensures stops { IfErr result (Stops Anything (Reads IsKind) self.old.left self.new.left) }
     {
-        if self.is_word(keyword::LONG) {
-            self.word(keyword::LONG)?;
+        if self.is_word(Keyword::Long) {
+            self.word(Keyword::Long)?;
             return Ok(KindTree::Long);
         }
-        if self.is_word(keyword::STRING) {
-            self.word(keyword::STRING)?;
+        if self.is_word(Keyword::String) {
+            self.word(Keyword::String)?;
             return Ok(KindTree::Str);
         }
         let name = self.name()?;
@@ -47,12 +47,12 @@ impl<'a> Cursor<'a> {
         ensures taken { IfOk result (λ _. IsTaken (Looser 1) (Reads IsCount) self.old.left self.new.left) }
         ensures stops { IfErr result (Stops (Looser 1) (Reads IsCount) self.old.left self.new.left) }
     {
-        if !self.is_mark(mark::OPEN) {
+        if !self.is_mark(Mark::Open) {
             return Ok(None);
         }
-        self.mark(mark::OPEN)?;
+        self.mark(Mark::Open)?;
         let count = self.number()?;
-        self.mark(mark::CLOSE)?;
+        self.mark(Mark::Close)?;
         Ok(Some(count))
     }
 
@@ -64,10 +64,10 @@ impl<'a> Cursor<'a> {
         ensures stops { IfErr result (Stops Anything (Reads IsMember) self.old.left self.new.left) }
     {
         let name = self.name()?;
-        self.mark(mark::COLON)?;
+        self.mark(Mark::Colon)?;
         let kind = self.kind()?;
         let count = self.count()?;
-        self.mark(mark::SEMICOLON)?;
+        self.mark(Mark::Semicolon)?;
         Ok(Member { name, kind, count })
     }
 
@@ -78,7 +78,7 @@ impl<'a> Cursor<'a> {
         ensures names { IfErr result (Names self.new) }
         ensures stops { IfErr result (Stops Anything (Reads IsStructure) self.old.left self.new.left) }
     {
-        self.word(keyword::STRUCTURE)?;
+        self.word(Keyword::Structure)?;
         let name = self.name()?;
         let mut members = List::new(self.alloc());
         while self.is_next(What::Name) {
@@ -98,14 +98,14 @@ impl<'a> Cursor<'a> {
         ensures stops { IfErr result (Stops (Looser 4) (Reads AreRoles) self.old.left self.new.left) }
     {
         let mut roles = List::new(self.alloc());
-        if !self.is_word(keyword::ROLES) {
+        if !self.is_word(Keyword::Roles) {
             return Ok(roles);
         }
-        self.word(keyword::ROLES)?;
+        self.word(Keyword::Roles)?;
         let first = self.name()?;
         roles.push(first)?;
-        while self.is_mark(mark::COMMA) {
-            self.mark(mark::COMMA)?;
+        while self.is_mark(Mark::Comma) {
+            self.mark(Mark::Comma)?;
             let next = self.name()?;
             roles.push(next)?;
         }
@@ -119,7 +119,7 @@ impl<'a> Cursor<'a> {
         ensures names { IfErr result (Names self.new) }
         ensures stops { IfErr result (Stops Anything (Reads IsPerson) self.old.left self.new.left) }
     {
-        self.word(keyword::PERSON)?;
+        self.word(Keyword::Person)?;
         let name = self.name()?;
         let roles = self.roles()?;
         let end = self.closing()?;
@@ -133,7 +133,7 @@ impl<'a> Cursor<'a> {
         ensures names { IfErr result (Names self.new) }
         ensures stops { IfErr result (Stops Anything (Reads IsProcess) self.old.left self.new.left) }
     {
-        let place = self.word(keyword::PROCESS)?;
+        let place = self.word(Keyword::Process)?;
         let name = self.name()?;
         let (input, output) = self.structures()?;
         let elements = self.elements(LEVELS)?;
@@ -155,11 +155,11 @@ impl<'a> Cursor<'a> {
         ensures names { IfErr result (Names self.new) }
         ensures stops { IfErr result (Stops Anything (Reads IsItem) self.old.left self.new.left) }
     {
-        if self.is_word(keyword::STRUCTURE) {
+        if self.is_word(Keyword::Structure) {
             let structure = self.structure()?;
             return Ok(ItemTree::Structure(structure));
         }
-        if self.is_word(keyword::PERSON) {
+        if self.is_word(Keyword::Person) {
             let person = self.person()?;
             return Ok(ItemTree::Person(person));
         }

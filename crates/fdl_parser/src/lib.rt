@@ -13,6 +13,6 @@ mod items;
 mod laws;
 mod lines;
 
-pub use cursor::{Cursor, SyntaxFault, mark};
+pub use cursor::{Cursor, SyntaxFault};
 pub use items::parse;
 pub use laws::trees_are_one;

@@ -6,9 +6,10 @@ ghost use Rattle.fdl_parser.specs.Tiers.{Looser};
 ghost use Rattle.fdl_parser.specs.Tokens.{StaysWithin};
 ghost use Rattle.fdl_parser.specs.Lines.{IsTransition, IsControl, IsEnd, AreEnds, IsMap, AreMaps, IsDataLine};
 
-use crate::cursor::{Cursor, SyntaxFault, mark};
+use crate::cursor::{Cursor, SyntaxFault};
+use fdl_lexer::Mark;
 use flow_model::{ControlTree, DataTree, EndTree, EndsTree, List, MapTree, WhenTree};
-use flow_table::keyword;
+use flow_table::Keyword;
 
 impl<'a> Cursor<'a> {
     /// Takes the transition condition of a connector, if one stands there.
@@ -20,12 +21,12 @@ impl<'a> Cursor<'a> {
         ensures taken { IfOk result (λ _. IsTaken (Looser 4) (Reads IsTransition) self.old.left self.new.left) }
         ensures stops { IfErr result (Stops (Looser 4) (Reads IsTransition) self.old.left self.new.left) }
     {
-        if self.is_word(keyword::OTHERWISE) {
-            self.word(keyword::OTHERWISE)?;
+        if self.is_word(Keyword::Otherwise) {
+            self.word(Keyword::Otherwise)?;
             return Ok(WhenTree::Otherwise);
         }
-        if self.is_word(keyword::WHEN) {
-            self.word(keyword::WHEN)?;
+        if self.is_word(Keyword::When) {
+            self.word(Keyword::When)?;
             let cond = self.condition()?;
             return Ok(WhenTree::Cond(cond));
         }
@@ -40,10 +41,10 @@ impl<'a> Cursor<'a> {
         ensures taken { IfOk result (λ _. IsTaken (Looser 4) (Reads IsControl) self.old.left self.new.left) }
         ensures stops { IfErr result (Stops (Looser 4) (Reads IsControl) self.old.left self.new.left) }
     {
-        let place = self.word(keyword::CONTROL)?;
-        self.word(keyword::FROM)?;
+        let place = self.word(Keyword::Control)?;
+        self.word(Keyword::From)?;
         let from = self.name()?;
-        self.word(keyword::TO)?;
+        self.word(Keyword::To)?;
         let to = self.name()?;
         let when = self.transition()?;
         Ok(ControlTree {
@@ -55,7 +56,7 @@ impl<'a> Cursor<'a> {
     }
 
     /// Takes an activity's name, or the word for the scope's own container.
-    fn end(&mut self, border: u8) -> Result<EndTree, SyntaxFault>
+    fn end(&mut self, border: Keyword) -> Result<EndTree, SyntaxFault>
         ensures shorter { IfOk result (λ _. length self.new.left < length self.old.left) }
         ensures within { StaysWithin self.old self.new }
         ensures read { IfOk result (λ end. IsEnd border end self.old.left self.new.left) }
@@ -78,15 +79,15 @@ impl<'a> Cursor<'a> {
         ensures names { IfErr result (Names self.new) }
         ensures stops { IfErr result (Stops Anything (Reads AreEnds) self.old.left self.new.left) }
     {
-        if self.is_word(keyword::LOOP) {
-            self.word(keyword::LOOP)?;
+        if self.is_word(Keyword::Loop) {
+            self.word(Keyword::Loop)?;
             let name = self.name()?;
             return Ok(EndsTree::Loop(name));
         }
-        self.word(keyword::FROM)?;
-        let from = self.end(keyword::SOURCE)?;
-        self.word(keyword::TO)?;
-        let to = self.end(keyword::SINK)?;
+        self.word(Keyword::From)?;
+        let from = self.end(Keyword::Source)?;
+        self.word(Keyword::To)?;
+        let to = self.end(Keyword::Sink)?;
         Ok(EndsTree::Line(from, to))
     }
 
@@ -99,7 +100,7 @@ impl<'a> Cursor<'a> {
         ensures stops { IfErr result (Stops (Looser 9) (Reads IsMap) self.old.left self.new.left) }
     {
         let from = self.leaf()?;
-        self.word(keyword::TO)?;
+        self.word(Keyword::To)?;
         let to = self.leaf()?;
         Ok(MapTree { from, to })
     }
@@ -112,12 +113,12 @@ impl<'a> Cursor<'a> {
         ensures taken { IfOk result (λ _. IsTaken (Looser 5) (Reads AreMaps) self.old.left self.new.left) }
         ensures stops { IfErr result (Stops (Looser 5) (Reads AreMaps) self.old.left self.new.left) }
     {
-        self.word(keyword::MAP)?;
+        self.word(Keyword::Map)?;
         let mut maps = List::new(self.alloc());
         let first = self.map()?;
         maps.push(first)?;
-        while self.is_mark(mark::COMMA) {
-            self.mark(mark::COMMA)?;
+        while self.is_mark(Mark::Comma) {
+            self.mark(Mark::Comma)?;
             let next = self.map()?;
             maps.push(next)?;
         }
@@ -132,7 +133,7 @@ impl<'a> Cursor<'a> {
         ensures taken { IfOk result (λ _. IsTaken (Looser 5) (Reads IsDataLine) self.old.left self.new.left) }
         ensures stops { IfErr result (Stops (Looser 5) (Reads IsDataLine) self.old.left self.new.left) }
     {
-        let place = self.word(keyword::DATA)?;
+        let place = self.word(Keyword::Data)?;
         let ends = self.ends()?;
         let maps = self.maps()?;
         Ok(DataTree { place, ends, maps })

@@ -6,7 +6,7 @@ use Rattle.flow_model.specs.declared.trees.WorkTree.{WorkTree, Program, Process,
 use Rattle.flow_model.specs.declared.trees.WorkTree.TheVariants.{rolls-Program, rolls-Process, rolls-Block}
 use Rattle.flow_model.specs.declared.trees.ElementTree.TheOpen.{ElementTree-F, WorkTree-F}
 use Rattle.flow_model.specs.declared.trees.ElementTree.TheFolds.{fold-roll-ElementTree, fold-roll-WorkTree, fold_out-ActivityTree}
-use Rattle.flow_table.specs.declared.keyword.TheConstants as keyword
+use Rattle.flow_table.specs.declared.keyword.Keyword.TheVariants as keyword
 use Rattle.flow_model.specs.declared.trees.ElementTree.TheVariants.{rolls-Activity, rolls-Control, rolls-Line}
 use Rattle.flow_model.specs.declared.trees.ActivityTree.{ActivityTree}
 use Rattle.flow_model.specs.declared.trees.ControlTree.{ControlTree}
@@ -24,20 +24,20 @@ inside_block elements =
     ∙ shown_first (λ ps. ps) element_pieces elements
 
 -- what each kind of activity does
-pub worked_program : worked Program ≡ record { opening = keyword.PROGRAM_ACTIVITY; called = []; inside = [] }
+pub worked_program : worked Program ≡ record { opening = keyword.ProgramActivity; called = []; inside = [] }
 worked_program = ap (λ (w : WorkTree). worked w) (sym rolls-Program) ∙ fold-roll-WorkTree (List Piece) Worked (List Piece) element_by worked_by activity_by WorkTree-F.Program
 
-pub worked_process : (process : NameAt) → worked (Process process) ≡ record { opening = keyword.PROCESS_ACTIVITY; called = word keyword.PROCESS ∷ name process.name ∷ []; inside = [] }
+pub worked_process : (process : NameAt) → worked (Process process) ≡ record { opening = keyword.ProcessActivity; called = word keyword.Process ∷ name process.name ∷ []; inside = [] }
 worked_process process = ap (λ (w : WorkTree). worked w) (sym (rolls-Process process)) ∙ fold-roll-WorkTree (List Piece) Worked (List Piece) element_by worked_by activity_by (WorkTree-F.Process process)
 
-pub worked_block : (elements : List ElementTree) → worked (Block elements) ≡ record { opening = keyword.BLOCK; called = []; inside = flat_map element_pieces elements }
+pub worked_block : (elements : List ElementTree) → worked (Block elements) ≡ record { opening = keyword.Block; called = []; inside = flat_map element_pieces elements }
 worked_block elements =
     ap (λ (w : WorkTree). worked w) (sym (rolls-Block elements))
     ∙ fold-roll-WorkTree (List Piece) Worked (List Piece) element_by worked_by activity_by (WorkTree-F.Block elements)
     ∙ ap block_of (shown_first (λ ps. ps) element_pieces elements)
   where
     block_of : List Piece → Worked
-    block_of ps = record { opening = keyword.BLOCK; called = []; inside = ps }
+    block_of ps = record { opening = keyword.Block; called = []; inside = ps }
 
 -- the lines of an element
 pub element_activity : (a : ActivityTree) → element_pieces (Activity a) ≡ activity_pieces a

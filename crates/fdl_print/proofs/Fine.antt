@@ -1,5 +1,5 @@
 -- Bytes that spell a token wherever a blank, a line feed or the end stands behind them.
-use Rattle.std.proofs.Common.{◌≡◌, ◌≢◌, ℕ, zero, suc, ◌-◌, ◌^◌, ◌<◌, ◌≤◌, ◌==◌, ◌&&◌, min, Bool, true, false, List, [], ◌∷◌, ◌++◌, length, take, slice_index, Some, None, Option, unwrap_or, codes, decimal, refl, sym, ap, ◌∙◌, subst, arith, append-nil, eqb, eqb-true, if◌then◌else◌}
+use Rattle.std.proofs.Common.{◌≡◌, ◌≢◌, ℕ, zero, suc, ◌-◌, ◌^◌, ◌<◌, ◌&&◌, min, Bool, true, false, List, [], ◌∷◌, ◌++◌, length, take, slice_index, Some, codes, decimal, refl, sym, ap, ◌∙◌, arith, append-nil, eqb, if◌then◌else◌}
 use Rattle.std.specs.List.{prefix_len, list_all}
 use Rattle.std.specs.Char.{is_ascii_digit, is_ascii_alphabetic}
 use Rattle.std.specs.Str.Parse.{digits_value, AllDigits}
@@ -9,17 +9,19 @@ use Rattle.std.proofs.lemmas.Bool.Decides.{nat_tests}
 use Rattle.std.proofs.lemmas.Grind.{common_steps}
 use Rattle.std.proofs.lemmas.Str.Parse.{digit_from_value}
 use Rattle.std.proofs.lemmas.Fmt.{decimal_is_IsNumeral, decimal_digit, first_decimal}
-use Rattle.flow_table.specs.Lookup.{code_in, word_in}
-use Rattle.flow_table.specs.Rows.{keyword_rows}
+use Rattle.flow_table.specs.Spelling.{keyword_spelling}
+use Rattle.flow_table.specs.declared.keyword.Keyword.{Keyword}
+use Rattle.flow_table.specs.declared.keyword.Keyword.TheVariants as keywords
 use Rattle.flow_model.specs.Words.{is_name, is_name_byte, is_text, is_text_byte}
 use Rattle.fdl_lexer.specs.Bytes.{is_allowed, is_run_byte, single_quoted, double_quoted, doubled}
 use Rattle.fdl_lexer.specs.Tokens.{Spells, AreFirst, mark_of}
+use Rattle.fdl_lexer.specs.declared.kinds.Mark.{Mark as Sign}
 use Rattle.fdl_lexer.specs.declared.kinds.What.{What}
 use Rattle.fdl_lexer.specs.declared.kinds.What.TheVariants.{Word, Name, Rc, Number, Text, Mark}
 use Rattle.fdl_lexer.proofs.Quotes.{run_ends, name_parts}
 use Rattle.flow_model.specs.declared.graphs.Operator.{Operator}
 use Rattle.flow_model.specs.declared.graphs.Operator.TheVariants.{Eq, Ne, Lt, Le, Gt, Ge}
-use Rattle.fdl_parser.specs.declared.cursor.mark.TheConstants as mark
+use Rattle.fdl_lexer.specs.declared.kinds.Mark.TheVariants as mark
 use Rattle.fdl_parser.specs.Conditions.{mark_of as mark_of_operator}
 use Rattle.fdl_print.specs.Pieces.{sign_text}
 use Rattle.fdl_print.specs.Parts.{operator_mark}
@@ -53,7 +55,7 @@ all_more p q more (x ∷ xs) all =
 
 -- ---- marks
 
-pub one_byte : (m b : ℕ) → mark_of b 0 ≡ Some (m, 1) → mark_of b 32 ≡ Some (m, 1) → mark_of b 10 ≡ Some (m, 1) → is_allowed b ≡ true → IsFine (Mark m) (b ∷ [])
+pub one_byte : (m : Sign) (b : ℕ) → mark_of b 0 ≡ Some (m, 1) → mark_of b 32 ≡ Some (m, 1) → mark_of b 10 ≡ Some (m, 1) → is_allowed b ≡ true → IsFine (Mark m) (b ∷ [])
 one_byte m b nothing blank feed allowed = record { some = omega arith; allowed = rw allowed refl; spelled = spelled }
   where
     spelled : (rest : List ℕ) → Ends rest → Spells (Mark m) 1 (b ∷ [] ++ rest)
@@ -61,47 +63,47 @@ one_byte m b nothing blank feed allowed = record { some = omega arith; allowed =
     spelled _ AtBlank = blank
     spelled _ AtFeed = feed
 
-pub two_bytes : (m b c : ℕ) → mark_of b c ≡ Some (m, 2) → is_allowed b ≡ true → is_allowed c ≡ true → IsFine (Mark m) (b ∷ c ∷ [])
+pub two_bytes : (m : Sign) (b c : ℕ) → mark_of b c ≡ Some (m, 2) → is_allowed b ≡ true → is_allowed c ≡ true → IsFine (Mark m) (b ∷ c ∷ [])
 two_bytes m b c is first second = record { some = omega arith; allowed = rw (first, second) refl; spelled = λ rest ends. is }
 
-pub fine_open : IsFine (Mark mark.OPEN) (sign_text mark.OPEN)
-fine_open = one_byte 1 40 refl refl refl refl
+pub fine_open : IsFine (Mark mark.Open) (sign_text mark.Open)
+fine_open = one_byte mark.Open 40 refl refl refl refl
 
-pub fine_close : IsFine (Mark mark.CLOSE) (sign_text mark.CLOSE)
-fine_close = one_byte 2 41 refl refl refl refl
+pub fine_close : IsFine (Mark mark.Close) (sign_text mark.Close)
+fine_close = one_byte mark.Close 41 refl refl refl refl
 
-pub fine_comma : IsFine (Mark mark.COMMA) (sign_text mark.COMMA)
-fine_comma = one_byte 3 44 refl refl refl refl
+pub fine_comma : IsFine (Mark mark.Comma) (sign_text mark.Comma)
+fine_comma = one_byte mark.Comma 44 refl refl refl refl
 
-pub fine_semicolon : IsFine (Mark mark.SEMICOLON) (sign_text mark.SEMICOLON)
-fine_semicolon = one_byte 4 59 refl refl refl refl
+pub fine_semicolon : IsFine (Mark mark.Semicolon) (sign_text mark.Semicolon)
+fine_semicolon = one_byte mark.Semicolon 59 refl refl refl refl
 
-pub fine_colon : IsFine (Mark mark.COLON) (sign_text mark.COLON)
-fine_colon = one_byte 5 58 refl refl refl refl
+pub fine_colon : IsFine (Mark mark.Colon) (sign_text mark.Colon)
+fine_colon = one_byte mark.Colon 58 refl refl refl refl
 
-pub fine_dot : IsFine (Mark mark.DOT) (sign_text mark.DOT)
-fine_dot = one_byte 6 46 refl refl refl refl
+pub fine_dot : IsFine (Mark mark.Dot) (sign_text mark.Dot)
+fine_dot = one_byte mark.Dot 46 refl refl refl refl
 
-pub fine_open_bracket : IsFine (Mark mark.OPEN_BRACKET) (sign_text mark.OPEN_BRACKET)
-fine_open_bracket = one_byte 7 91 refl refl refl refl
+pub fine_open_bracket : IsFine (Mark mark.OpenBracket) (sign_text mark.OpenBracket)
+fine_open_bracket = one_byte mark.OpenBracket 91 refl refl refl refl
 
-pub fine_close_bracket : IsFine (Mark mark.CLOSE_BRACKET) (sign_text mark.CLOSE_BRACKET)
-fine_close_bracket = one_byte 8 93 refl refl refl refl
+pub fine_close_bracket : IsFine (Mark mark.CloseBracket) (sign_text mark.CloseBracket)
+fine_close_bracket = one_byte mark.CloseBracket 93 refl refl refl refl
 
-pub fine_plus : IsFine (Mark mark.PLUS) (sign_text mark.PLUS)
-fine_plus = one_byte 15 43 refl refl refl refl
+pub fine_plus : IsFine (Mark mark.Plus) (sign_text mark.Plus)
+fine_plus = one_byte mark.Plus 43 refl refl refl refl
 
-pub fine_minus : IsFine (Mark mark.MINUS) (sign_text mark.MINUS)
-fine_minus = one_byte 16 45 refl refl refl refl
+pub fine_minus : IsFine (Mark mark.Minus) (sign_text mark.Minus)
+fine_minus = one_byte mark.Minus 45 refl refl refl refl
 
 -- the mark of a comparison
 pub fine_operator : (o : Operator) → IsFine (Mark (mark_of_operator o)) (sign_text (operator_mark o))
-fine_operator Eq = one_byte 9 61 refl refl refl refl
-fine_operator Ne = two_bytes 10 60 62 refl refl refl
-fine_operator Lt = one_byte 11 60 refl refl refl refl
-fine_operator Le = two_bytes 12 60 61 refl refl refl
-fine_operator Gt = one_byte 13 62 refl refl refl refl
-fine_operator Ge = two_bytes 14 62 61 refl refl refl
+fine_operator Eq = one_byte mark.Equal 61 refl refl refl refl
+fine_operator Ne = two_bytes mark.NotEqual 60 62 refl refl refl
+fine_operator Lt = one_byte mark.Less 60 refl refl refl refl
+fine_operator Le = two_bytes mark.AtMost 60 61 refl refl refl
+fine_operator Gt = one_byte mark.Greater 62 refl refl refl refl
+fine_operator Ge = two_bytes mark.AtLeast 62 61 refl refl refl
 
 -- ---- runs
 
@@ -121,60 +123,33 @@ first_of (b ∷ bytes) rest some = refl
 
 -- ---- keywords
 
--- how a keyword is written
-abbrev pub word_text : ℕ → List ℕ
-word_text code = unwrap_or (word_in keyword_rows code) []
+-- a keyword begins with a letter, and letters, digits and low lines follow
+abbrev is_good : Keyword → Bool
+is_good keyword = is_ascii_alphabetic (slice_index (keyword_spelling keyword) 0) && list_all is_run_byte (keyword_spelling keyword)
 
-abbrev is_same : Option ℕ → ℕ → Bool
-is_same None c = false
-is_same (Some d) c = d == c
-
--- the keyword of a code is written as a keyword is, and has this code
-abbrev is_good : ℕ → Bool
-is_good code = is_ascii_alphabetic (slice_index (word_text code) 0) && (list_all is_run_byte (word_text code) && is_same (code_in keyword_rows (word_text code)) code)
-
-abbrev good_below : ℕ → Bool
-good_below zero = true
-good_below (suc n) = is_good (suc n) && good_below n
-
-all_good : good_below 66 ≡ true
-unfolding keyword_rows
-all_good = refl
-
-one_good : (n code : ℕ) → good_below n ≡ true → 1 ≤ code → code ≤ n → is_good code ≡ true
-one_good zero code all some le = absurd (omega arith)
-one_good (suc n) code all some le =
-    let two = both_true (is_good (suc n)) (good_below n) all in
-    elim (eqb code (suc n)) as (λ b. eqb code (suc n) ≡ b → is_good code ≡ true) [
-      | true ↦ λ e. subst (λ (k : ℕ). is_good k ≡ true) (sym (eqb-true code (suc n) e)) two.0
-      | false ↦ λ e. one_good n code two.1 some (grind (arith, nat_tests))
-    ] refl
+all_good : (keyword : Keyword) → is_good keyword ≡ true
+all_good keywords.Structure = refl
+all_good _ = refl
 
 run_allowed : (b : ℕ) → is_run_byte b ≡ true → is_allowed b ≡ true
 run_allowed b e = grind (arith, nat_tests)
-
-same_code : (found : Option ℕ) (code : ℕ) → is_same found code ≡ true → found ≡ Some code
-same_code None code e = cc
-same_code (Some d) code e = ap Some (eqb-true d code e)
 
 letter_some : (bytes : List ℕ) → is_ascii_alphabetic (slice_index bytes 0) ≡ true → 0 < length bytes
 letter_some [] e = cc
 letter_some (b ∷ bytes) e = omega arith
 
 -- a keyword
-pub fine_word : (code : ℕ) → 1 ≤ code → code ≤ 66 → IsFine (Word code) (word_text code)
-fine_word code some le =
-    let good = one_good 66 code all_good some le in
-    let one = both_true _ _ good in
-    let two = both_true _ _ one.1 in
-    let bytes = letter_some (word_text code) one.0 in
+pub fine_word : (keyword : Keyword) → IsFine (Word keyword) (keyword_spelling keyword)
+fine_word keyword =
+    let good = both_true _ _ (all_good keyword) in
+    let bytes = letter_some (keyword_spelling keyword) good.0 in
     record {
       some = bytes;
-      allowed = all_more is_run_byte is_allowed run_allowed (word_text code) two.0;
+      allowed = all_more is_run_byte is_allowed run_allowed (keyword_spelling keyword) good.1;
       spelled = λ rest ends. (
-        ap is_ascii_alphabetic (first_of (word_text code) rest bytes) ∙ one.0,
-        sym (run_is is_run_byte (word_text code) rest two.0 refl refl ends),
-        ap (code_in keyword_rows) (first_is (word_text code) rest).0 ∙ same_code (code_in keyword_rows (word_text code)) code two.1,
+        ap is_ascii_alphabetic (first_of (keyword_spelling keyword) rest bytes) ∙ good.0,
+        sym (run_is is_run_byte (keyword_spelling keyword) rest good.1 refl refl ends),
+        (first_is (keyword_spelling keyword) rest).0,
       );
     }
 

@@ -1,6 +1,7 @@
 -- Trees that are the same but for places have the same pieces.
-use Rattle.std.proofs.Common.{◌≡◌, ℕ, false, List, ◌∷◌, ◌++◌, Option, map, refl, sym, ap, ◌∙◌, flat_map}
-use Rattle.flow_table.specs.declared.keyword.TheConstants as keyword
+use Rattle.std.proofs.Common.{◌≡◌, false, List, ◌∷◌, ◌++◌, Option, map, refl, sym, ap, ◌∙◌, flat_map}
+use Rattle.flow_table.specs.declared.keyword.Keyword.{Keyword}
+use Rattle.flow_table.specs.declared.keyword.Keyword.TheVariants as keyword
 use Rattle.flow_model.specs.declared.trees.NameAt.{NameAt}
 use Rattle.flow_model.specs.declared.trees.NumberAt.{NumberAt}
 use Rattle.flow_model.specs.declared.trees.OperandTree.{OperandTree}
@@ -78,17 +79,17 @@ condition_same x y s = ap (λ (w : Shown). in_parentheses w.bare) (cond_same s)
 when_same : (x y : WhenTree) → SameWhen x y → when_pieces x ≡ when_pieces y
 when_same x y TwoAlways = refl
 when_same x y TwoOtherwise = refl
-when_same x y (TwoWhen {x = u} {y = v} h) = ap (λ (ps : List Piece). word keyword.WHEN ∷ ps) (condition_same u v h)
+when_same x y (TwoWhen {x = u} {y = v} h) = ap (λ (ps : List Piece). word keyword.When ∷ ps) (condition_same u v h)
 
 control_same : (x y : ControlTree) → SameControl x y → control_pieces x ≡ control_pieces y
 control_same x y s = rw (s.from, s.to, when_same x.when y.when s.when) refl
 
-end_same : (x y : EndTree) (border : ℕ) → SameEnd x y → end_piece x border ≡ end_piece y border
+end_same : (x y : EndTree) (border : Keyword) → SameEnd x y → end_piece x border ≡ end_piece y border
 end_same x y border TwoBorders = refl
 end_same x y border (TwoActivities h) = ap name h
 
 ends_same : (x y : EndsTree) → SameEnds x y → ends_pieces x ≡ ends_pieces y
-ends_same x y (TwoLines {from = from} {to = to} {out = out} {into = into} h j) = rw (end_same from out keyword.SOURCE h, end_same to into keyword.SINK j) refl
+ends_same x y (TwoLines {from = from} {to = to} {out = out} {into = into} h j) = rw (end_same from out keyword.Source h, end_same to into keyword.Sink j) refl
 ends_same x y (TwoLoops h) = rw h refl
 
 map_same : (x y : MapTree) → SameMap x y → map_pieces x ≡ map_pieces y

@@ -1,13 +1,13 @@
 -- What a part of the grammar shows: wherever the tokens of its pieces come, the part is read again.
-use Rattle.std.proofs.Common.{◌≡◌, ℕ, ◌-◌, ◌^◌, ◌<◌, ◌≤◌, ◌&&◌, leb, Bool, true, false, is_some, Some, None, List, [], ◌∷◌, ◌++◌, length, take, drop, eqb, refl, sym, ap, ◌∙◌, subst, arith, append-nil, length-append, flat_map, if◌then◌else◌}
+use Rattle.std.proofs.Common.{◌≡◌, ℕ, ◌-◌, ◌^◌, ◌<◌, true, false, is_some, Some, None, List, [], ◌∷◌, ◌++◌, length, take, drop, eqb, refl, sym, ap, ◌∙◌, subst, arith, append-nil, length-append, flat_map, if◌then◌else◌}
 use Rattle.std.proofs.lemmas.List.{take_at, flat_map_more}
-use Rattle.std.proofs.lemmas.Bool.Decides.{nat_tests}
 use Rattle.flow_model.specs.Words.{is_name, is_text}
 use Rattle.flow_model.specs.declared.trees.NameAt.{NameAt}
 use Rattle.flow_model.specs.declared.trees.NumberAt.{NumberAt}
 use Rattle.flow_model.specs.declared.trees.StepTree.{StepTree}
 use Rattle.flow_model.specs.declared.trees.StepTree.TheVariants as step
 use Rattle.flow_model.specs.declared.trees.LeafAt.{LeafAt}
+use Rattle.flow_table.specs.declared.keyword.Keyword.{Keyword}
 use Rattle.flow_text.specs.Spelling.{text_in_quotes, doubled as doubled_text}
 use Rattle.fdl_lexer.specs.Bytes.{single_quoted, double_quoted, doubled}
 use Rattle.fdl_lexer.specs.Tokens.{Spells, Scans, AreTokens}
@@ -177,14 +177,8 @@ token_shows {kind} {bytes} fine h = record {
   };
 }
 
-abbrev is_code : ℕ → Bool
-is_code code = leb 1 code && leb code 66
-
-code_bounds : (code : ℕ) → is_code code ≡ true → (1 ≤ code) × (code ≤ 66)
-code_bounds code e = (grind (arith, nat_tests), grind (arith, nat_tests))
-
-pub word_shows : {code p : ℕ} {a b : Tokens} → is_code code ≡ true → IsToken (Word code) p a b → Shows (word code ∷ []) (TokenAt (Word code)) a b
-word_shows {code} known h = let e = code_bounds code known in token_shows (fine_word code e.0 e.1) h
+pub word_shows : {keyword : Keyword} {p : ℕ} {a b : Tokens} → IsToken (Word keyword) p a b → Shows (word keyword ∷ []) (TokenAt (Word keyword)) a b
+word_shows {keyword} h = token_shows (fine_word keyword) h
 
 -- ---- names, texts, numbers
 

@@ -1,6 +1,6 @@
 -- A condition's pieces are read again as that condition: parentheses that are left out aren't missed.
 use Rattle.std.proofs.Common.{◌≡◌, ℕ, zero, suc, ◌-◌, ◌<◌, ◌≤◌, true, false, List, [], ◌∷◌, ◌++◌, length, map, refl, sym, ap, ◌∙◌, subst, arith, append-nil, length-append}
-use Rattle.flow_table.specs.declared.keyword.TheConstants as keyword
+use Rattle.flow_table.specs.declared.keyword.Keyword.TheVariants as keyword
 use Rattle.flow_model.specs.declared.graphs.Operator.{Operator}
 use Rattle.flow_model.specs.declared.trees.OperandTree.{OperandTree}
 use Rattle.flow_model.specs.declared.trees.OperandTree.TheVariants as operand
@@ -14,7 +14,7 @@ use Rattle.flow_model.specs.declared.trees.Cond.TheOpen.{Cond-F}
 use Rattle.flow_model.specs.declared.trees.Cond.TheFolds.{fold-roll-Cond}
 use Rattle.flow_model.specs.declared.trees.CondAt.{CondAt}
 use Rattle.fdl_lexer.specs.declared.kinds.What.TheVariants.{Mark}
-use Rattle.fdl_parser.specs.declared.cursor.mark.TheConstants as mark
+use Rattle.fdl_lexer.specs.declared.kinds.Mark.TheVariants as mark
 use Rattle.fdl_parser.specs.Tokens.{Tokens, IsToken}
 use Rattle.fdl_parser.specs.Conditions.{condition_levels, IsOperand, LeafOperand, NumberOperand, IsNextTerm, PlusTerm, MinusTerm, IsSum, FirstTerm, MoreTerms, IsSide, TextSide, SumSide, IsComparison, Compared, IsNegation, Comparison, Denied, Bracketed, AreConjoined, TwoNegations, MoreNegations, IsConjunction, OneNegation, Negations, AreDisjoined, TwoConjunctions, MoreConjunctions, IsDisjunction, OneConjunction, Conjunctions, IsCondition, Whole}
 use Rattle.fdl_print.specs.Pieces.{Piece, word, sign}
@@ -63,7 +63,7 @@ shown_and xs = ap (λ (c : Cond). shown c) (sym (rolls-And xs)) ∙ fold-roll-Co
 pub shown_or : (xs : List Cond) → shown (cond.Or xs) ≡ record { form = AnOr; bare = or_pieces (map shown xs) }
 shown_or xs = ap (λ (c : Cond). shown c) (sym (rolls-Or xs)) ∙ fold-roll-Cond Showing shown_by (Cond-F.Or xs)
 
-pub shown_not : (x : Cond) → shown (cond.Not x) ≡ record { form = Other; bare = word keyword.NOT ∷ in_and (shown x) }
+pub shown_not : (x : Cond) → shown (cond.Not x) ≡ record { form = Other; bare = word keyword.Not ∷ in_and (shown x) }
 shown_not x = ap (λ (c : Cond). shown c) (sym (rolls-Not x)) ∙ fold-roll-Cond Showing shown_by (Cond-F.Not x)
 
 and_or : (s : Showing) → s.form ≡ AnOr → in_and s ≡ in_parentheses s.bare
@@ -131,7 +131,7 @@ comparison_shows (Compared {l = l} {r = r} {o = o} h j k) =
     (chain (side_shows h) (chain (token_shows (fine_operator o) j) (side_shows k))))
 
 -- the same pieces, with an opening mark before the tokens that were read, and a closing one behind
-around : {p q : ℕ} {ps : List Piece} {F : Tokens → Tokens → Type 0} {a b c d : Tokens} → IsToken (Mark mark.OPEN) p a b → IsToken (Mark mark.CLOSE) q c d → Shows ps F b c → Shows ps F a d
+around : {p q : ℕ} {ps : List Piece} {F : Tokens → Tokens → Type 0} {a b c d : Tokens} → IsToken (Mark mark.Open) p a b → IsToken (Mark mark.Close) q c d → Shows ps F b c → Shows ps F a d
 around o e f = record { shown = λ s. let x = f.shown (behind_sound o s) in record { said = x.said; says = x.says; reads = x.reads; rest = behind_sound e x.rest } }
 
 conds_push : {xs ys : List Cond} {x y : Cond} → SameConds xs ys → SameCond x y → SameConds (xs ++ x ∷ []) (ys ++ y ∷ [])
@@ -149,11 +149,11 @@ unfolding later_and
 conjoined_shows one m le (TwoNegations {x = x} {y = y} h w j) =
     by (ap (λ (ps : List Piece). in_and (shown x) ++ ps) (sym (append-nil (later_and (shown y)))))
     (so (λ u v t. record { tree = t.first.tree ∷ t.second.second.tree ∷ []; is = TwoNegations t.first.is t.second.first.is t.second.second.is; same = MoreConds t.first.same (MoreConds t.second.second.same NoConds) })
-    (chain ((one _ _ _ h).member m le) (chain (word_shows refl w) ((one _ _ _ j).member m le))))
+    (chain ((one _ _ _ h).member m le) (chain (word_shows w) ((one _ _ _ j).member m le))))
 conjoined_shows one m le (MoreNegations {xs = xs} {x = x} h w j) =
     by (more_later (λ z. in_and (shown z)) (λ z. later_and (shown z)) (λ zs. and_pieces (map shown zs)) (λ z zs. ap (λ (ps : List Piece). in_and (shown z) ++ ps) (shown_first later_and shown zs)) xs x (conjoined_some h))
     (so (λ u v t. record { tree = t.first.tree ++ t.second.second.tree ∷ []; is = MoreNegations t.first.is t.second.first.is t.second.second.is; same = conds_push t.first.same t.second.second.same })
-    (chain (conjoined_shows one m le h) (chain (word_shows refl w) ((one _ _ _ j).member m le))))
+    (chain (conjoined_shows one m le h) (chain (word_shows w) ((one _ _ _ j).member m le))))
 
 one_member : {n : ℕ} {x : Cond} {a b : Tokens} → NegationLevels n x a b → (f : Form) → (shown x).form ≡ f → (m : ℕ) → n ≤ m → Shows (in_or (shown x)) (Again Cond SameCond (IsConjunction m) x) a b
 one_member {x = x} q AnOr e m le = by (and_or (shown x) e ∙ sym (or_or (shown x) e)) (as_conjunction (q.member m le))
@@ -187,11 +187,11 @@ unfolding later_or
 disjoined_shows one m le (TwoConjunctions {x = x} {y = y} h w j) =
     by (ap (λ (ps : List Piece). in_or (shown x) ++ ps) (sym (append-nil (later_or (shown y)))))
     (so (λ u v t. record { tree = t.first.tree ∷ t.second.second.tree ∷ []; is = TwoConjunctions t.first.is t.second.first.is t.second.second.is; same = MoreConds t.first.same (MoreConds t.second.second.same NoConds) })
-    (chain ((conjunction_levels one h).member m le) (chain (word_shows refl w) ((conjunction_levels one j).member m le))))
+    (chain ((conjunction_levels one h).member m le) (chain (word_shows w) ((conjunction_levels one j).member m le))))
 disjoined_shows one m le (MoreConjunctions {xs = xs} {x = x} h w j) =
     by (more_later (λ z. in_or (shown z)) (λ z. later_or (shown z)) (λ zs. or_pieces (map shown zs)) (λ z zs. ap (λ (ps : List Piece). in_or (shown z) ++ ps) (shown_first later_or shown zs)) xs x (disjoined_some h))
     (so (λ u v t. record { tree = t.first.tree ++ t.second.second.tree ∷ []; is = MoreConjunctions t.first.is t.second.first.is t.second.second.is; same = conds_push t.first.same t.second.second.same })
-    (chain (disjoined_shows one m le h) (chain (word_shows refl w) ((conjunction_levels one j).member m le))))
+    (chain (disjoined_shows one m le h) (chain (word_shows w) ((conjunction_levels one j).member m le))))
 
 disjunction_levels : {n : ℕ} {x : Cond} {a b : Tokens} → HasNegations n → IsDisjunction n x a b → Levels n x a b
 disjunction_levels one (OneConjunction h) = (conjunction_levels one h).levels
@@ -206,7 +206,7 @@ disjunction_levels {n} one (Conjunctions {xs = xs} {a = a} {b = b} h) =
 
 -- ---- NOT and parentheses
 
-bracket_member : {n p q : ℕ} {x : Cond} {a b c d : Tokens} → 0 < n → IsToken (Mark mark.OPEN) p a b → IsToken (Mark mark.CLOSE) q c d → Levels (n - 1) x b c → (f : Form) → (shown x).form ≡ f → (m : ℕ) → n ≤ m → Shows (in_and (shown x)) (Again Cond SameCond (IsNegation m) x) a d
+bracket_member : {n p q : ℕ} {x : Cond} {a b c d : Tokens} → 0 < n → IsToken (Mark mark.Open) p a b → IsToken (Mark mark.Close) q c d → Levels (n - 1) x b c → (f : Form) → (shown x).form ≡ f → (m : ℕ) → n ≤ m → Shows (in_and (shown x)) (Again Cond SameCond (IsNegation m) x) a d
 bracket_member {n} {p} {q} {x} {a} {b} {c} {d} lt o w l f e m le = by_form f e
   where
     enclosed : Shows (in_parentheses (shown x).bare) (Again Cond SameCond (IsNegation m) x) a d
@@ -218,7 +218,7 @@ bracket_member {n} {p} {q} {x} {a} {b} {c} {d} lt o w l f e m le = by_form f e
     by_form AnAnd is = by (sym (and_and (shown x) is)) enclosed
     by_form Other is = by (sym (and_other (shown x) is)) (around o w (l.negation is m (omega arith)))
 
-bracket_levels : {n p q : ℕ} {x : Cond} {a b c d : Tokens} → IsToken (Mark mark.OPEN) p a b → IsToken (Mark mark.CLOSE) q c d → Levels (n - 1) x b c → Levels n x a d
+bracket_levels : {n p q : ℕ} {x : Cond} {a b c d : Tokens} → IsToken (Mark mark.Open) p a b → IsToken (Mark mark.Close) q c d → Levels (n - 1) x b c → Levels n x a d
 bracket_levels o w l = record {
   whole = λ m le. around o w (l.whole m (omega arith));
   conjunction = λ no m le. around o w (l.conjunction no m (omega arith));
@@ -232,7 +232,7 @@ negation_step n rec y a d (Denied {x = x} lt w h) =
     let q = rec (n - 1) e _ _ _ h in
     other_levels (shown_not x) (λ m le.
     so (λ u v t. record { tree = cond.Not t.second.tree; is = Denied (omega arith) t.first.is t.second.is; same = TwoDenials t.second.same })
-    (chain (word_shows refl w) (q.member (m - 1) (omega arith))))
+    (chain (word_shows w) (q.member (m - 1) (omega arith))))
 negation_step n rec x a d (Bracketed lt o h w) =
     let e : n ≡ suc (n - 1) = omega (arith, lt) in
     let l = disjunction_levels (rec (n - 1) e) h in

@@ -27,8 +27,8 @@ use Rattle.fdl_print.proofs.ShowsElements.{closing_shows, heading_shows, element
 -- ---- structures
 
 kind_shows : {k : KindTree} {a b : Tokens} → IsKind k a b → Shows (kind_piece k ∷ []) (Again KindTree SameKind IsKind k) a b
-kind_shows (LongKind h) = so (λ u v t. record { tree = kind.Long; is = LongKind t.is; same = TwoLong }) (word_shows refl h)
-kind_shows (StringKind h) = so (λ u v t. record { tree = kind.Str; is = StringKind t.is; same = TwoString }) (word_shows refl h)
+kind_shows (LongKind h) = so (λ u v t. record { tree = kind.Long; is = LongKind t.is; same = TwoLong }) (word_shows h)
+kind_shows (StringKind h) = so (λ u v t. record { tree = kind.Str; is = StringKind t.is; same = TwoString }) (word_shows h)
 kind_shows (StructKind h) = so (λ u v t. record { tree = kind.Struct t.tree; is = StructKind t.is; same = TwoStructs t.same }) (name_shows h)
 
 count_shows : {x : Option NumberAt} {a b : Tokens} → IsCount x a b → Shows (count_pieces x) (Again (Option NumberAt) SameCount IsCount x) a b
@@ -56,7 +56,7 @@ structure_shows (OneStructure h1 h2 h3 h4) =
       tree = record { name = t.second.first.tree; members = t.second.second.first.tree; end = t.second.second.second.tree };
       is = OneStructure t.first.is t.second.first.is t.second.second.first.is t.second.second.second.is;
       same = record { name = t.second.first.same; members = t.second.second.first.same; end = t.second.second.second.same };
-    }) (chain (word_shows refl h1) (chain (line (name_shows h2)) (chain (members_shows h3) (closing_shows h4))))
+    }) (chain (word_shows h1) (chain (line (name_shows h2)) (chain (members_shows h3) (closing_shows h4))))
 
 -- ---- persons
 
@@ -66,7 +66,7 @@ named_some (NextRole {ns = ns} {n = n} h j k) = omega (arith, length-append ns (
 
 named_shows : {ns : List NameAt} {a b : Tokens} → AreNamed ns a b → Shows (roles_pieces ns) (Again (List NameAt) (Each NameAt SameName) AreNamed ns) a b
 unfolding first_role later_role
-named_shows (FirstRole h j) = so (λ u v t. record { tree = t.second.tree ∷ []; is = FirstRole t.first.is t.second.is; same = OneMore t.second.same NoneLeft }) (chain (word_shows refl h) (name_shows j))
+named_shows (FirstRole h j) = so (λ u v t. record { tree = t.second.tree ∷ []; is = FirstRole t.first.is t.second.is; same = OneMore t.second.same NoneLeft }) (chain (word_shows h) (name_shows j))
 named_shows (NextRole {ns = ns} {n = n} h j k) =
     by (more_later first_role later_role roles_pieces (λ x xs. refl) ns n (named_some h))
     (so (λ u v t. record { tree = t.first.tree ++ t.second.second.tree ∷ []; is = NextRole t.first.is t.second.first.is t.second.second.is; same = each_push t.first.same t.second.second.same })
@@ -82,7 +82,7 @@ person_shows (OnePerson h1 h2 h3 h4) =
       tree = record { name = t.second.first.tree; roles = t.second.second.first.tree; end = t.second.second.second.tree };
       is = OnePerson t.first.is t.second.first.is t.second.second.first.is t.second.second.second.is;
       same = record { name = t.second.first.same; roles = t.second.second.first.same; end = t.second.second.second.same };
-    }) (chain (word_shows refl h1) (chain (name_shows h2) (chain (roles_shows h3) (stop_first (closing_shows h4)))))
+    }) (chain (word_shows h1) (chain (name_shows h2) (chain (roles_shows h3) (stop_first (closing_shows h4)))))
 
 -- ---- processes and items
 
@@ -92,7 +92,7 @@ process_shows (OneProcess h1 h2 h3 h4 h5) =
       tree = record { place = t.first.place; name = t.second.first.first.tree; input = t.second.first.second.first; output = t.second.first.second.second; elements = t.second.second.first.tree; end = t.second.second.second.tree };
       is = OneProcess t.first.is t.second.first.first.is t.second.first.second.are t.second.second.first.is t.second.second.second.is;
       same = record { name = t.second.first.first.same; input = t.second.first.second.same_input; output = t.second.first.second.same_output; elements = t.second.second.first.same; end = t.second.second.second.same };
-    }) (chain (word_shows refl h1) (chain (heading_shows h2 h3) (chain (stop_first (elements_show block_levels _ _ _ h4)) (closing_shows h5))))
+    }) (chain (word_shows h1) (chain (heading_shows h2 h3) (chain (stop_first (elements_show block_levels _ _ _ h4)) (closing_shows h5))))
 
 item_shows : {x : ItemTree} {a b : Tokens} → IsItem x a b → Shows (item_pieces x) (Again ItemTree SameItem IsItem x) a b
 unfolding item_pieces

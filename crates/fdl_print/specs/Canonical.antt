@@ -1,7 +1,8 @@
 -- The canonical text of a tree: its tokens in the order of the grammar, laid out in lines.
 use Rattle.std.specs.Prelude.{ℕ, false, List, [], ◌∷◌, ◌++◌}
 use Rattle.std.specs.List.{flat_map}
-use Rattle.flow_table.specs.declared.keyword.TheConstants as keyword
+use Rattle.flow_table.specs.declared.keyword.Keyword.{Keyword}
+use Rattle.flow_table.specs.declared.keyword.Keyword.TheVariants as keyword
 use Rattle.flow_model.specs.declared.trees.ElementTree.{ElementTree}
 use Rattle.flow_model.specs.declared.trees.WorkTree.{WorkTree}
 use Rattle.flow_model.specs.declared.trees.ActivityTree.{ActivityTree}
@@ -15,23 +16,23 @@ use Rattle.fdl_print.specs.Pieces.{Piece, Stop, word, name, text}
 use Rattle.fdl_print.specs.Elements.{closing_pieces, heading_pieces, attr_line, control_pieces, data_pieces}
 use Rattle.fdl_print.specs.Elements.{structure_pieces, person_pieces}
 
--- what an activity does: the code of its first word, the process that it calls, and the elements of its block
+-- what an activity does: its first word, the process that it calls, and the elements of its block
 pub record Worked : Type 0 where
-  pub opening : ℕ
+  pub opening : Keyword
   pub called : List Piece
   pub inside : List Piece
 
 -- what an activity does, from the tokens of the elements inside
 abbrev pub worked_by : WorkTree-F (List Piece) Worked (List Piece) → Worked
-worked_by WorkTree-F.Program = record { opening = keyword.PROGRAM_ACTIVITY; called = []; inside = [] }
+worked_by WorkTree-F.Program = record { opening = keyword.ProgramActivity; called = []; inside = [] }
 worked_by (WorkTree-F.Process process) = record {
-  opening = keyword.PROCESS_ACTIVITY;
+  opening = keyword.ProcessActivity;
   called =
-      word keyword.PROCESS ∷ name process.name ∷ [];
+      word keyword.Process ∷ name process.name ∷ [];
   inside = [];
 }
 worked_by (WorkTree-F.Block elements) = record {
-  opening = keyword.BLOCK;
+  opening = keyword.Block;
   called = [];
   inside = flat_map
       (λ pieces. pieces) elements;
@@ -70,7 +71,7 @@ activity_pieces a =
 
 -- the lines of a process
 abbrev pub process_pieces : ProcessTree → List Piece
-process_pieces p = word keyword.PROCESS ∷ heading_pieces p.name p.input p.output
+process_pieces p = word keyword.Process ∷ heading_pieces p.name p.input p.output
     ++ Stop ∷ flat_map element_pieces p.elements ++ closing_pieces p.end
 
 -- the lines of an item

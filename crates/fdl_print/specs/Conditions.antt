@@ -2,8 +2,8 @@
 -- AND, and round an OR that is a member of an OR.
 use Rattle.std.specs.Prelude.{List, [], ◌∷◌, ◌++◌}
 use Rattle.std.specs.List.{flat_map}
-use Rattle.fdl_parser.specs.declared.cursor.mark.TheConstants as mark
-use Rattle.flow_table.specs.declared.keyword.TheConstants as keyword
+use Rattle.fdl_lexer.specs.declared.kinds.Mark.TheVariants as mark
+use Rattle.flow_table.specs.declared.keyword.Keyword.TheVariants as keyword
 use Rattle.flow_model.specs.declared.trees.Cond.{Cond}
 use Rattle.flow_model.specs.declared.trees.Cond.TheOpen.{Cond-F}
 use Rattle.flow_model.specs.declared.trees.Cond.TheFolds.{fold-Cond}
@@ -24,7 +24,7 @@ pub record Shown : Type 0 where
 
 -- tokens between parentheses
 abbrev pub in_parentheses : List Piece → List Piece
-in_parentheses pieces = sign mark.OPEN ∷ pieces ++ sign mark.CLOSE ∷ []
+in_parentheses pieces = sign mark.Open ∷ pieces ++ sign mark.Close ∷ []
 
 -- as a member of an OR
 abbrev pub in_or : Shown → List Piece
@@ -46,11 +46,11 @@ in_and shown = by_form shown.form
 
 -- a later member of an OR
 unfoldable pub later_or : Shown → List Piece
-later_or member = word keyword.OR ∷ in_or member
+later_or member = word keyword.Or ∷ in_or member
 
 -- a later member of an AND
 unfoldable pub later_and : Shown → List Piece
-later_and member = word keyword.AND ∷ in_and member
+later_and member = word keyword.And ∷ in_and member
 
 -- members with OR between two of them
 abbrev pub or_pieces : List Shown → List Piece
@@ -66,7 +66,7 @@ and_pieces (first ∷ later) = in_and first ++ flat_map later_and later
 abbrev pub shown_by : Cond-F Shown → Shown
 shown_by (Cond-F.Or members) = record { form = AnOr; bare = or_pieces members }
 shown_by (Cond-F.And members) = record { form = AnAnd; bare = and_pieces members }
-shown_by (Cond-F.Not member) = record { form = Other; bare = word keyword.NOT ∷ in_and member }
+shown_by (Cond-F.Not member) = record { form = Other; bare = word keyword.Not ∷ in_and member }
 shown_by (Cond-F.Compare left operator right) =
     record { form = Other; bare = side_pieces left ++ sign (operator_mark operator) ∷ side_pieces right }
 

@@ -1,7 +1,8 @@
 -- The tokens of the parts that have no parts of their own kind: numbers, leaves, sums, headings, lines.
-use Rattle.std.specs.Prelude.{ℕ, if◌then◌else◌, is_some, List, [], ◌∷◌, ◌++◌, codes}
+use Rattle.std.specs.Prelude.{if◌then◌else◌, is_some, List, [], ◌∷◌, ◌++◌, codes}
 use Rattle.std.specs.List.{flat_map}
-use Rattle.fdl_parser.specs.declared.cursor.mark.TheConstants as mark
+use Rattle.fdl_lexer.specs.declared.kinds.Mark.{Mark}
+use Rattle.fdl_lexer.specs.declared.kinds.Mark.TheVariants as mark
 use Rattle.flow_model.specs.declared.graphs.Operator.{Operator}
 use Rattle.flow_model.specs.declared.graphs.Operator.TheVariants as operator
 use Rattle.flow_model.specs.declared.trees.NumberAt.{NumberAt}
@@ -17,7 +18,7 @@ use Rattle.fdl_print.specs.Pieces.{Piece, Token, sign, name, quoted, digits}
 
 -- a number behind its `-`, if it has one
 abbrev pub number_pieces : NumberAt → List Piece
-number_pieces n = if is_some n.minus then sign mark.MINUS ∷ digits n.size ∷ [] else digits n.size ∷ []
+number_pieces n = if is_some n.minus then sign mark.Minus ∷ digits n.size ∷ [] else digits n.size ∷ []
 
 -- ---- leaves
 
@@ -25,13 +26,13 @@ number_pieces n = if is_some n.minus then sign mark.MINUS ∷ digits n.size ∷ 
 abbrev pub first_step : StepTree → List Piece
 first_step (step.Member member) = name member ∷ []
 first_step step.Rc = Token (codes "'_RC'") ∷ []
-first_step (step.Place place) = sign mark.OPEN_BRACKET ∷ digits place ∷ sign mark.CLOSE_BRACKET ∷ []
+first_step (step.Place place) = sign mark.OpenBracket ∷ digits place ∷ sign mark.CloseBracket ∷ []
 
 -- a later step: a member has a dot before it
 abbrev pub later_step : StepTree → List Piece
-later_step (step.Member member) = sign mark.DOT ∷ name member ∷ []
+later_step (step.Member member) = sign mark.Dot ∷ name member ∷ []
 later_step step.Rc = Token (codes "'_RC'") ∷ []
-later_step (step.Place place) = sign mark.OPEN_BRACKET ∷ digits place ∷ sign mark.CLOSE_BRACKET ∷ []
+later_step (step.Place place) = sign mark.OpenBracket ∷ digits place ∷ sign mark.CloseBracket ∷ []
 
 -- the steps of a leaf, one behind the other
 abbrev pub steps_pieces : List StepTree → List Piece
@@ -45,13 +46,13 @@ leaf_pieces leaf = steps_pieces leaf.steps
 -- ---- comparisons
 
 -- the mark of a comparison
-abbrev pub operator_mark : Operator → ℕ
-operator_mark operator.Eq = mark.EQUAL
-operator_mark operator.Ne = mark.NOT_EQUAL
-operator_mark operator.Lt = mark.LESS
-operator_mark operator.Le = mark.AT_MOST
-operator_mark operator.Gt = mark.GREATER
-operator_mark operator.Ge = mark.AT_LEAST
+abbrev pub operator_mark : Operator → Mark
+operator_mark operator.Eq = mark.Equal
+operator_mark operator.Ne = mark.NotEqual
+operator_mark operator.Lt = mark.Less
+operator_mark operator.Le = mark.AtMost
+operator_mark operator.Gt = mark.Greater
+operator_mark operator.Ge = mark.AtLeast
 
 -- a leaf, or a number
 abbrev pub operand_pieces : OperandTree → List Piece
@@ -60,7 +61,7 @@ operand_pieces (operand.Number number) = number_pieces number
 
 -- a later operand of a sum, behind its mark
 unfoldable pub later_term : TermTree → List Piece
-later_term term = sign (if term.minus then mark.MINUS else mark.PLUS) ∷ operand_pieces term.operand
+later_term term = sign (if term.minus then mark.Minus else mark.Plus) ∷ operand_pieces term.operand
 
 -- the operands of a sum, each later one behind its mark
 abbrev pub sum_pieces : List TermTree → List Piece

@@ -1,9 +1,11 @@
 -- How tokens are laid out in lines: one space between two tokens of a line, a line feed behind each line.
-use Rattle.std.specs.Prelude.{ℕ, ◌==◌, Bool, true, false, if◌then◌else◌, unwrap_or, List, [], ◌∷◌, ◌++◌, codes}
+use Rattle.std.specs.Prelude.{ℕ, Bool, true, false, if◌then◌else◌, List, [], ◌∷◌, ◌++◌, codes}
 use Rattle.std.specs.Fmt.{decimal}
 use Rattle.flow_text.specs.Spelling.{name_in_quotes, text_in_quotes}
-use Rattle.flow_table.specs.Lookup.{word_in}
-use Rattle.flow_table.specs.Rows.{keyword_rows}
+use Rattle.flow_table.specs.Spelling.{keyword_spelling}
+use Rattle.flow_table.specs.declared.keyword.Keyword.{Keyword}
+use Rattle.fdl_lexer.specs.declared.kinds.Mark.{Mark}
+use Rattle.fdl_lexer.specs.declared.kinds.Mark.TheVariants as signs
 
 -- a token with its bytes, or the end of a line
 pub data Piece : Type 0 where
@@ -37,32 +39,32 @@ with_pieces (piece ∷ pieces) page = with_pieces pieces (with_piece piece page)
 
 -- ---- tokens
 
--- the keyword of a code
-abbrev pub word : ℕ → Piece
-word code = Token (unwrap_or (word_in keyword_rows code) [])
+-- a keyword
+abbrev pub word : Keyword → Piece
+word keyword = Token (keyword_spelling keyword)
 
--- how a mark is written, by its number
-abbrev pub sign_text : ℕ → List ℕ
-sign_text sign =
-    if sign == 1 then codes "(" else
-    if sign == 2 then codes ")" else
-    if sign == 3 then codes "," else
-    if sign == 4 then codes ";" else
-    if sign == 5 then codes ":" else
-    if sign == 6 then codes "." else
-    if sign == 7 then codes "[" else
-    if sign == 8 then codes "]" else
-    if sign == 9 then codes "=" else
-    if sign == 10 then codes "<>" else
-    if sign == 11 then codes "<" else
-    if sign == 12 then codes "<=" else
-    if sign == 13 then codes ">" else
-    if sign == 14 then codes ">=" else
-    if sign == 15 then codes "+" else codes "-"
+-- how a mark is written
+abbrev pub sign_text : Mark → List ℕ
+sign_text signs.Open = codes "("
+sign_text signs.Close = codes ")"
+sign_text signs.Comma = codes ","
+sign_text signs.Semicolon = codes ";"
+sign_text signs.Colon = codes ":"
+sign_text signs.Dot = codes "."
+sign_text signs.OpenBracket = codes "["
+sign_text signs.CloseBracket = codes "]"
+sign_text signs.Equal = codes "="
+sign_text signs.NotEqual = codes "<>"
+sign_text signs.Less = codes "<"
+sign_text signs.AtMost = codes "<="
+sign_text signs.Greater = codes ">"
+sign_text signs.AtLeast = codes ">="
+sign_text signs.Plus = codes "+"
+sign_text signs.Minus = codes "-"
 
--- the mark of a number
-abbrev pub sign : ℕ → Piece
-sign number = Token (sign_text number)
+-- a mark
+abbrev pub sign : Mark → Piece
+sign mark = Token (sign_text mark)
 
 -- a name in single quotes
 abbrev pub name : List ℕ → Piece

@@ -8,21 +8,21 @@ ghost use Rattle.fdl_print.specs.Conditions.{shown, in_or, in_and, in_parenthese
 ghost use Rattle.fdl_print.specs.Conditions.{later_and, condition_pieces};
 
 use crate::printer::Printer;
-use fdl_parser::mark;
+use fdl_lexer::Mark;
 use flow_model::{Cond, CondAt, OperandTree, Operator, Side, TermTree};
-use flow_table::keyword;
+use flow_table::Keyword;
 use std::alloc::AllocError;
 
-fn operator_mark(operator: Operator) -> u8
+fn operator_mark(operator: Operator) -> Mark
     ensures { result ≡ mark_of operator }
 {
     match operator {
-        Operator::Eq => mark::EQUAL,
-        Operator::Ne => mark::NOT_EQUAL,
-        Operator::Lt => mark::LESS,
-        Operator::Le => mark::AT_MOST,
-        Operator::Gt => mark::GREATER,
-        Operator::Ge => mark::AT_LEAST,
+        Operator::Eq => Mark::Equal,
+        Operator::Ne => Mark::NotEqual,
+        Operator::Lt => Mark::Less,
+        Operator::Le => Mark::AtMost,
+        Operator::Gt => Mark::Greater,
+        Operator::Ge => Mark::AtLeast,
     }
 }
 
@@ -41,7 +41,7 @@ impl Printer {
     fn later_term(&mut self, term: &TermTree) -> Result<(), AllocError>
         ensures { OnOk result (self.new ≡ with_pieces (later_term_pieces term.now) self.old) }
     {
-        self.mark(if term.minus { mark::MINUS } else { mark::PLUS })?;
+        self.mark(if term.minus { Mark::Minus } else { Mark::Plus })?;
         self.operand(&term.operand)
     }
 
@@ -99,9 +99,9 @@ impl Printer {
     fn enclosed(&mut self, cond: &Cond) -> Result<(), AllocError>
         ensures { OnOk result (self.new ≡ with_pieces (in_parentheses (shown cond.now).bare) self.old) }
     {
-        self.mark(mark::OPEN)?;
+        self.mark(Mark::Open)?;
         self.bare(cond)?;
-        self.mark(mark::CLOSE)
+        self.mark(Mark::Close)
     }
 
     #[cycle(condition)]
@@ -109,7 +109,7 @@ impl Printer {
     fn later_or(&mut self, member: &Cond) -> Result<(), AllocError>
         ensures { OnOk result (self.new ≡ with_pieces (later_or (shown member.now)) self.old) }
     {
-        self.word(keyword::OR)?;
+        self.word(Keyword::Or)?;
         self.in_or(member)
     }
 
@@ -132,7 +132,7 @@ impl Printer {
     fn later_and(&mut self, member: &Cond) -> Result<(), AllocError>
         ensures { OnOk result (self.new ≡ with_pieces (later_and (shown member.now)) self.old) }
     {
-        self.word(keyword::AND)?;
+        self.word(Keyword::And)?;
         self.in_and(member)
     }
 
@@ -169,7 +169,7 @@ impl Printer {
             Cond::Or(members) => self.members_of_or(members.as_slice()),
             Cond::And(members) => self.members_of_and(members.as_slice()),
             Cond::Not(member) => {
-                self.word(keyword::NOT)?;
+                self.word(Keyword::Not)?;
                 self.in_and(member.get())
             }
             Cond::Compare(left, operator, right) => self.compare(left, *operator, right),

@@ -8,22 +8,22 @@ ghost use Rattle.fdl_print.specs.Elements.{later_map as later_map_pieces, maps_p
 ghost use Rattle.fdl_print.specs.Canonical.{worked, opening_pieces, activity_pieces, element_pieces};
 
 use crate::printer::Printer;
-use fdl_parser::mark;
+use fdl_lexer::Mark;
 use flow_model::{
     ActivityTree, AttrAt, AttrTree, ControlTree, DataTree, ElementTree, EndTree, EndsTree,
     JoinTree, MapTree, NameAt, WhenTree, WorkTree,
 };
-use flow_table::keyword;
+use flow_table::Keyword;
 use std::alloc::AllocError;
 
 /// The first word of an activity.
-fn opening_word(work: &WorkTree) -> u8
+fn opening_word(work: &WorkTree) -> Keyword
     ensures { result ≡ (worked work.now).opening }
 {
     match work {
-        WorkTree::Program => keyword::PROGRAM_ACTIVITY,
-        WorkTree::Process(_) => keyword::PROCESS_ACTIVITY,
-        WorkTree::Block(_) => keyword::BLOCK,
+        WorkTree::Program => Keyword::ProgramActivity,
+        WorkTree::Process(_) => Keyword::ProcessActivity,
+        WorkTree::Block(_) => Keyword::Block,
     }
 }
 
@@ -32,7 +32,7 @@ impl Printer {
     pub fn closing(&mut self, end: &NameAt) -> Result<(), AllocError>
         ensures { OnOk result (self.new ≡ with_pieces (closing_pieces end.now) self.old) }
     {
-        self.word(keyword::END)?;
+        self.word(Keyword::End)?;
         self.name(&end.name)?;
         self.end_line()
     }
@@ -47,38 +47,39 @@ impl Printer {
         ensures { OnOk result (self.new ≡ with_pieces (heading_pieces name.now input.now output.now) self.old) }
     {
         self.name(&name.name)?;
-        self.mark(mark::OPEN)?;
+        self.mark(Mark::Open)?;
         self.name(&input.name)?;
-        self.mark(mark::COMMA)?;
+        self.mark(Mark::Comma)?;
         self.name(&output.name)?;
-        self.mark(mark::CLOSE)
+        self.mark(Mark::Close)
     }
 
     /// CONNECTORS TRUE.
     fn connectors(&mut self) -> Result<(), AllocError>
-        ensures { OnOk result (self.new ≡ with_piece (word_piece 18) (with_piece (word_piece 16) self.old)) }
+        ensures { OnOk result (self.new ≡ with_piece (word_piece Keyword.True)
+            (with_piece (word_piece Keyword.Connectors) self.old)) }
     {
-        self.word(keyword::CONNECTORS)?;
-        self.word(keyword::TRUE)
+        self.word(Keyword::Connectors)?;
+        self.word(Keyword::True)
     }
 
     #[tactic(auto, using(crate::proofs::Laying::append_rule))]
     fn join(&mut self, join: &JoinTree) -> Result<(), AllocError>
         ensures { OnOk result (self.new ≡ with_pieces (join_pieces join.now) self.old) }
     {
-        self.word(keyword::WHEN)?;
+        self.word(Keyword::When)?;
         match join {
             JoinTree::AtLeastOne => {
-                self.word(keyword::AT_LEAST_ONE)?;
-                self.word(keyword::CONNECTOR)?;
-                self.word(keyword::TRUE)
+                self.word(Keyword::AtLeastOne)?;
+                self.word(Keyword::Connector)?;
+                self.word(Keyword::True)
             }
             JoinTree::All => {
-                self.word(keyword::ALL)?;
+                self.word(Keyword::All)?;
                 self.connectors()
             }
             JoinTree::AtLeast(number) => {
-                self.word(keyword::AT_LEAST)?;
+                self.word(Keyword::AtLeast)?;
                 self.number(number)?;
                 self.connectors()
             }
@@ -86,22 +87,22 @@ impl Printer {
     }
 
     /// DONE_BY, a word, and a name behind it.
-    fn done_by(&mut self, word: u8, name: &NameAt) -> Result<(), AllocError>
-        ensures { OnOk result (self.new ≡ with_pieces (word_piece 21 ∷ word_piece word ∷ name_piece name.now.name ∷ [])
-            self.old) }
+    fn done_by(&mut self, word: Keyword, name: &NameAt) -> Result<(), AllocError>
+        ensures { OnOk result (self.new ≡ with_pieces (word_piece Keyword.DoneBy ∷ word_piece word
+            ∷ name_piece name.now.name ∷ []) self.old) }
     {
-        self.word(keyword::DONE_BY)?;
+        self.word(Keyword::DoneBy)?;
         self.word(word)?;
         self.name(&name.name)
     }
 
     fn performer(&mut self, name: &NameAt) -> Result<(), AllocError>
-        ensures { OnOk result (self.new ≡ with_pieces (word_piece 21 ∷ word_piece 24 ∷ word_piece 25 ∷ name_piece
-            name.now.name ∷ []) self.old) }
+        ensures { OnOk result (self.new ≡ with_pieces (word_piece Keyword.DoneBy ∷ word_piece Keyword.Performer
+            ∷ word_piece Keyword.Of ∷ name_piece name.now.name ∷ []) self.old) }
     {
-        self.word(keyword::DONE_BY)?;
-        self.word(keyword::PERFORMER)?;
-        self.word(keyword::OF)?;
+        self.word(Keyword::DoneBy)?;
+        self.word(Keyword::Performer)?;
+        self.word(Keyword::Of)?;
         self.name(&name.name)
     }
 
@@ -111,27 +112,27 @@ impl Printer {
         match what {
             AttrTree::When(join) => self.join(join),
             AttrTree::Exit(cond) => {
-                self.word(keyword::EXIT)?;
-                self.word(keyword::WHEN)?;
+                self.word(Keyword::Exit)?;
+                self.word(Keyword::When)?;
                 self.condition(cond)
             }
             AttrTree::Start(manual) => {
-                self.word(keyword::START)?;
+                self.word(Keyword::Start)?;
                 self.word(if *manual {
-                    keyword::MANUAL
+                    Keyword::Manual
                 } else {
-                    keyword::AUTOMATIC
+                    Keyword::Automatic
                 })
             }
             AttrTree::Expires(minutes) => {
-                self.word(keyword::EXPIRES)?;
+                self.word(Keyword::Expires)?;
                 self.number(minutes)
             }
-            AttrTree::Role(name) => self.done_by(keyword::ROLE, name),
-            AttrTree::Person(name) => self.done_by(keyword::PERSON, name),
+            AttrTree::Role(name) => self.done_by(Keyword::Role, name),
+            AttrTree::Person(name) => self.done_by(Keyword::Person, name),
             AttrTree::Starter => {
-                self.word(keyword::DONE_BY)?;
-                self.word(keyword::STARTER)
+                self.word(Keyword::DoneBy)?;
+                self.word(Keyword::Starter)
             }
             AttrTree::Performer(name) => self.performer(name),
         }
@@ -162,7 +163,7 @@ impl Printer {
         match work {
             WorkTree::Program => Ok(()),
             WorkTree::Process(process) => {
-                self.word(keyword::PROCESS)?;
+                self.word(Keyword::Process)?;
                 self.name(&process.name)
             }
             WorkTree::Block(_) => Ok(()),
@@ -212,9 +213,9 @@ impl Printer {
     {
         match when {
             WhenTree::Always => Ok(()),
-            WhenTree::Otherwise => self.word(keyword::OTHERWISE),
+            WhenTree::Otherwise => self.word(Keyword::Otherwise),
             WhenTree::Cond(cond) => {
-                self.word(keyword::WHEN)?;
+                self.word(Keyword::When)?;
                 self.condition(cond)
             }
         }
@@ -224,16 +225,16 @@ impl Printer {
     fn control(&mut self, control: &ControlTree) -> Result<(), AllocError>
         ensures { OnOk result (self.new ≡ with_pieces (control_pieces control.now) self.old) }
     {
-        self.word(keyword::CONTROL)?;
-        self.word(keyword::FROM)?;
+        self.word(Keyword::Control)?;
+        self.word(Keyword::From)?;
         self.name(&control.from.name)?;
-        self.word(keyword::TO)?;
+        self.word(Keyword::To)?;
         self.name(&control.to.name)?;
         self.transition(&control.when)?;
         self.end_line()
     }
 
-    fn end(&mut self, end: &EndTree, border: u8) -> Result<(), AllocError>
+    fn end(&mut self, end: &EndTree, border: Keyword) -> Result<(), AllocError>
         ensures { OnOk result (self.new ≡ with_piece (end_piece end.now border) self.old) }
     {
         match end {
@@ -247,13 +248,13 @@ impl Printer {
     {
         match ends {
             EndsTree::Line(from, to) => {
-                self.word(keyword::FROM)?;
-                self.end(from, keyword::SOURCE)?;
-                self.word(keyword::TO)?;
-                self.end(to, keyword::SINK)
+                self.word(Keyword::From)?;
+                self.end(from, Keyword::Source)?;
+                self.word(Keyword::To)?;
+                self.end(to, Keyword::Sink)
             }
             EndsTree::Loop(name) => {
-                self.word(keyword::LOOP)?;
+                self.word(Keyword::Loop)?;
                 self.name(&name.name)
             }
         }
@@ -264,7 +265,7 @@ impl Printer {
         ensures { OnOk result (self.new ≡ with_pieces (map_pieces map.now) self.old) }
     {
         self.leaf(&map.from)?;
-        self.word(keyword::TO)?;
+        self.word(Keyword::To)?;
         self.leaf(&map.to)
     }
 
@@ -272,7 +273,7 @@ impl Printer {
     fn later_map(&mut self, map: &MapTree) -> Result<(), AllocError>
         ensures { OnOk result (self.new ≡ with_pieces (later_map_pieces map.now) self.old) }
     {
-        self.mark(mark::COMMA)?;
+        self.mark(Mark::Comma)?;
         self.map(map)
     }
 
@@ -293,9 +294,9 @@ impl Printer {
     fn data_line(&mut self, line: &DataTree) -> Result<(), AllocError>
         ensures { OnOk result (self.new ≡ with_pieces (data_pieces line.now) self.old) }
     {
-        self.word(keyword::DATA)?;
+        self.word(Keyword::Data)?;
         self.ends(&line.ends)?;
-        self.word(keyword::MAP)?;
+        self.word(Keyword::Map)?;
         self.maps(line.maps.as_slice())?;
         self.end_line()
     }

@@ -8,11 +8,11 @@ ghost use Rattle.fdl_print.specs.Elements.{roles_pieces, person_pieces};
 ghost use Rattle.fdl_print.specs.Canonical.{process_pieces, item_pieces, canonical_text};
 
 use crate::printer::Printer;
-use fdl_parser::mark;
+use fdl_lexer::Mark;
 use flow_model::{
     ItemTree, KindTree, Member, NameAt, NumberAt, PersonTree, ProcessTree, StructDef, Tree,
 };
-use flow_table::keyword;
+use flow_table::Keyword;
 use std::alloc::{AllocError, Global};
 
 impl Printer {
@@ -20,8 +20,8 @@ impl Printer {
         ensures { OnOk result (self.new ≡ with_piece (kind_piece kind.now) self.old) }
     {
         match kind {
-            KindTree::Long => self.word(keyword::LONG),
-            KindTree::Str => self.word(keyword::STRING),
+            KindTree::Long => self.word(Keyword::Long),
+            KindTree::Str => self.word(Keyword::String),
             KindTree::Struct(name) => self.name(&name.name),
         }
     }
@@ -34,9 +34,9 @@ impl Printer {
         match count {
             None => Ok(()),
             Some(count) => {
-                self.mark(mark::OPEN)?;
+                self.mark(Mark::Open)?;
                 self.number(count)?;
-                self.mark(mark::CLOSE)
+                self.mark(Mark::Close)
             }
         }
     }
@@ -46,10 +46,10 @@ impl Printer {
         ensures { OnOk result (self.new ≡ with_pieces (member_pieces member.now) self.old) }
     {
         self.name(&member.name.name)?;
-        self.mark(mark::COLON)?;
+        self.mark(Mark::Colon)?;
         self.kind(&member.kind)?;
         self.count(&member.count)?;
-        self.mark(mark::SEMICOLON)?;
+        self.mark(Mark::Semicolon)?;
         self.end_line()
     }
 
@@ -66,7 +66,7 @@ impl Printer {
     fn structure(&mut self, structure: &StructDef) -> Result<(), AllocError>
         ensures { OnOk result (self.new ≡ with_pieces (structure_pieces structure.now) self.old) }
     {
-        self.word(keyword::STRUCTURE)?;
+        self.word(Keyword::Structure)?;
         self.name(&structure.name.name)?;
         self.end_line()?;
         self.members_of(structure.members.as_slice())?;
@@ -77,7 +77,7 @@ impl Printer {
     fn first_role(&mut self, role: &NameAt) -> Result<(), AllocError>
         ensures { OnOk result (self.new ≡ with_pieces (first_role_pieces role.now) self.old) }
     {
-        self.word(keyword::ROLES)?;
+        self.word(Keyword::Roles)?;
         self.name(&role.name)
     }
 
@@ -85,7 +85,7 @@ impl Printer {
     fn later_role(&mut self, role: &NameAt) -> Result<(), AllocError>
         ensures { OnOk result (self.new ≡ with_pieces (later_role_pieces role.now) self.old) }
     {
-        self.mark(mark::COMMA)?;
+        self.mark(Mark::Comma)?;
         self.name(&role.name)
     }
 
@@ -106,7 +106,7 @@ impl Printer {
     fn person(&mut self, person: &PersonTree) -> Result<(), AllocError>
         ensures { OnOk result (self.new ≡ with_pieces (person_pieces person.now) self.old) }
     {
-        self.word(keyword::PERSON)?;
+        self.word(Keyword::Person)?;
         self.name(&person.name.name)?;
         self.roles(person.roles.as_slice())?;
         self.end_line()?;
@@ -117,7 +117,7 @@ impl Printer {
     fn process(&mut self, process: &ProcessTree) -> Result<(), AllocError>
         ensures { OnOk result (self.new ≡ with_pieces (process_pieces process.now) self.old) }
     {
-        self.word(keyword::PROCESS)?;
+        self.word(Keyword::Process)?;
         self.heading(&process.name, &process.input, &process.output)?;
         self.end_line()?;
         self.elements(process.elements.as_slice())?;

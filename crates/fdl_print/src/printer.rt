@@ -6,9 +6,9 @@ ghost use Rattle.fdl_print.specs.Pieces.{digits as size_piece};
 ghost use Rattle.fdl_print.specs.Parts.{number_pieces, first_step as first_step_pieces};
 ghost use Rattle.fdl_print.specs.Parts.{later_step as later_step_pieces, leaf_pieces};
 
-use fdl_parser::mark;
+use fdl_lexer::Mark;
 use flow_model::{LeafAt, Name, NumberAt, StepTree, Txt};
-use flow_table::keywords;
+use flow_table::Keyword;
 use flow_text::{decimal, quoted_name, quoted_text};
 use std::alloc::{AllocError, Global};
 use std::marker::Model;
@@ -29,36 +29,26 @@ impl Model for Printer {
 }
 
 /// How a mark is written.
-fn spelling(sign: u8) -> &'static [u8]
-    ensures { result.now ≡ sign_text sign }
+fn spelling(mark: Mark) -> &'static [u8]
+    ensures { result.now ≡ sign_text mark }
 {
-    match sign {
-        mark::OPEN => b"(",
-        mark::CLOSE => b")",
-        mark::COMMA => b",",
-        mark::SEMICOLON => b";",
-        mark::COLON => b":",
-        mark::DOT => b".",
-        mark::OPEN_BRACKET => b"[",
-        mark::CLOSE_BRACKET => b"]",
-        mark::EQUAL => b"=",
-        mark::NOT_EQUAL => b"<>",
-        mark::LESS => b"<",
-        mark::AT_MOST => b"<=",
-        mark::GREATER => b">",
-        mark::AT_LEAST => b">=",
-        mark::PLUS => b"+",
-        _ => b"-",
-    }
-}
-
-/// How a keyword is written.
-fn keyword_text(code: u8) -> &'static [u8]
-    ensures { Token result.now ≡ word_piece code }
-{
-    match keywords().name_of(code) {
-        Some(word) => word,
-        None => b"",
+    match mark {
+        Mark::Open => b"(",
+        Mark::Close => b")",
+        Mark::Comma => b",",
+        Mark::Semicolon => b";",
+        Mark::Colon => b":",
+        Mark::Dot => b".",
+        Mark::OpenBracket => b"[",
+        Mark::CloseBracket => b"]",
+        Mark::Equal => b"=",
+        Mark::NotEqual => b"<>",
+        Mark::Less => b"<",
+        Mark::AtMost => b"<=",
+        Mark::Greater => b">",
+        Mark::AtLeast => b">=",
+        Mark::Plus => b"+",
+        Mark::Minus => b"-",
     }
 }
 
@@ -98,16 +88,16 @@ impl Printer {
         Ok(())
     }
 
-    pub fn word(&mut self, code: u8) -> Result<(), AllocError>
-        ensures { OnOk result (self.new ≡ with_piece (word_piece code) self.old) }
+    pub fn word(&mut self, keyword: Keyword) -> Result<(), AllocError>
+        ensures { OnOk result (self.new ≡ with_piece (word_piece keyword) self.old) }
     {
-        self.token(keyword_text(code))
+        self.token(keyword.spelling())
     }
 
-    pub fn mark(&mut self, sign: u8) -> Result<(), AllocError>
-        ensures { OnOk result (self.new ≡ with_piece (sign_piece sign) self.old) }
+    pub fn mark(&mut self, mark: Mark) -> Result<(), AllocError>
+        ensures { OnOk result (self.new ≡ with_piece (sign_piece mark) self.old) }
     {
-        self.token(spelling(sign))
+        self.token(spelling(mark))
     }
 
     /// Puts the space before a token, but for the first of a line.
@@ -142,7 +132,7 @@ impl Printer {
         ensures { OnOk result (self.new ≡ with_pieces (number_pieces number.now) self.old) }
     {
         if number.minus.is_some() {
-            self.mark(mark::MINUS)?;
+            self.mark(Mark::Minus)?;
             return self.size(number.size);
         }
         self.size(number.size)
@@ -155,9 +145,9 @@ impl Printer {
             StepTree::Rc => self.token(b"'_RC'"),
             StepTree::Member(name) => self.name(name),
             StepTree::Place(place) => {
-                self.mark(mark::OPEN_BRACKET)?;
+                self.mark(Mark::OpenBracket)?;
                 self.size(*place)?;
-                self.mark(mark::CLOSE_BRACKET)
+                self.mark(Mark::CloseBracket)
             }
         }
     }
@@ -166,7 +156,7 @@ impl Printer {
         ensures { OnOk result (self.new ≡ with_pieces (later_step_pieces step.now) self.old) }
     {
         if let StepTree::Member(_) = step {
-            self.mark(mark::DOT)?;
+            self.mark(Mark::Dot)?;
             return self.first_step(step);
         }
         self.first_step(step)

@@ -1,5 +1,5 @@
 -- What is told of the transactions about a root is what is told of all.
-use Rattle.std.proofs.Common.{◌≡◌, ℕ, ◌≤◌, Bool, true, false, if◌then◌else◌, None, List, [], ◌∷◌, ◌++◌, Bor, length, map, drop, refl, sym, ap, ◌∙◌}
+use Rattle.std.proofs.Common.{◌≡◌, ℕ, ◌≤◌, Bool, true, false, if◌then◌else◌, None, List, [], ◌∷◌, ◌++◌, length, drop, refl, sym, ap, ◌∙◌}
 use Rattle.std.proofs.lemmas.List.{append-nil, drop_all}
 use Rattle.std.specs.List.{filter_map, cons_option}
 use Rattle.flow_model.specs.declared.instances.Fact.{Fact}
@@ -22,11 +22,11 @@ told_about c root (n ∷ live) =
     told_step c root n (about root live) live (told_about c root live) (is_root root (root_about n.transaction)) refl
 
 -- what is told of all transactions about a root, found one after the other
-pub all_told : (c : Core) (root : ℕ) (entries : List (Bor Numbered)) (live : List Numbered) (index : ℕ) (facts : List Fact)
-    → map (λ n. n.now) entries ≡ about root live → length entries ≤ index
-    → facts ++ filter_map (fact_about c root) (map (λ n. n.now) (drop index entries)) ≡ filter_map (fact_about c root) (map (λ n. n.now) entries)
+pub all_told : (c : Core) (root : ℕ) (entries : List Numbered) (live : List Numbered) (index : ℕ) (facts : List Fact)
+    → entries ≡ about root live → length entries ≤ index
+    → facts ++ filter_map (fact_about c root) (drop index entries) ≡ filter_map (fact_about c root) entries
     → facts ≡ filter_map (fact_about c root) live
 all_told c root entries live index facts are past so_far =
     sym (append-nil facts)
-    ∙ ap (λ (es : List (Bor Numbered)). facts ++ filter_map (fact_about c root) (map (λ n. n.now) es)) (sym (drop_all index entries past))
+    ∙ ap (λ (es : List Numbered). facts ++ filter_map (fact_about c root) es) (sym (drop_all index entries past))
     ∙ so_far ∙ ap (filter_map (fact_about c root)) are ∙ told_about c root live

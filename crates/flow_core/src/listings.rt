@@ -197,8 +197,8 @@ fn code_of(t: &Transaction) -> i64
     }
 }
 
-fn put_audited(out: &mut Vec<u8>, entries: &[&Numbered]) -> Result<(), AllocError>
-    ensures { OnOk result (out.new.items ≡ out.old.items ++ flat_map numbered_line (map (λ n. n.now) entries.now)) }
+fn put_audited(out: &mut Vec<u8>, entries: &[Numbered]) -> Result<(), AllocError>
+    ensures { OnOk result (out.new.items ≡ out.old.items ++ flat_map numbered_line entries.now) }
 {
     for entry in entries {
         let code = code_of(&entry.transaction);
@@ -208,8 +208,8 @@ fn put_audited(out: &mut Vec<u8>, entries: &[&Numbered]) -> Result<(), AllocErro
 }
 
 /// Appends the reply that shows the audited transactions of a root, which are these.
-pub fn write_audit(out: &mut Vec<u8>, root: u64, entries: &[&Numbered]) -> Result<(), AllocError>
-    ensures { OnOk result (out.new.items ≡ out.old.items ++ audited_text root (map (λ n. n.now) entries.now)) }
+pub fn write_audit(out: &mut Vec<u8>, root: u64, entries: &[Numbered]) -> Result<(), AllocError>
+    ensures { OnOk result (out.new.items ≡ out.old.items ++ audited_text root entries.now) }
 {
     numbered(out, b"ok AUDIT ", root)?;
     numbered(out, b" ", entries.len() as u64)?;

@@ -1,5 +1,5 @@
 //! What the state shows to those who read it: the fates of a root, and what they follow from.
-ghost use Rattle.std.specs.Prelude.{◌≡◌, None, map, option_copied, IfOk, IfSome, IfNone};
+ghost use Rattle.std.specs.Prelude.{◌≡◌, None, option_copied, IfOk, IfSome, IfNone};
 ghost use Rattle.containers.specs.Settings.{filled};
 ghost use Rattle.flow_model.specs.Containers.{fresh as fresh_of};
 ghost use Rattle.flow_model.specs.declared.graphs.Graph.{out-Graph};
@@ -52,13 +52,12 @@ fn started_with(t: &Transaction) -> &[Setting]
 }
 
 /// The settings of the START of a root among transactions; none where it isn't there.
-fn start_among<'a>(root: u64, entries: &[&'a Numbered]) -> &'a [Setting]
-    ensures { result.now ≡ settings_of_start root (map (λ n. n.now) entries.now) }
+fn start_among(root: u64, entries: &[Numbered]) -> &[Setting]
+    ensures { result.now ≡ settings_of_start root entries.now }
 {
     for entry in entries {
-        let numbered = *entry;
-        if started_root(&numbered.transaction) == Some(root) {
-            return started_with(&numbered.transaction);
+        if started_root(&entry.transaction) == Some(root) {
+            return started_with(&entry.transaction);
         }
     }
     &[]
@@ -164,21 +163,15 @@ impl Core {
         Ok(facts)
     }
 
-    /// The settings with which a root was started.
-    fn start_settings(&self, root: u64) -> Result<&[Setting], AllocError>
-        ensures { IfOk result (λ settings. settings.now ≡ settings_of_start root self.now.live.items) }
-    {
-        let about = self.live.about(root)?;
-        Ok(start_among(root, &about))
-    }
-
     /// The input with which a root was started.
     fn start_input(&self, alloc: Global, root: u64, graph: &Graph) -> Result<Container, AllocError>
         ensures { IfOk result (λ input. input
             ≡ filled (settings_of_start root self.now.live.items) (fresh_of (out-Graph graph.now).input)) }
     {
         let input = fresh(alloc, &graph.input)?;
-        with_settings(alloc, input, self.start_settings(root)?)
+        let about = self.live.about(root)?;
+        let settings = start_among(root, &about);
+        with_settings(alloc, input, settings)
     }
 
     /// What the fates of a root follow from; None exactly where there is no live root of that number.

@@ -15,4 +15,3 @@ pub mod Scripts
 pub mod Inputs
 pub mod Stopping
 pub mod Refusing
-pub mod Present

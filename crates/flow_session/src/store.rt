@@ -9,7 +9,6 @@ ghost use Rattle.txn_log.specs.Stored.{InRange};
 ghost use Rattle.checkpoint.specs.Compacting.{IsCompacted, MayBeCompacted, StaysPut};
 ghost use Rattle.flow_core.specs.Summaries.{Summary, summary};
 ghost use Rattle.flow_model.specs.declared.transactions.Transaction.{Transaction as TransactionOf};
-ghost use Rattle.live_history.specs.Rows.{present};
 ghost use Rattle.flow_session.specs.Checkpoints.{IsCheckpointed};
 ghost use Rattle.flow_session.specs.Fitting.{AreFitFrom, AreFitNow, HasFitRecords};
 ghost use Rattle.flow_session.specs.Histories.{AreInRangeBehind, IsHeaderOf, after, payloads as payloads_of, payloads_behind};
@@ -24,8 +23,9 @@ use crate::serving::Stop;
 use checkpoint::{MoveStop, compact};
 use flow_core::Core;
 use flow_disk::Disk;
-use flow_model::{Numbered, Transaction};
+use flow_model::Transaction;
 use flow_txn::{encode, fits};
+use live_history::History;
 use std::alloc::Global;
 use txn_log::{Batch, Header, Log};
 
@@ -173,26 +173,25 @@ fn append_all<D: Disk>(log: &mut Log, disk: &mut D, batch: &Batch) -> Result<(),
     }
 }
 
-/// Moves a log to its other slot, with the payloads of the live transactions of these rows alone.
+/// Moves a log to its other slot, with the payloads of the live transactions alone.
 ///
 /// `StoreFault` comes exactly where the disk failed. `NoMemory` comes where there was none for a payload; then the log
 /// stands where it stood. It comes too where nothing was tried, as for [`append`].
 fn move_log<D: Disk>(
-    alloc: Global,
     log: &mut Log,
     disk: &mut D,
     header: &Header,
-    rows: &[Option<Numbered>],
+    history: &History,
     count: u64,
 ) -> Result<(), Stop>
-    requires count { count ≡ length (present rows.now) }
-    requires kept { All IsPayload (payloads_of (present rows.now)) }
+    requires count { count ≡ length history.now.items }
+    requires kept { All IsPayload (payloads_of history.now.items) }
     requires range { InRange header.now }
     requires next { header.now.generation ≡ log.old.generation + 1 }
     requires stands { D.tells → StandsOn log.old (D.seen disk.old) }
     ensures stands { OnOk result (D.tells → StandsOn log.new (D.seen disk.new)) }
     ensures compacted { OnOk result (D.tells
-        → IsCompacted (opposite log.old.slot) header.now (payloads_of (present rows.now)) (D.seen disk.new)) }
+        → IsCompacted (opposite log.old.slot) header.now (payloads_of history.now.items) (D.seen disk.new)) }
     ensures durable { OnOk result (Only (D.seen disk.new) (D.images disk.new)) }
     ensures alive { OnOk result (log.new.failed ≡ false) }
     ensures log { OnOk result ((log.new.slot ≡ opposite log.old.slot)
@@ -203,12 +202,12 @@ fn move_log<D: Disk>(
         → StaysPut D.seen D.images log.old log.new disk.old disk.new) }
     ensures any_moment { D.tells → Only (D.seen disk.old) (D.images disk.old)
         → LeavesOnly D.moment D.left_since disk.old disk.new
-        (MayBeCompacted (opposite log.old.slot) header.now (payloads_of (present rows.now)) (D.seen disk.old)) }
+        (MayBeCompacted (opposite log.old.slot) header.now (payloads_of history.now.items) (D.seen disk.old)) }
 {
     if log.has_failed() || count >= MOST_RECORDS {
         return Err(Stop::NoMemory);
     }
-    let mut kept = LivePayloads::new(alloc, rows);
+    let mut kept = LivePayloads::new(history);
     match compact(log, disk, header, &mut kept) {
         Ok(()) => Ok(()),
         Err(MoveStop::StoreFault) => Err(Stop::StoreFault),
@@ -258,18 +257,11 @@ impl<D: Disk + Drop> Journal for Stored<D> {
         let Some(header) = next_header(&self.log, core) else {
             return Err(Stop::NoMemory);
         };
-        let rows = core.live().rows();
-        let Some(count) = live_count(self.alloc, rows)? else {
+        let history = core.live();
+        let Some(count) = live_count(history)? else {
             return Err(Stop::NoMemory);
         };
-        move_log(
-            self.alloc,
-            &mut self.log,
-            &mut self.disk,
-            &header,
-            rows,
-            count,
-        )?;
+        move_log(&mut self.log, &mut self.disk, &header, history, count)?;
         Ok(())
     }
 }

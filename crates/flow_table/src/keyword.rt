@@ -1,133 +1,246 @@
-//! The codes of the keywords, by name.
-
-pub const STRUCTURE: u8 = 1;
-
-pub const PERSON: u8 = 2;
-
-pub const ROLES: u8 = 3;
-
-pub const PROCESS: u8 = 4;
-
-pub const PROGRAM_ACTIVITY: u8 = 5;
-
-pub const PROCESS_ACTIVITY: u8 = 6;
-
-pub const BLOCK: u8 = 7;
-
-pub const END: u8 = 8;
-
-pub const LONG: u8 = 9;
-
-pub const STRING: u8 = 10;
-
-pub const START: u8 = 11;
-
-pub const AUTOMATIC: u8 = 12;
-
-pub const MANUAL: u8 = 13;
-
-pub const WHEN: u8 = 14;
-
-pub const ALL: u8 = 15;
-
-pub const CONNECTORS: u8 = 16;
-
-pub const CONNECTOR: u8 = 17;
-
-pub const TRUE: u8 = 18;
-
-pub const AT_LEAST_ONE: u8 = 19;
-
-pub const EXIT: u8 = 20;
-
-pub const DONE_BY: u8 = 21;
-
-pub const ROLE: u8 = 22;
-
-pub const STARTER: u8 = 23;
-
-pub const PERFORMER: u8 = 24;
-
-pub const OF: u8 = 25;
-
-pub const EXPIRES: u8 = 26;
-
-pub const CONTROL: u8 = 27;
-
-pub const FROM: u8 = 28;
-
-pub const TO: u8 = 29;
-
-pub const OTHERWISE: u8 = 30;
-
-pub const DATA: u8 = 31;
-
-pub const SOURCE: u8 = 32;
-
-pub const SINK: u8 = 33;
-
-pub const LOOP: u8 = 34;
-
-pub const MAP: u8 = 35;
-
-pub const OR: u8 = 36;
-
-pub const AND: u8 = 37;
-
-pub const NOT: u8 = 38;
-
-pub const IMPORT: u8 = 39;
-
-pub const BY: u8 = 40;
-
-pub const KEY: u8 = 41;
-
-pub const WITH: u8 = 42;
-
-pub const TURN: u8 = 43;
-
-pub const DRAIN: u8 = 44;
-
-pub const CLAIM: u8 = 45;
-
-pub const RELEASE: u8 = 46;
-
-pub const TRANSFER: u8 = 47;
-
-pub const TAKE: u8 = 48;
-
-pub const DONE: u8 = 49;
-
-pub const RC: u8 = 50;
-
-pub const FORCE: u8 = 51;
-
-pub const RESTART: u8 = 52;
-
-pub const SUSPEND: u8 = 53;
-
-pub const RESUME: u8 = 54;
-
-pub const TERMINATE: u8 = 55;
-
-pub const DELETE: u8 = 56;
-
-pub const CLOCK: u8 = 57;
-
-pub const CHECKPOINT: u8 = 58;
-
-pub const SHOW: u8 = 59;
-
-pub const OUTPUT: u8 = 60;
-
-pub const INPUT: u8 = 61;
-
-pub const WORKLIST: u8 = 62;
-
-pub const QUEUE: u8 = 63;
-
-pub const AUDIT: u8 = 64;
-
-pub const TEMPLATES: u8 = 65;
-
-pub const AT_LEAST: u8 = 66;
+//! The keywords, and how each is spelled.
+ghost use Rattle.std.specs.Prelude.{◌≡◌, Some, IfSome};
+ghost use Rattle.flow_table.specs.Spelling.{keyword_spelling, with_letter};
+
+/// A word of the process language or of the commands.
+#[derive(Clone, Copy, Debug, PartialEq, Eq)]
+pub enum Keyword {
+    Structure,
+    Person,
+    Roles,
+    Process,
+    ProgramActivity,
+    ProcessActivity,
+    Block,
+    End,
+    Long,
+    String,
+    Start,
+    Automatic,
+    Manual,
+    When,
+    All,
+    Connectors,
+    Connector,
+    True,
+    AtLeastOne,
+    Exit,
+    DoneBy,
+    Role,
+    Starter,
+    Performer,
+    Of,
+    Expires,
+    Control,
+    From,
+    To,
+    Otherwise,
+    Data,
+    Source,
+    Sink,
+    Loop,
+    Map,
+    Or,
+    And,
+    Not,
+    Import,
+    By,
+    Key,
+    With,
+    Turn,
+    Drain,
+    Claim,
+    Release,
+    Transfer,
+    Take,
+    Done,
+    Rc,
+    Force,
+    Restart,
+    Suspend,
+    Resume,
+    Terminate,
+    Delete,
+    Clock,
+    Checkpoint,
+    Show,
+    Output,
+    Input,
+    Worklist,
+    Queue,
+    Audit,
+    Templates,
+    AtLeast,
+}
+
+impl Keyword {
+    /// How the keyword is written.
+    pub fn spelling(self) -> &'static [u8]
+        ensures { result.now ≡ keyword_spelling self }
+    {
+        match self {
+            Keyword::Structure => b"STRUCTURE",
+            Keyword::Person => b"PERSON",
+            Keyword::Roles => b"ROLES",
+            Keyword::Process => b"PROCESS",
+            Keyword::ProgramActivity => b"PROGRAM_ACTIVITY",
+            Keyword::ProcessActivity => b"PROCESS_ACTIVITY",
+            Keyword::Block => b"BLOCK",
+            Keyword::End => b"END",
+            Keyword::Long => b"LONG",
+            Keyword::String => b"STRING",
+            Keyword::Start => b"START",
+            Keyword::Automatic => b"AUTOMATIC",
+            Keyword::Manual => b"MANUAL",
+            Keyword::When => b"WHEN",
+            Keyword::All => b"ALL",
+            Keyword::Connectors => b"CONNECTORS",
+            Keyword::Connector => b"CONNECTOR",
+            Keyword::True => b"TRUE",
+            Keyword::AtLeastOne => b"AT_LEAST_ONE",
+            Keyword::Exit => b"EXIT",
+            Keyword::DoneBy => b"DONE_BY",
+            Keyword::Role => b"ROLE",
+            Keyword::Starter => b"STARTER",
+            Keyword::Performer => b"PERFORMER",
+            Keyword::Of => b"OF",
+            Keyword::Expires => b"EXPIRES",
+            Keyword::Control => b"CONTROL",
+            Keyword::From => b"FROM",
+            Keyword::To => b"TO",
+            Keyword::Otherwise => b"OTHERWISE",
+            Keyword::Data => b"DATA",
+            Keyword::Source => b"SOURCE",
+            Keyword::Sink => b"SINK",
+            Keyword::Loop => b"LOOP",
+            Keyword::Map => b"MAP",
+            Keyword::Or => b"OR",
+            Keyword::And => b"AND",
+            Keyword::Not => b"NOT",
+            Keyword::Import => b"IMPORT",
+            Keyword::By => b"BY",
+            Keyword::Key => b"KEY",
+            Keyword::With => b"WITH",
+            Keyword::Turn => b"TURN",
+            Keyword::Drain => b"DRAIN",
+            Keyword::Claim => b"CLAIM",
+            Keyword::Release => b"RELEASE",
+            Keyword::Transfer => b"TRANSFER",
+            Keyword::Take => b"TAKE",
+            Keyword::Done => b"DONE",
+            Keyword::Rc => b"RC",
+            Keyword::Force => b"FORCE",
+            Keyword::Restart => b"RESTART",
+            Keyword::Suspend => b"SUSPEND",
+            Keyword::Resume => b"RESUME",
+            Keyword::Terminate => b"TERMINATE",
+            Keyword::Delete => b"DELETE",
+            Keyword::Clock => b"CLOCK",
+            Keyword::Checkpoint => b"CHECKPOINT",
+            Keyword::Show => b"SHOW",
+            Keyword::Output => b"OUTPUT",
+            Keyword::Input => b"INPUT",
+            Keyword::Worklist => b"WORKLIST",
+            Keyword::Queue => b"QUEUE",
+            Keyword::Audit => b"AUDIT",
+            Keyword::Templates => b"TEMPLATES",
+            Keyword::AtLeast => b"AT_LEAST",
+        }
+    }
+
+    /// The keyword that is written so, or None exactly where none is. No two keywords are written alike.
+    pub fn from_word(word: &[u8]) -> Option<Keyword>
+        ensures found { IfSome result (λ keyword. keyword_spelling keyword ≡ word.now) }
+        ensures all { (keyword : Keyword) → keyword_spelling keyword ≡ word.now → result ≡ Some keyword }
+    {
+        let letter = word.first().copied().unwrap_or(0);
+        for keyword in with_letter(letter) {
+            if keyword.spelling() == word {
+                return Some(*keyword);
+            }
+        }
+        None
+    }
+}
+
+/// The keywords that begin with this letter.
+fn with_letter(letter: u8) -> &'static [Keyword]
+    ensures { result.now ≡ with_letter letter }
+{
+    match letter {
+        b'A' => &[
+            Keyword::Automatic,
+            Keyword::All,
+            Keyword::AtLeastOne,
+            Keyword::And,
+            Keyword::Audit,
+            Keyword::AtLeast,
+        ],
+        b'B' => &[Keyword::Block, Keyword::By],
+        b'C' => &[
+            Keyword::Connectors,
+            Keyword::Connector,
+            Keyword::Control,
+            Keyword::Claim,
+            Keyword::Clock,
+            Keyword::Checkpoint,
+        ],
+        b'D' => &[
+            Keyword::DoneBy,
+            Keyword::Data,
+            Keyword::Drain,
+            Keyword::Done,
+            Keyword::Delete,
+        ],
+        b'E' => &[Keyword::End, Keyword::Exit, Keyword::Expires],
+        b'F' => &[Keyword::From, Keyword::Force],
+        b'I' => &[Keyword::Import, Keyword::Input],
+        b'K' => &[Keyword::Key],
+        b'L' => &[Keyword::Long, Keyword::Loop],
+        b'M' => &[Keyword::Manual, Keyword::Map],
+        b'N' => &[Keyword::Not],
+        b'O' => &[
+            Keyword::Of,
+            Keyword::Otherwise,
+            Keyword::Or,
+            Keyword::Output,
+        ],
+        b'P' => &[
+            Keyword::Person,
+            Keyword::Process,
+            Keyword::ProgramActivity,
+            Keyword::ProcessActivity,
+            Keyword::Performer,
+        ],
+        b'Q' => &[Keyword::Queue],
+        b'R' => &[
+            Keyword::Roles,
+            Keyword::Role,
+            Keyword::Release,
+            Keyword::Rc,
+            Keyword::Restart,
+            Keyword::Resume,
+        ],
+        b'S' => &[
+            Keyword::Structure,
+            Keyword::String,
+            Keyword::Start,
+            Keyword::Starter,
+            Keyword::Source,
+            Keyword::Sink,
+            Keyword::Suspend,
+            Keyword::Show,
+        ],
+        b'T' => &[
+            Keyword::True,
+            Keyword::To,
+            Keyword::Turn,
+            Keyword::Transfer,
+            Keyword::Take,
+            Keyword::Terminate,
+            Keyword::Templates,
+        ],
+        b'W' => &[Keyword::When, Keyword::With, Keyword::Worklist],
+        _ => &[],
+    }
+}

@@ -1,15 +1,12 @@
-//! The table of keywords: which code has a word, and which word has a code.
+//! The keywords, and how each is spelled.
 //!
-//! The crate knows one fixed table and how to look in it. It doesn't know why a word is read or
-//! printed. Begin with `rows`, which has the table, and go on to `table`, which looks in one.
+//! The crate knows one fixed set of words and how to look a word up in it. It doesn't know why a word is read or
+//! printed. Begin with `specs/Spelling.antt`, which spells them, and go on to `keyword`.
 #![tactic(auto)]
 
-pub mod keyword;
-pub mod rows;
-pub mod table;
+mod keyword;
 
-pub use rows::keywords;
-pub use table::Table;
+pub use keyword::Keyword;
 
 #[cfg(test)]
 mod tests {
@@ -17,15 +14,19 @@ mod tests {
     use std::test::Fail;
 
     #[test]
-    fn words_and_codes(rt: HostRuntime) -> Result<(), Fail> {
-        assert_eq!(rt; keywords().code_of(b"STRUCTURE"), Some(1));
-        assert_eq!(rt; keywords().code_of(b"TEMPLATES"), Some(65));
-        assert_eq!(rt; keywords().code_of(b"AT_LEAST"), Some(66));
-        assert_eq!(rt; keywords().code_of(b"or"), None);
-        assert_eq!(rt; keywords().code_of(b""), None);
-        assert_eq!(rt; keywords().name_of(66), Some(b"AT_LEAST".as_slice()));
-        assert_eq!(rt; keywords().name_of(0), None);
-        assert_eq!(rt; keywords().name_of(67), None);
+    fn words_and_keywords(rt: HostRuntime) -> Result<(), Fail> {
+        assert_eq!(rt; Keyword::from_word(b"STRUCTURE"), Some(Keyword::Structure));
+        assert_eq!(rt; Keyword::from_word(b"TEMPLATES"), Some(Keyword::Templates));
+        assert_eq!(rt; Keyword::from_word(b"AT_LEAST"), Some(Keyword::AtLeast));
+        assert_eq!(rt;
+            Keyword::from_word(b"AT_LEAST_ONE"),
+            Some(Keyword::AtLeastOne)
+        );
+        assert_eq!(rt; Keyword::from_word(b"or"), None);
+        assert_eq!(rt; Keyword::from_word(b"ORR"), None);
+        assert_eq!(rt; Keyword::from_word(b""), None);
+        assert_eq!(rt; Keyword::AtLeast.spelling(), b"AT_LEAST".as_slice());
+        assert_eq!(rt; Keyword::Or.spelling(), b"OR".as_slice());
         Ok(())
     }
 }

@@ -1,20 +1,17 @@
 -- A script that is served in memory, one part behind the other.
-use Rattle.std.proofs.Common.{◌≡◌, ℕ, suc, ◌+◌, ◌<◌, if◌then◌else◌, Some, None, Result, Ok, Err, IfOk, List, [], ◌∷◌, ◌++◌, length, map, take, get_or, sym, ap, subst, ◌∙◌, append_assoc, append-nil, add-one, arith}
+use Rattle.std.proofs.Common.{◌≡◌, ℕ, suc, ◌+◌, ◌<◌, Result, Ok, Err, IfOk, List, [], ◌∷◌, ◌++◌, length, map, take, get_or, sym, ap, subst, ◌∙◌, append_assoc, append-nil, add-one, arith}
 use Rattle.std.specs.Borrow.{Bor}
 use Rattle.std.specs.Global.{Vec}
 use Rattle.std.proofs.lemmas.List.{length-append, take_more, map-append}
-use Rattle.std.proofs.lemmas.Grind.{common_steps, flat_map-append}
+use Rattle.std.proofs.lemmas.Grind.{flat_map-append}
 use Rattle.flow_core.specs.declared.state.Core.{Core}
-use Rattle.flow_model.specs.declared.transactions.Numbered.{Numbered}
 use Rattle.flow_disk.specs.declared.disk.Slot.TheVariants.{A}
 use Rattle.flow_session.specs.Inputs.{Given, Line}
 use Rattle.flow_session.specs.Scripts.{ServesOne, NoInput, OneMore}
 use Rattle.flow_session.specs.declared.journal.NoJournal.{NoJournal}
 use Rattle.flow_session.specs.declared.serving.Session.{Session}
-use Rattle.flow_session.proofs.Present.{present_some, present_none}
-use Rattle.live_history.specs.Rows.{HistoryRow, present}
 use Rattle.flow_words.specs.Loading.{ServesInMemory, Serves, lines, next_number, number_of, amount_by, root_script, roots_script}
-use Rattle.flow_words.specs.Loading.{import_script, is_turn, turns_of, done_in, AreFinished, load_line}
+use Rattle.flow_words.specs.Loading.{import_script, turns_of, done_in, AreFinished, load_line}
 use Rattle.flow_words.specs.Loading.{IsSummary, IsLoaded}
 use Rattle.flow_words.specs.Scripts.{all_replies, IsFresh}
 use Rattle.flow_words.specs.declared.load.Loading.{Loading}
@@ -75,23 +72,6 @@ serves_root seed root amount old mid new given before one =
     (serves_behind (roots_script seed root) (root_script (suc root) (amount_by (number_of seed (suc root)))) old mid new before here)
 
 -- ---- the line
-
--- one transaction more
-turns_push : (live : List Numbered) (n : Numbered) → turns_of (live ++ n ∷ []) ≡ turns_of live + (if is_turn n.transaction then 1 else 0)
-turns_push [] n = grind (arith, common_steps)
-turns_push (m ∷ live) n = grind (arith, common_steps, turns_push live n)
-
-pub turns_more : (rows : List HistoryRow) (i : ℕ) (row : HistoryRow) (n : Numbered) → i < length rows → row ≡ get_or rows i row → row ≡ Some n
-    → (count count' one : ℕ) → count ≡ turns_of (present (take i rows)) → one ≡ (if is_turn n.transaction then 1 else 0) → count' ≡ count + one
-    → count' ≡ turns_of (present (take (i + 1) rows))
-turns_more rows i row n less is some count count' one before added more =
-    more ∙ ap (λ (k : ℕ). k + one) before ∙ ap (λ (k : ℕ). turns_of (present (take i rows)) + k) added
-    ∙ sym (turns_push (present (take i rows)) n) ∙ ap turns_of (sym (present_some rows i row n less is some))
-
--- a row without one
-pub turns_same : (rows : List HistoryRow) (i : ℕ) (row : HistoryRow) → i < length rows → row ≡ get_or rows i row → row ≡ None
-    → (count : ℕ) → count ≡ turns_of (present (take i rows)) → count ≡ turns_of (present (take (i + 1) rows))
-turns_same rows i row less is none count before = before ∙ ap turns_of (sym (present_none rows i row less is none))
 
 pub sums_up : {E : Type 0} (r : Result (Vec ℕ) E) (load : Loading) (core : Core) (seed roots number turns done finished : ℕ)
     → core ≡ load.session.core → number ≡ core.number → turns ≡ turns_of core.live.items → AreFinished core roots finished

@@ -28,8 +28,8 @@ use Rattle.flow_session.proofs.Calls.{makes_nothing, makes_so}
 use Rattle.flow_session.proofs.Queued.{stands_queue}
 use Rattle.flow_session.proofs.Scripts.{make_asked}
 use Rattle.machine_verdicts.specs.Keyed.{AreKeyed}
+use Rattle.machine_verdicts.specs.WholeStates.{IsWhole}
 use Rattle.session_laws.proofs.Scripts.{script_replied}
-use Rattle.session_laws.specs.Sittings.{IsWhole}
 use Rattle.worklist_laws.specs.Shelved.{IsRightAndListed}
 use Rattle.text_words.specs.Gathered.{found_input}
 use Rattle.text_words.specs.Limits.{IsWithinLimit, IsBeyondLimit}

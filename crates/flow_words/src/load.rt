@@ -9,12 +9,12 @@ ghost use Rattle.flow_words.specs.Loading.{finishes_b as finishing, AreFinished}
 ghost use Rattle.flow_words.specs.Loading.{import_script, lines as lines_of, is_turn as turn_test, turns_of, load_line};
 ghost use Rattle.flow_words.specs.Loading.{Serves, IsSummary, IsLoaded};
 ghost use Rattle.flow_words.specs.Scripts.{IsFresh};
-ghost use Rattle.live_history.specs.Rows.{present};
 
 use flow_core::Core;
 use flow_model::{Fate, FateRow, Numbered, Transaction};
 use flow_session::{Input, NoJournal, Session};
 use flow_text::decimal;
+use live_history::History;
 use std::alloc::{AllocError, Global};
 
 /// The text that the script imports: amounts above 100 take one way, the others another.
@@ -232,16 +232,14 @@ fn turn_of(numbered: &Numbered) -> u64
     }
 }
 
-/// The Turns among the transactions of these rows.
-fn turns(rows: &[Option<Numbered>]) -> Result<u64, AllocError>
-    ensures { IfOk result (λ turns. turns ≡ turns_of (present rows.now)) }
+/// The Turns among the live transactions.
+fn turns(history: &History) -> Result<u64, AllocError>
+    ensures { IfOk result (λ turns. turns ≡ turns_of history.now.items) }
 {
     let mut turns = 0u64;
-    for row in rows {
-        let Some(numbered) = row else {
-            continue;
-        };
-        turns = with_more(turns, turn_of(numbered))?;
+    let mut walk = history.walk();
+    while let Some(numbered) = walk.next()? {
+        turns = with_more(turns, turn_of(&numbered))?;
     }
     Ok(turns)
 }
@@ -297,7 +295,7 @@ fn summary(load: &Loading, seed: u64, roots: u64) -> Result<Vec<u8>, AllocError>
     ensures { IfOk result (λ text. IsSummary seed roots load.now text.items) }
 {
     let core = load.session.core();
-    let taken = turns(core.live().rows())?;
+    let taken = turns(core.live())?;
     let finished = finished_roots(load.alloc, core, roots)?;
     let numbers = [
         seed,

@@ -1,14 +1,16 @@
 -- What a row more, and rows that are taken away, change of the live transactions and of the places of each root.
-use Rattle.std.proofs.Common.{◌≡◌, ℕ, suc, ◌+◌, ◌<◌, ◌≤◌, ◌==◌, Bool, true, false, not, if◌then◌else◌, Option, Some, None, Result, Ok, Err, OnErr, List, [], ◌∷◌, ◌++◌, length, map, drop, get_or, slice_get, slice_set, refl, sym, ap, ◌∙◌, arith}
+use Rattle.std.proofs.Common.{◌≡◌, ℕ, suc, ◌+◌, ◌<◌, ◌≤◌, ◌==◌, Bool, true, false, if◌then◌else◌, Option, Some, None, Result, Ok, Err, OnErr, List, [], ◌∷◌, ◌++◌, length, map, drop, get_or, slice_set, option_map, refl, sym, ap, ◌∙◌, arith}
 use Rattle.std.specs.List.{filter, filter_map, cons_option}
 use Rattle.std.specs.Option.{is_some, option_and_then}
+use Rattle.std.specs.Global.{Vec}
 use Rattle.std.proofs.Math.Seq.{set-append_seam, get_or-append_seam}
 use Rattle.std.proofs.lemmas.Bool.Decides.{nat_tests}
 use Rattle.std.proofs.lemmas.Grind.{common_steps}
-use Rattle.std.proofs.lemmas.List.{append_assoc, append-nil, drop_all, length-append}
+use Rattle.std.proofs.lemmas.List.{append_assoc, append-nil, at_drop_more, drop_all, length-append}
 use Rattle.std.proofs.lemmas.List.Elements.{filter_map-append}
 use Rattle.std.proofs.lemmas.Option.{slice_get-get_or}
 use Rattle.flow_model.specs.declared.transactions.Numbered.{Numbered}
+use Rattle.live_history.specs.Kept.{record_of, records_of}
 use Rattle.live_history.specs.Rows.{HistoryRow, present, is_row_about, places_from, place_if, cleared, transaction_at}
 use Rattle.live_history.specs.Transactions.{root_about, is_root, about, without_root}
 
@@ -117,7 +119,7 @@ length_present (Some n ∷ rows) = ap suc (length_present rows)
 pub cleared_all : (root : ℕ) (rows : List HistoryRow) → cleared (places_from root 0 rows) rows ≡ map (hidden root) rows
 cleared_all root rows = cleared_behind root [] rows 0 refl
 
--- a row behind the others that has nothing yet, and the same once it has its transaction
+-- a row behind the others that has nothing, and one that has a transaction
 pub places_none : (root : ℕ) (rows : List HistoryRow) → places_from root 0 (rows ++ None ∷ []) ≡ places_from root 0 rows
 places_none root rows = places_more root 0 rows None ∙ append-nil (places_from root 0 rows)
 
@@ -128,9 +130,14 @@ places_some root rows n named place is at =
     ∙ ap (λ i. places_from root 0 rows ++ place_if (is_root root (root_about n.transaction)) i) (at ∙ sym (omega arith))
     ∙ sym (places_more root 0 rows (Some n))
 
-pub set_last : (longer rows : List HistoryRow) (row : HistoryRow) (place : ℕ) → longer ≡ rows ++ None ∷ [] → place ≡ length rows → slice_set longer place row ≡ rows ++ row ∷ []
-set_last longer rows row place is at =
-    ap (λ (l : List HistoryRow). slice_set l place row) is ∙ ap (λ i. slice_set (rows ++ None ∷ []) i row) at ∙ set-append_seam rows None [] row
+set_last : (rows : List HistoryRow) (before row : HistoryRow) (place : ℕ) → place ≡ length rows → slice_set (rows ++ before ∷ []) place row ≡ rows ++ row ∷ []
+set_last rows before row place at = ap (λ i. slice_set (rows ++ before ∷ []) i row) at ∙ set-append_seam rows before [] row
+
+-- a row behind the others whose transaction is taken away again
+pub cleared_last : (after longer rows : List HistoryRow) (n : Numbered) (place : ℕ) → longer ≡ rows ++ Some n ∷ [] → place ≡ length rows → after ≡ slice_set longer place None
+    → after ≡ rows ++ None ∷ []
+cleared_last after longer rows n place are at now =
+    now ∙ ap (λ (l : List HistoryRow). slice_set l place None) are ∙ set_last rows (Some n) None place at
 
 pub on_err : {T E : Type 0} {P : Type 0} (r : Result T E) → P → OnErr r P
 on_err (Ok x) p = tt
@@ -142,3 +149,46 @@ pub all_found : (root : ℕ) (rows : List HistoryRow) (places : List ℕ) (index
 all_found root rows places index found are past so_far =
     sym (append-nil found) ∙ ap (λ l. found ++ filter_map (transaction_at rows) l) (sym (drop_all index places past)) ∙ so_far
     ∙ ap (filter_map (transaction_at rows)) are ∙ found_behind root [] rows 0 refl
+
+-- ---- one row after the other
+
+at_place : (rows : List HistoryRow) (place : ℕ) → place < length rows → transaction_at rows place ≡ get_or rows place None
+at_place rows place less = ap (option_and_then (λ r. r)) (slice_get-get_or rows place None less)
+
+left_at : (rows : List HistoryRow) (place : ℕ) → place < length rows → present (drop place rows) ≡ cons_option (transaction_at rows place) (present (drop (place + 1) rows))
+left_at rows place less =
+    at_drop_more present rows place None less ∙ ap (λ (r : HistoryRow). cons_option r (present (drop (place + 1) rows))) (sym (at_place rows place less))
+
+-- a row that has a transaction brings it
+pub next_some : (rows : List HistoryRow) (place : ℕ) (found : HistoryRow) (n : Numbered) (left : List Numbered) → place < length rows → found ≡ transaction_at rows place → found ≡ Some n
+    → present (drop place rows) ≡ left → left ≡ n ∷ present (drop (place + 1) rows)
+next_some rows place found n left less is some so_far =
+    sym so_far ∙ left_at rows place less ∙ ap (λ (r : HistoryRow). cons_option r (present (drop (place + 1) rows))) (sym is ∙ some)
+
+-- another one brings none
+pub next_none : (rows : List HistoryRow) (place : ℕ) (left : List Numbered) → place < length rows → transaction_at rows place ≡ None
+    → present (drop place rows) ≡ left → present (drop (place + 1) rows) ≡ left
+next_none rows place left less none so_far =
+    sym (left_at rows place less ∙ ap (λ (r : HistoryRow). cons_option r (present (drop (place + 1) rows))) none) ∙ so_far
+
+spelled_row : (row : HistoryRow) (bytes : List ℕ) (rest : List Numbered) → Some bytes ≡ option_map record_of row → records_of (cons_option row rest) ≡ bytes ∷ records_of rest
+spelled_row None bytes rest is = absurd cc
+spelled_row (Some n) bytes rest is = let same : record_of n ≡ bytes = cc in ap (λ (b : List ℕ). b ∷ records_of rest) same
+
+no_row : (row : HistoryRow) → None ≡ option_map record_of row → row ≡ None
+no_row None is = refl
+no_row (Some n) is = absurd cc
+
+-- the same of its record
+pub next_spelled : (rows : List HistoryRow) (place : ℕ) (found : Option (Vec ℕ)) (bytes : Vec ℕ) (left : List Numbered) → place < length rows
+    → option_map (λ v. v.items) found ≡ option_map record_of (transaction_at rows place) → found ≡ Some bytes → present (drop place rows) ≡ left
+    → records_of left ≡ bytes.items ∷ records_of (present (drop (place + 1) rows))
+next_spelled rows place found bytes left less is some so_far =
+    ap records_of (sym so_far ∙ left_at rows place less)
+    ∙ spelled_row (transaction_at rows place) bytes.items (present (drop (place + 1) rows)) (sym (ap (option_map (λ (v : Vec ℕ). v.items)) some) ∙ is)
+
+pub next_unspelled : (rows : List HistoryRow) (place : ℕ) (found : Option (Vec ℕ)) (left : List Numbered) → place < length rows
+    → option_map (λ v. v.items) found ≡ option_map record_of (transaction_at rows place) → found ≡ None → present (drop place rows) ≡ left
+    → present (drop (place + 1) rows) ≡ left
+next_unspelled rows place found left less is none so_far =
+    next_none rows place left less (no_row (transaction_at rows place) (sym (ap (option_map (λ (v : Vec ℕ). v.items)) none) ∙ is)) so_far

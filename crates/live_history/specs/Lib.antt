@@ -1,3 +1,4 @@
 pub mod Transactions
 pub mod Histories
 pub mod Rows
+pub mod Kept

@@ -4,10 +4,14 @@
 //! Begin with [`History`] and `specs/Transactions.antt`.
 #![tactic(auto)]
 
+mod copies;
 mod history;
+mod kept_rows;
 #[cfg(test)]
 mod tests;
 mod transactions;
+mod walk;
 
 pub use history::History;
 pub use transactions::{deleted_root, is_about, root_of, started_root, transaction_root};
+pub use walk::Walk;

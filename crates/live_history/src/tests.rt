@@ -3,11 +3,12 @@ ghost use Rattle.std.specs.Prelude.{◌≤◌};
 
 use crate::History;
 use flow_model::{Numbered, Transaction};
+use flow_txn::encode;
 use std::alloc::{AllocError, Global};
 use std::test::Fail;
 
 /// The numbers of transactions.
-fn numbers(alloc: Global, found: &[&Numbered]) -> Result<Vec<u64>, AllocError> {
+fn numbers(alloc: Global, found: &[Numbered]) -> Result<Vec<u64>, AllocError> {
     let mut numbers = Vec::new(alloc);
     for numbered in found {
         numbers.push(numbered.number)?;
@@ -27,6 +28,65 @@ fn suspensions(alloc: Global, count: u64) -> Result<History, AllocError>
         })?;
     }
     Ok(history)
+}
+
+/// The numbers of the transactions that a walk over a history finds.
+fn walked(alloc: Global, history: &History) -> Result<Vec<u64>, AllocError> {
+    let mut numbers = Vec::new(alloc);
+    let mut walk = history.walk();
+    for _ in 0..100 {
+        let Some(numbered) = walk.next()? else {
+            break;
+        };
+        numbers.push(numbered.number)?;
+    }
+    Ok(numbers)
+}
+
+/// Whether the first record of a history is the one of the suspension of this root with this number.
+fn begins_with(
+    history: &History,
+    alloc: Global,
+    number: u64,
+    root: u64,
+) -> Result<bool, AllocError> {
+    let mut walk = history.walk();
+    let Some(first) = walk.next_record()? else {
+        return Ok(false);
+    };
+    let suspension = encode(alloc, number, &Transaction::Suspend(root))?;
+    Ok(first.as_slice() == suspension.as_slice())
+}
+
+#[test]
+fn a_walk_goes_on_behind_what_was_deleted(rt: HostRuntime) -> Result<(), Fail> {
+    let alloc = rt.alloc();
+    let mut history = suspensions(alloc, 6)?;
+    history.remove(2);
+    assert_eq!(rt;
+        walked(alloc, &history)?.as_slice(),
+        [2, 3, 5, 6].as_slice()
+    );
+    assert!(rt; begins_with(&history, alloc, 2, 3)?);
+    Ok(())
+}
+
+#[test]
+fn transactions_out_of_range_are_kept(rt: HostRuntime) -> Result<(), Fail> {
+    let alloc = rt.alloc();
+    let mut history = suspensions(alloc, 2)?;
+    history.push(Numbered {
+        number: 0,
+        transaction: Transaction::Suspend(2),
+    })?;
+    assert_eq!(rt;
+        numbers(alloc, &history.about(2)?)?.as_slice(),
+        [1, 0].as_slice()
+    );
+    assert_eq!(rt; walked(alloc, &history)?.as_slice(), [1, 2, 0].as_slice());
+    history.remove(3);
+    assert!(rt; begins_with(&history, alloc, 1, 2)?);
+    Ok(())
 }
 
 #[test]
@@ -77,7 +137,6 @@ fn a_history_goes_on_after_most_was_deleted(rt: HostRuntime) -> Result<(), Fail>
         transaction: Transaction::Suspend(1),
     })?;
     assert_eq!(rt; history.len(), 4);
-    assert_eq!(rt; history.rows().len(), 4);
     assert_eq!(rt;
         numbers(alloc, &history.about(1)?)?.as_slice(),
         [10].as_slice()

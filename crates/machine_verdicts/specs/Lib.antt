@@ -1,4 +1,5 @@
 pub mod Keyed
+pub mod WholeStates
 pub mod Verdicts
 pub mod Answers
 pub mod Obeyed

@@ -34,6 +34,7 @@ use Rattle.process_rules.specs.Calling.{place_among}
 use Rattle.process_rules.specs.Knowing.{callee_named}
 use Rattle.process_rules.specs.declared.catalog.Catalog.{Catalog}
 use Rattle.process_rules.specs.declared.people.Callee.{Callee}
+use Rattle.template_check.proofs.Found.{HasNames, output_of}
 use Rattle.template_check.proofs.Meaning.{graph_meant}
 use Rattle.template_check.specs.Built.{end_in}
 use Rattle.template_check.specs.Meant.{Reading, AreParts, NoneLeft, NoPart, OnePart, IsOne, HasInside, IsWork}
@@ -53,8 +54,7 @@ use Rattle.text_graphs.specs.Texts.{structures_in}
 use Rattle.text_laws.proofs.Depth.{depth_of, shallower}
 use Rattle.text_laws.proofs.Inside.{StandsIn, block_stands}
 use Rattle.meaning_laws.specs.Meanings.{reading_behind}
-use Rattle.meaning_laws.proofs.Leaves.{input_there, output_there, input_of, output_of}
-use Rattle.meaning_laws.proofs.Parts.{parts_there, ones_there, exit_there, control_there, data_there, loop_there}
+use Rattle.meaning_laws.proofs.Parts.{parts_there, ones_there, names, exit_there, control_there, data_there, loop_there}
 use Rattle.meaning_laws.proofs.Rules.{IsUnbroken, graph_unbroken}
 use Rattle.meaning_laws.proofs.Wirings.{wiring_there}
 
@@ -161,6 +161,10 @@ module _ (catalog : Catalog) (items : List ItemTree) (g : GraphAt) (h : IsUnbrok
   abbrev leaves : Leafing
   leaves = leaves_in (structures_in items)
 
+  -- its containers have leaves, and its lines name activities of it
+  known : HasNames leaves g
+  known = names catalog.library items g h
+
   -- if an activity is a block, its graph is meant
   abbrev IsMeantInside : ActivityTree → Type 0
   IsMeantInside a = (inner : List ElementTree) → IsBlockOf a inner
@@ -201,8 +205,8 @@ module _ (catalog : Catalog) (items : List ItemTree) (g : GraphAt) (h : IsUnbrok
       → (made : Activity) × IsActivity (IsMeant reading) reading (text_at g) a made
   activity_there a has inside =
       let works = work_by a has inside (out-WorkTree a.work) refl in
-      let input = input_of catalog.library items g h a has in
-      let output = output_of catalog.library items g h a has in
+      let input = (known.containers a has).0 in
+      let output = output_of leaves g known a has in
       let exit = exit_there catalog.library items g h a has in (
         record {
           name = a.name.name;
@@ -255,8 +259,8 @@ module _ (catalog : Catalog) (items : List ItemTree) (g : GraphAt) (h : IsUnbrok
       let acyclic : IsAcyclic (pairs_of controls.0) =
       subst IsAcyclic (sym same) (acyclic_nowhere g.elements h.acyclic) in
       let wiring = wiring_there (length activities.0) controls.0 lines.0 loops.0 within acyclic in
-      let input = input_there catalog.library items g h in
-      let output = output_there catalog.library items g h in (
+      let input = known.input in
+      let output = known.output in (
         roll-Graph (record {
           input = record { leaves = input.0 };
           output = record { leaves = output.0 };

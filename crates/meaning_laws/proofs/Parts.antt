@@ -3,8 +3,7 @@ use Rattle.std.proofs.Common.{◌≡◌, ℕ, suc, Option, Some, None, List, [],
 use Rattle.std.specs.List.{All, Contains}
 use Rattle.std.specs.Option.{option_or}
 use Rattle.std.proofs.lemmas.Option.{none-some}
-use Rattle.conditions.specs.Faults.{mismatch, unknown_leaf, unsized_number}
-use Rattle.conditions.specs.Resolving.{IsClear}
+use Rattle.conditions.specs.Faults.{mismatch, unknown_leaf}
 use Rattle.connector_rules.proofs.Nowhere.{contained}
 use Rattle.containers.specs.Named.{leaf_place}
 use Rattle.flow_model.specs.declared.graphs.Control.{Control}
@@ -36,6 +35,9 @@ use Rattle.leaf_rules.specs.StructureLeaves.{leaves_in}
 use Rattle.process_rules.specs.Numbers.{IsUnsized}
 use Rattle.process_rules.specs.Said.{OfSaid}
 use Rattle.process_rules.specs.Said as said
+use Rattle.template_check.proofs.Found.{IsThere, IsClearIn, clear_in, when_same, HasNames, names_there, output_of}
+use Rattle.template_check.proofs.Found.{source_number, target_number, tested_leaves, AreEndsKnown, ends_known}
+use Rattle.template_check.proofs.Found.{end_there, round_number, source_there, target_there}
 use Rattle.template_check.specs.Meant.{AreParts, NoneLeft, NoPart, OnePart, IsOne, IsExit, IsWhen, IsControl, IsMap}
 use Rattle.template_check.specs.Meant.{AreMaps}
 use Rattle.template_check.specs.Meant.{IsDataBy, IsDataLine, IsLoopBy, IsLoopLine}
@@ -44,8 +46,6 @@ use Rattle.text_graphs.specs.Graphs.{GraphAt}
 use Rattle.text_graphs.specs.Places.{AnyAt}
 use Rattle.text_graphs.specs.Texts.{activities_in, controls_in, lines_in, structures_in}
 use Rattle.meaning_laws.proofs.Conditions.{clear_resolved}
-use Rattle.meaning_laws.proofs.Leaves.{IsThere, output_of, source_number, target_number, tested_leaves, AreEndsKnown}
-use Rattle.meaning_laws.proofs.Leaves.{ends_known, end_there, round_number, source_there, target_there}
 use Rattle.meaning_laws.proofs.Rules.{IsUnbroken}
 
 -- ---- lists
@@ -67,25 +67,6 @@ ones_there R xs all = parts_there (IsOne R) xs (λ k d less. let y = all k d les
 
 -- ---- conditions
 
--- a place that isn't found
-nothing_found : (o : Option ℕ) → ((p : ℕ) → o ≡ Some p → ⊥) → o ≡ None
-nothing_found None none = refl
-nothing_found (Some p) none = absurd (none p refl)
-
--- in a condition, where there is one, no rule finds a place: not an unknown leaf, nor a mismatch, nor a number
-record IsClearIn (known : Option (List Leaf)) (found : Option CondAt) : Type 0 where
-  pub unknown : (p : ℕ) → IsInCond unknown_leaf known found p → ⊥
-  pub mixed : (p : ℕ) → IsInCond mismatch known found p → ⊥
-  pub unsized : (p : ℕ) → OfSaid IsUnsized found p → ⊥
-
--- so nothing stands against the condition
-clear_in : (leaves : List Leaf) (c : CondAt) → IsClearIn (Some leaves) (Some c) → IsClear leaves c.cond
-clear_in leaves c h = record {
-  known = nothing_found (unknown_leaf leaves c.cond) h.unknown;
-  alike = nothing_found (mismatch leaves c.cond) h.mixed;
-  sized = nothing_found (unsized_number c.cond) h.unsized;
-}
-
 -- a transition condition
 when_by : (known : Option (List Leaf)) → IsThere known → (w : WhenTree) → IsClearIn known (uses.when_said w)
     → (made : When) × IsWhen known w made
@@ -95,12 +76,6 @@ when_by (Some found) leaves (written.Cond c) h =
     let made = clear_resolved found c.cond (clear_in found c h) in
     (when.Cond made.0, made.1)
 when_by known leaves written.Otherwise h = (when.Otherwise, refl)
-
--- the two tellings of a condition behind WHEN are one
-when_same : (w : WhenTree) (p : ℕ) → OfSaid IsUnsized (uses.when_said w) p → OfSaid IsUnsized (said.when_said w) p
-when_same written.Always p h = h
-when_same (written.Cond c) p h = h
-when_same written.Otherwise p h = h
 
 -- the first EXIT that is said, where no rule finds a place in one
 exit_by : (known : Option (List Leaf)) → IsThere known → (attrs : List AttrAt)
@@ -162,6 +137,10 @@ module _ (library : Library) (items : List ItemTree) (g : GraphAt) (h : IsUnbrok
   abbrev leaves : Leafing
   leaves = leaves_in (structures_in items)
 
+  -- its containers have leaves, and its lines name activities of it
+  pub names : HasNames leaves g
+  names = names_there (structures_in items) g h.structured h.named
+
   -- ---- activities
 
   -- the output of an activity, with the return code
@@ -177,7 +156,7 @@ module _ (library : Library) (items : List ItemTree) (g : GraphAt) (h : IsUnbrok
       → (made : Option Expr) × IsExit (own_output a) (first_said exit_said a.attrs) made
   exit_there a has =
       let acts = activities_in g.elements in
-      exit_by (own_output a) (output_of library items g h a has) a.attrs
+      exit_by (own_output a) (output_of leaves g names a has) a.attrs
       (λ p e. h.known p (inl (inl (contained (IsInExit unknown_leaf leaves) acts a p has e))))
       (λ p e. h.alike p (inl (inl (contained (IsInExit mismatch leaves) acts a p has e))))
       (λ p e. h.sized p (inr (inl (contained IsUnsizedExit acts a p has e))))
@@ -193,8 +172,8 @@ module _ (library : Library) (items : List ItemTree) (g : GraphAt) (h : IsUnbrok
       → (made : Control) × IsControl leaves g.elements c made
   control_there c has =
       let cs = controls_in g.elements in
-      let from = source_number library items g h c has in
-      let to = target_number library items g h c has in
+      let from = source_number leaves g names c has in
+      let to = target_number leaves g names c has in
       let read = output_leaves leaves g.elements c.from.name in
       let clear : IsClearIn read (uses.when_said c.when) = record {
         unknown = λ p e.
@@ -202,7 +181,7 @@ module _ (library : Library) (items : List ItemTree) (g : GraphAt) (h : IsUnbrok
         mixed = λ p e. h.alike p (inl (inr (contained (IsInTransition mismatch leaves g.elements) cs c p has e)));
         unsized = λ p e. h.sized p (inr (inr (contained IsUnsizedWhen cs c p has (when_same c.when p e))));
       } in
-      let condition = when_by read (tested_leaves library items g h c has) c.when clear in (
+      let condition = when_by read (tested_leaves leaves g names c has) c.when clear in (
         record { from = from.0; to = to.0; when = condition.0 },
         record { from = from.1; to = to.1; when = condition.1 },
       )
@@ -216,21 +195,21 @@ module _ (library : Library) (items : List ItemTree) (g : GraphAt) (h : IsUnbrok
 
   maps_there : (l : DataTree) → Contains (lines_in g.elements) l → HasMaps l
   maps_there l has =
-      let known = ends_known library items g h l has in
+      let known = ends_known leaves g names l has in
       maps_by (line_source leaves (text_at g) l.ends) (line_target leaves (text_at g) l.ends)
-      (source_there library items g h l.ends known) (target_there library items g h l.ends known) l.maps
+      (source_there leaves g names l.ends known) (target_there leaves g names l.ends known) l.maps
       (λ p e. h.known p (inr (contained (IsInLine IsNoLeafIn leaves (text_at g)) (lines_in g.elements) l p has e)))
 
   -- what a line gives to the data lines
   pub data_there : (l : DataTree) → Contains (lines_in g.elements) l
       → (o : Option DataLine) × IsDataLine leaves (text_at g) l o
-  data_there l has = go l.ends (ends_known library items g h l has) (maps_there l has)
+  data_there l has = go l.ends (ends_known leaves g names l has) (maps_there l has)
     where
-      go : (e : EndsTree) → AreEndsKnown library items g h e → HasMaps l
+      go : (e : EndsTree) → AreEndsKnown g.elements e → HasMaps l
           → (o : Option DataLine) × IsDataBy leaves (text_at g) l e o
       go (ends.Line from to) known maps =
-          let begins = end_there library items g h from (λ p nobody. known p (inl nobody)) in
-          let leads = end_there library items g h to (λ p nobody. known p (inr nobody)) in (
+          let begins = end_there leaves g names from (λ p nobody. known p (inl nobody)) in
+          let leads = end_there leaves g names to (λ p nobody. known p (inr nobody)) in (
             Some (record { from = begins.0; to = leads.0; maps = maps.0 }),
             record { begins = begins.1; leads = leads.1; maps = maps.1 },
           )
@@ -239,11 +218,11 @@ module _ (library : Library) (items : List ItemTree) (g : GraphAt) (h : IsUnbrok
   -- and to the LOOP lines
   pub loop_there : (l : DataTree) → Contains (lines_in g.elements) l
       → (o : Option LoopLine) × IsLoopLine leaves (text_at g) l o
-  loop_there l has = go l.ends (ends_known library items g h l has) (maps_there l has)
+  loop_there l has = go l.ends (ends_known leaves g names l has) (maps_there l has)
     where
-      go : (e : EndsTree) → AreEndsKnown library items g h e → HasMaps l
+      go : (e : EndsTree) → AreEndsKnown g.elements e → HasMaps l
           → (o : Option LoopLine) × IsLoopBy leaves (text_at g) l e o
       go (ends.Line from to) known maps = (None, refl)
       go (ends.Loop name) known maps =
-          let of = round_number library items g h name known in
+          let of = round_number leaves g names name known in
           (Some (record { activity = of.0; maps = maps.0 }), record { of = of.1; maps = maps.1 })

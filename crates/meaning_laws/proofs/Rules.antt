@@ -1,6 +1,5 @@
 -- What the rules say of a text that breaks none, and of each of its graphs.
-use Rattle.std.proofs.Common.{ℕ, zero, suc, None, List, [], ◌∷◌, inl, inr}
-use Rattle.std.proofs.lemmas.Option.{none-some}
+use Rattle.std.proofs.Common.{ℕ, None, List, inr}
 use Rattle.connector_rules.specs.Connectors.{NamesNobody, IsOnCycle}
 use Rattle.flow_model.specs.declared.graphs.Library.{Library}
 use Rattle.flow_model.specs.declared.trees.ItemTree.{ItemTree}
@@ -9,22 +8,10 @@ use Rattle.leaf_rules.specs.StructureLeaves.{leaves_in}
 use Rattle.leaf_rules.specs.Structures.{AreNoContainersIn}
 use Rattle.process_rules.specs.Callees.{NamesNoProcess}
 use Rattle.process_rules.specs.Numbers.{IsNumberWrong}
-use Rattle.template_check.specs.Rules.{Rule, IsFirstBroken, later_rules}
+use Rattle.template_check.proofs.FirstBroken.{none_breaks}
+use Rattle.template_check.specs.Rules.{IsFirstBroken, later_rules}
 use Rattle.text_graphs.specs.Graphs.{GraphAt, IsGraphOf}
 use Rattle.text_graphs.specs.Texts.{processes_in, structures_in}
-
--- a place breaks the rule of this number, counted from 0
-abbrev Breaks : List Rule → ℕ → ℕ → Type 0
-Breaks [] k p = ⊥
-Breaks (rule ∷ rules) zero p = rule.1 p
-Breaks (rule ∷ rules) (suc k) p = Breaks rules k p
-
--- where no rule is broken, no place breaks one
-none_breaks : (rules : List Rule) → IsFirstBroken rules None → (k p : ℕ) → Breaks rules k p → ⊥
-none_breaks [] none k p broken = broken
-none_breaks (rule ∷ rules) (inl here) k p broken = none-some (rule.0, here.0) here.1
-none_breaks (rule ∷ rules) (inr past) zero p broken = past.0 p broken
-none_breaks (rule ∷ rules) (inr past) (suc k) p broken = none_breaks rules past.1 k p broken
 
 -- what the rules say of a graph that breaks none of them: its containers have structures, its lines name activities of
 -- it, no connector closes a walk, its conditions and maps read leaves that are there and conditions compare like with

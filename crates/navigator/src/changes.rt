@@ -62,6 +62,10 @@ impl Effects {
               ++ signals;
         }) }
     {
+        if self.signals.is_empty() {
+            self.signals = signals.into_vec();
+            return Ok(());
+        }
         for signal in signals.into_vec() {
             self.signals.push(signal)?;
         }
@@ -807,10 +811,7 @@ impl NestedState {
 }
 
 /// The messages of effects in the order in which they are put.
-pub fn messages_of(
-    alloc: Global,
-    effects: Effects,
-) -> Result<(List<Message>, Vec<Path>), AllocError>
+pub fn messages_of(effects: Effects) -> Result<(List<Message>, Vec<Path>), AllocError>
     ensures { IfOk result (λ given. (given.0 ≡ (told effects).signals ++ (told effects).begins ++ (told effects).ends)
         × (given.1.items ≡ (told effects).ready)) }
 {
@@ -820,10 +821,7 @@ pub fn messages_of(
         ends,
         ready,
     } = effects;
-    let mut messages = List::new(alloc);
-    for signal in signals {
-        messages.push(signal)?;
-    }
+    let mut messages = List::from_vec(signals);
     for begin in begins {
         messages.push(begin)?;
     }

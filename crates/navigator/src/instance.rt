@@ -239,12 +239,12 @@ impl Instance {
     {
         let mut effects = Effects::new(with.alloc);
         let Some(graph) = self.graph(with.library) else {
-            return messages_of(with.alloc, effects);
+            return messages_of(effects);
         };
         let parts = path.parts.as_slice();
         self.scope
             .change(with, graph, path, parts, event, &mut effects)?;
-        let given = messages_of(with.alloc, effects)?;
+        let given = messages_of(effects)?;
         Ok(given)
     }
 

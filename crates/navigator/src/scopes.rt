@@ -166,9 +166,10 @@ impl ScopeState {
             → IsIncoming graph.now → length (out-Graph graph.now).controls < 2 ^ 32
             → Shows ts depth k graph.now input s) }
     {
-        let mut tallies = Vec::new(alloc);
-        let mut ends = Vec::new(alloc);
-        let mut states = Vec::new(alloc);
+        let count = graph.activities.len();
+        let mut tallies = Vec::with_capacity(alloc, count)?;
+        let mut ends = Vec::with_capacity(alloc, count)?;
+        let mut states = Vec::with_capacity(alloc, count)?;
         for (i, activity) in graph.activities.as_slice().iter().enumerate() {
             tallies.push(Tally::new(incoming_count(graph, i)))?;
             ends.push(SourceEnd::Unsettled)?;
@@ -180,7 +181,7 @@ impl ScopeState {
             tallies,
             ends,
             states,
-            unsettled: graph.activities.len(),
+            unsettled: count,
         })
     }
 

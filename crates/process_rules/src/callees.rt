@@ -68,8 +68,11 @@ fn unknown_in_graphs<'a>(known: &Known<'a>, scopes: &[Scope<'a>]) -> Option<u32>
 }
 
 /// Rule 17: a PROCESS_ACTIVITY names a process that isn't there yet.
+///
+/// `known` says it of what the names lead to in `known`, whatever the index of the library is.
 pub fn unknown_processes<'a>(known: &Known<'a>, scopes: &[Scope<'a>]) -> Option<u32>
-    ensures { (processes : List ProcessTree) → IsKnowing known.now processes → IsIndexed known.now.catalog.now
+    ensures known { IsLeastOf (AnyAt (λ s. NamesNone (callee_meant known.now) (graph_at s)) scopes.now) result }
+    ensures named { (processes : List ProcessTree) → IsKnowing known.now processes → IsIndexed known.now.catalog.now
         → IsLeastOf (AnyAt (λ s. NamesNoProcess known.now.catalog.now.library processes (graph_at s)) scopes.now)
         result }
 {

@@ -10,29 +10,23 @@ use Rattle.fdl_lexer.specs.Tokens.{IsNext, AreTokens}
 use Rattle.fdl_lexer.specs.declared.kinds.Token.{Token}
 use Rattle.fdl_lexer.specs.declared.kinds.What.TheVariants.{Word, Number}
 use Rattle.flow_model.specs.declared.commands.Command.TheVariants.{Suspend}
-use Rattle.flow_table.specs.Lookup.{code_in}
-use Rattle.flow_table.specs.Rows.{keyword_rows}
-use Rattle.flow_table.specs.declared.keyword.TheConstants as keyword
+use Rattle.flow_table.specs.declared.keyword.Keyword.TheVariants as keyword
 use Rattle.reopening_laws.specs.Ranges.{IsWorded}
 use Rattle.range_laws.proofs.Worded.{read_worded}
 
 -- the word SUSPEND
 abbrev word : Token
-word = record { what = Word keyword.SUSPEND; from = 0; to = 7 }
+word = record { what = Word keyword.Suspend; from = 0; to = 7 }
 
 -- a number of one digit behind it
 abbrev digit : ℕ → Token
 digit number = record { what = Number number; from = 8; to = 9 }
 
-is_word : code_in keyword_rows (codes "SUSPEND") ≡ Some keyword.SUSPEND
-unfolding keyword_rows
-is_word = refl
-
 -- ---- a root 7
 
 word_next : IsNext (codes "SUSPEND 7") 0 word
 word_next =
-    record { behind = omega arith; some = omega arith; within = omega arith; gap = Nothing; spelled = (refl, refl, is_word) }
+    record { behind = omega arith; some = omega arith; within = omega arith; gap = Nothing; spelled = (refl, refl, refl) }
 
 seven_next : IsNext (codes "SUSPEND 7") 7 (digit 7)
 seven_next = record {
@@ -68,7 +62,7 @@ seven_worded = read_worded (codes "SUSPEND 7") (Suspend 7) (omega arith) seven_s
 
 zero_word : IsNext (codes "SUSPEND 0") 0 word
 zero_word =
-    record { behind = omega arith; some = omega arith; within = omega arith; gap = Nothing; spelled = (refl, refl, is_word) }
+    record { behind = omega arith; some = omega arith; within = omega arith; gap = Nothing; spelled = (refl, refl, refl) }
 
 zero_next : IsNext (codes "SUSPEND 0") 7 (digit 0)
 zero_next = record {

@@ -61,6 +61,7 @@ use Rattle.flow_model.specs.declared.trees.WhenTree.{WhenTree}
 use Rattle.flow_model.specs.declared.trees.WorkTree.{out-WorkTree}
 use Rattle.flow_model.specs.declared.trees.WorkTree.TheVariants as work
 use Rattle.flow_model.specs.declared.trees.WorkTree.TheVariants.{outs-Program, outs-Process, outs-Block}
+use Rattle.flow_table.specs.declared.keyword.Keyword.{Keyword}
 use Rattle.template_check.specs.Compiling.{HasTree}
 use Rattle.text_graphs.specs.Blocks.{IsBlockOf}
 use Rattle.text_graphs.specs.Texts.{activity_of, activities_in, process_of, processes_in}
@@ -158,7 +159,7 @@ control_keeps : {c : ControlTree} {a b : Tokens} → IsControl c a b → AreQuot
 control_keeps (ControlLine h1 h2 h3 h4 h5 h6) q =
     transition_keeps h6 (name_keeps h5 (token_keeps h4 (name_keeps h3 (token_keeps h2 (token_keeps h1 q)))))
 
-end_keeps : {border : ℕ} {e : EndTree} {a b : Tokens} → IsEnd border e a b → AreQuoted a → AreQuoted b
+end_keeps : {border : Keyword} {e : EndTree} {a b : Tokens} → IsEnd border e a b → AreQuoted a → AreQuoted b
 end_keeps (BorderEnd h) q = token_keeps h q
 end_keeps (ActivityEnd h) q = name_keeps h q
 

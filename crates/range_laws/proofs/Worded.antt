@@ -6,6 +6,7 @@ use Rattle.std.specs.Str.Parse.{digits_value}
 use Rattle.std.proofs.Math.Nat.{min-le_right}
 use Rattle.std.proofs.lemmas.List.{length-append, length-map}
 use Rattle.std.proofs.lemmas.List.Elements.{All-nil, All-cons, All-append}
+use Rattle.flow_table.specs.declared.keyword.Keyword.{Keyword}
 use Rattle.command_lang.specs.Grammar as grammar
 use Rattle.command_lang.specs.Reading.{SaysCommand}
 use Rattle.fdl_lexer.specs.declared.kinds.Token.{Token}
@@ -189,10 +190,10 @@ with_writable h q few =
 
 -- ---- other parts
 
-named_leaves : {w : ℕ} {n : Name} {a b : Tokens} → grammar.IsNamed w n a b → Leaves 0 a b
+named_leaves : {w : Keyword} {n : Name} {a b : Tokens} → grammar.IsNamed w n a b → Leaves 0 a b
 named_leaves (grammar.WordAndName h j) = at_least (omega arith) (both (token_leaves h) (name_leaves j))
 
-named_fine : {w : ℕ} {n : Name} {a b : Tokens} → grammar.IsNamed w n a b → AreFine a → is_name n ≡ true
+named_fine : {w : Keyword} {n : Name} {a b : Tokens} → grammar.IsNamed w n a b → AreFine a → is_name n ≡ true
 named_fine (grammar.WordAndName h j) q = name_fine j ((token_leaves h).fine q)
 
 code_leaves : {n : Option NumberAt} {a b : Tokens} → grammar.IsReturnCode n a b → Leaves 0 a b
@@ -228,7 +229,7 @@ who_fine (grammar.ByTake h j) q = number_fine j ((token_leaves h).fine q)
 fewer_left : {n : ℕ} {a b : Tokens} → Leaves n a b → length a ≤ 65536 → length b ≤ 65536
 fewer_left h few = let fewer = h.fewer in omega (arith, few, fewer)
 
-behind_worded : {w : ℕ} {c : Command} {a b : Tokens} → grammar.IsBehind w c a b → AreFine a → length a ≤ 65536
+behind_worded : {w : Keyword} {c : Command} {a b : Tokens} → grammar.IsBehind w c a b → AreFine a → length a ≤ 65536
     → NamesNoZero c → IsWorded c
 behind_worded grammar.Import q few some = tt
 behind_worded (grammar.Start h j k l) q few some =

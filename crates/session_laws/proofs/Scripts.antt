@@ -7,7 +7,8 @@ use Rattle.flow_session.specs.Inputs.{Given}
 use Rattle.flow_session.specs.Scripts.{ServesOne, ServesAll, NoInput, OneMore}
 use Rattle.flow_session.specs.declared.serving.Session.{Session}
 use Rattle.machine.specs.Scripts as machine
-use Rattle.session_laws.specs.Sittings.{sitting, IsWhole}
+use Rattle.machine_verdicts.specs.WholeStates.{IsWhole}
+use Rattle.session_laws.specs.Sittings.{sitting}
 use Rattle.session_laws.proofs.Served.{input_served}
 
 -- ---- one input behind others

@@ -14,7 +14,8 @@ use Rattle.machine.specs.Scripts as machine
 use Rattle.machine_laws.specs.Viewed.{view}
 use Rattle.machine_verdicts.proofs.EachQuery.{answer_seen}
 use Rattle.machine_verdicts.proofs.Obeyed.{command_obeyed, refusal_obeyed, same_obeyed}
-use Rattle.session_laws.specs.Sittings.{sitting, IsWhole}
+use Rattle.machine_verdicts.specs.WholeStates.{IsWhole}
+use Rattle.session_laws.specs.Sittings.{sitting}
 use Rattle.session_laws.proofs.Turning.{drain_seen}
 
 -- ---- what changes nothing

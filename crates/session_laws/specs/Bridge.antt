@@ -8,7 +8,8 @@ use Rattle.flow_session.specs.Scripts.{ServesAll}
 use Rattle.flow_session.specs.declared.serving.Session.{Session}
 use Rattle.machine.specs.Scripts as machine
 use Rattle.machine_laws.specs.Viewed.{view}
-use Rattle.session_laws.specs.Sittings.{sitting, IsWhole}
+use Rattle.machine_verdicts.specs.WholeStates.{IsWhole}
+use Rattle.session_laws.specs.Sittings.{sitting}
 
 -- what an input does to a session, and what is replied, is what it does to the machine and what that replies
 abbrev pub InputsAreReplies : Type 0

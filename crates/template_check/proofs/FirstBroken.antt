@@ -1,6 +1,7 @@
 -- Rules are judged one after another.
-use Rattle.std.proofs.Common.{◌≡◌, ℕ, List, [], ◌∷◌, ◌++◌, Option, Some, None, Result, Ok, Err, refl, inl, inr, ⊎_elim}
+use Rattle.std.proofs.Common.{◌≡◌, ℕ, zero, suc, List, [], ◌∷◌, ◌++◌, Option, Some, None, Result, Ok, Err, refl, inl, inr, ⊎_elim}
 use Rattle.std.specs.Prelude.{IfOk}
+use Rattle.std.proofs.lemmas.Option.{none-some}
 use Rattle.text_graphs.specs.Places.{IsLeastOf}
 use Rattle.template_check.specs.Rules.{Rule, fault_in, IsFirstBroken}
 
@@ -26,3 +27,16 @@ some_then (rule ∷ rules) second fault some = ⊎_elim (λ here. inl here) (λ 
 pub then_first : {T E : Type 0} (first second : List Rule) (result : Result (Result T (ℕ × ℕ)) E) → IsFirstBroken first None → IfOk result (λ judged. IsFirstBroken second (fault_in judged)) → IfOk result (λ judged. IsFirstBroken (first ++ second) (fault_in judged))
 then_first first second (Ok judged) none rest = none_then first second (fault_in judged) none rest
 then_first first second (Err e) none rest = tt
+
+-- a place breaks the rule of this number, counted from 0
+abbrev pub Breaks : List Rule → ℕ → ℕ → Type 0
+Breaks [] k p = ⊥
+Breaks (rule ∷ rules) zero p = rule.1 p
+Breaks (rule ∷ rules) (suc k) p = Breaks rules k p
+
+-- where no rule is broken, no place breaks one
+pub none_breaks : (rules : List Rule) → IsFirstBroken rules None → (k p : ℕ) → Breaks rules k p → ⊥
+none_breaks [] none k p broken = broken
+none_breaks (rule ∷ rules) (inl here) k p broken = none-some (rule.0, here.0) here.1
+none_breaks (rule ∷ rules) (inr past) zero p broken = past.0 p broken
+none_breaks (rule ∷ rules) (inr past) (suc k) p broken = none_breaks rules past.1 k p broken

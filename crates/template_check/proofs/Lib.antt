@@ -15,3 +15,4 @@ pub mod Numbers
 pub mod Resolutions
 pub mod Walking
 pub mod Performers
+pub mod Found

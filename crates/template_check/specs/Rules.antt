@@ -69,6 +69,10 @@ rules_on_leaves items =
     ∷ (14, InGraphs items (MixesKinds (leaves_in (structures_in items))))
     ∷ []
 
+-- rules 4 to 6, 9 to 12, 13 and 14: of the names and leaves that a graph uses
+abbrev pub rules_on_uses : List ItemTree → List Rule
+rules_on_uses items = rules_on_names items ++ rules_on_connectors items ++ rules_on_leaves items
+
 -- an OTHERWISE stands alone, or is the second; a data line goes along no connectors
 abbrev pub rules_on_lines : List ItemTree → List Rule
 rules_on_lines items = (15, InGraphs items IsOtherwiseWrong) ∷ (16, InGraphs items IsUnreachableData) ∷ []

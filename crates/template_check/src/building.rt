@@ -1,19 +1,23 @@
 //! From the tree of an accepted text to its templates and people.
-ghost use Rattle.std.specs.Prelude.{◌≡◌, ℕ, ◌<◌, ◌^◌, Some, length, map, option_copied, IfOk, IfSome};
+//!
+//! What it looks up is there, as its contracts ask: `specs/Found.antt`.
+ghost use Rattle.std.specs.Prelude.{◌≡◌, ℕ, ◌<◌, ◌^◌, Some, length, map, option_copied, IfOk, IfSome, IsSome};
 ghost use Rattle.std.specs.List.{All};
 ghost use Rattle.template_check.specs.Built.{end_in, IsDrawn, IsSound, IsSoundAlone, IsSoundInside, IsSoundWork};
-ghost use Rattle.conditions.specs.Resolving.{IsResolved};
+ghost use Rattle.conditions.specs.Resolving.{IsClear, IsResolved};
 ghost use Rattle.text_graphs.specs.Attributes.{first_said, join_said, joined_by, expires_said, expires_by, exit_said};
 ghost use Rattle.text_graphs.specs.Attributes.{doer_said, done_by, program_by};
 ghost use Rattle.process_rules.specs.Imports.{IsIndexed, next_version};
 ghost use Rattle.template_check.specs.Compiling.{declared_person};
 ghost use Rattle.template_check.specs.Numbered.{HasToldShape};
 ghost use Rattle.process_rules.specs.Calling.{place_behind, place_meant, IsCalling, IsCallingWork};
+ghost use Rattle.template_check.specs.Found.{IsMapFound, AreMapsFound, IsExitFound, IsWhenFound, IsControlFound};
+ghost use Rattle.template_check.specs.Found.{IsLineFound, IsDoerFound, IsActivityFound, AreFoundInside, AreFound};
+ghost use Rattle.text_graphs.specs.Graphs.{process_at};
 ghost use Rattle.text_graphs.specs.GraphTexts.{text_of, process_text};
 ghost use Rattle.leaf_rules.specs.Leaves.{table_leaves, with_code, output_leaves, line_source, line_target};
 ghost use Rattle.template_check.specs.Meant.{AreParts, IsOne, IsMap, AreMaps, IsExit, IsWhen, IsControl, IsDataLine};
 ghost use Rattle.template_check.specs.Meant.{IsLoopLine, IsWork, IsActivity, MeantTo, IsMeant, reading_of};
-ghost use Rattle.template_check.specs.declared.building.BuildFault.TheVariants.{NoMemory};
 ghost use Rattle.text_graphs.specs.Texts.{activities_in, controls_in, names_in, lines_in, edge_of, edges_in};
 ghost use Rattle.text_graphs.specs.Texts.{IsLineAlong};
 ghost use Rattle.template_check.specs.Wires.{pairs_of};
@@ -29,36 +33,8 @@ use flow_model::{
 };
 use leaf_rules::LeafTable;
 use process_rules::{Callee, Catalog, Known, Shape, is_manual};
-use std::alloc::{AllocError, AllocFailed, Global};
+use std::alloc::{AllocError, Global};
 use text_graphs::{Scope, narrow};
-use thiserror::Error;
-
-/// Why an accepted text isn't built.
-#[derive(Clone, Copy, Debug, PartialEq, Eq, Drop, Error)]
-pub enum BuildFault {
-    /// A name, a leaf or a condition stands for nothing, which the rules have ruled out before.
-    #[error("Missing")]
-    Missing,
-    /// There was no memory for it.
-    #[error("NoMemory")]
-    NoMemory,
-}
-
-impl From<AllocError> for BuildFault {
-    ghost from_gives = { λ _ e. e ≡ NoMemory };
-
-    fn from(_fault: AllocError) -> BuildFault {
-        BuildFault::NoMemory
-    }
-}
-
-impl<T: Drop> From<AllocFailed<T>> for BuildFault {
-    ghost from_gives = { λ _ e. e ≡ NoMemory };
-
-    fn from(_fault: AllocFailed<T>) -> BuildFault {
-        BuildFault::NoMemory
-    }
-}
 
 /// What building rests on: the structures with their leaves, and what names stand for.
 #[derive(Drop)]
@@ -156,19 +132,21 @@ fn exit_of(activity: &ActivityTree) -> Option<&CondAt>
 }
 
 /// One map of a line, by the places of its leaves.
-fn leaf_map(map: &MapTree, from: &Leaves, to: &Leaves) -> Result<LeafMap, BuildFault>
-    ensures { length from.now.leaves < 2 ^ 32 → length to.now.leaves < 2 ^ 32
-        → IfOk result (IsMap from.now.leaves to.now.leaves map.now) }
+fn leaf_map(map: &MapTree, from: &Leaves, to: &Leaves) -> LeafMap
+    requires few_from { length from.now.leaves < 2 ^ 32 }
+    requires few_to { length to.now.leaves < 2 ^ 32 }
+    requires found { IsMapFound from.now.leaves to.now.leaves map.now }
+    ensures { IsMap from.now.leaves to.now.leaves map.now result }
 {
-    match find_leaf(from, &map.from) {
-        None => Err(BuildFault::Missing),
-        Some(source) => match find_leaf(to, &map.to) {
-            None => Err(BuildFault::Missing),
-            Some(target) => Ok(LeafMap {
-                from: source,
-                to: target,
-            }),
-        },
+    let Some(source) = find_leaf(from, &map.from) else {
+        unreachable!();
+    };
+    let Some(target) = find_leaf(to, &map.to) else {
+        unreachable!();
+    };
+    LeafMap {
+        from: source,
+        to: target,
     }
 }
 
@@ -178,27 +156,31 @@ fn leaf_maps(
     maps: &[MapTree],
     from: &Leaves,
     to: &Leaves,
-) -> Result<List<LeafMap>, BuildFault>
-    ensures { length from.now.leaves < 2 ^ 32 → length to.now.leaves < 2 ^ 32
-        → IfOk result (AreParts (IsOne (IsMap from.now.leaves to.now.leaves)) maps.now) }
+) -> Result<List<LeafMap>, AllocError>
+    requires few_from { length from.now.leaves < 2 ^ 32 }
+    requires few_to { length to.now.leaves < 2 ^ 32 }
+    requires found { All (IsMapFound from.now.leaves to.now.leaves) maps.now }
+    ensures { IfOk result (AreParts (IsOne (IsMap from.now.leaves to.now.leaves)) maps.now) }
 {
     let mut places = List::new(alloc);
     for map in maps {
-        places.push(leaf_map(map, from, to)?)?;
+        places.push(leaf_map(map, from, to))?;
     }
     Ok(places)
 }
 
 /// A condition with places for these leaves.
-fn expr(alloc: Global, cond: &Cond, leaves: &Leaves) -> Result<Expr, BuildFault>
-    ensures { length leaves.now.leaves < 2 ^ 32 → IfOk result (IsResolved leaves.now.leaves cond.now) }
+fn expr(alloc: Global, cond: &Cond, leaves: &Leaves) -> Result<Expr, AllocError>
+    requires few { length leaves.now.leaves < 2 ^ 32 }
+    requires clear { IsClear leaves.now.leaves cond.now }
+    ensures { IfOk result (IsResolved leaves.now.leaves cond.now) }
 {
     match resolve(alloc, cond, leaves) {
         Ok(expr) => Ok(expr),
-        Err(TypeFault::UnknownMember(place)) => Err(BuildFault::Missing),
-        Err(TypeFault::Mismatch(place)) => Err(BuildFault::Missing),
-        Err(TypeFault::Number(place)) => Err(BuildFault::Missing),
-        Err(TypeFault::NoMemory) => Err(BuildFault::NoMemory),
+        Err(TypeFault::UnknownMember(_)) => unreachable!(),
+        Err(TypeFault::Mismatch(_)) => unreachable!(),
+        Err(TypeFault::Number(_)) => unreachable!(),
+        Err(TypeFault::NoMemory) => Err(AllocError),
     }
 }
 
@@ -217,21 +199,24 @@ fn map_end<'a>(scope: &Scope<'a>, end: &'a EndTree) -> Option<MapEnd>
 
 impl<'a> Builder<'a> {
     /// The exit condition of an activity.
-    fn exit(&self, activity: &'a ActivityTree) -> Result<Option<Expr>, BuildFault>
+    fn exit(&self, activity: &'a ActivityTree) -> Result<Option<Expr>, AllocError>
+        requires { IsExitFound (with_code (table_leaves self.now.table activity.now.output.name))
+            (first_said exit_said activity.now.attrs) }
         ensures { IfOk result (IsExit (with_code (table_leaves self.now.table activity.now.output.name))
             (first_said exit_said activity.now.attrs)) }
     {
         match exit_of(activity) {
             None => Ok(None),
             Some(cond) => match self.table.coded(&activity.output) {
-                None => Err(BuildFault::Missing),
+                None => unreachable!(),
                 Some(leaves) => Ok(Some(expr(self.alloc, &cond.cond, leaves)?)),
             },
         }
     }
 
     /// Who may do an activity, as an attribute says.
-    fn doer_in(&self, scope: &Scope<'a>, what: &'a AttrTree) -> Result<Option<DoneBy>, BuildFault>
+    fn doer_in(&self, scope: &Scope<'a>, what: &'a AttrTree) -> Result<Option<DoneBy>, AllocError>
+        requires { IsDoerFound scope.now.elements.now what.now }
         ensures { IfOk result (λ doer. doer ≡ doer_said scope.now.elements.now what.now) }
     {
         match what {
@@ -240,7 +225,7 @@ impl<'a> Builder<'a> {
             AttrTree::Starter => Ok(Some(DoneBy::Starter)),
             AttrTree::Performer(name) => match scope.number(name) {
                 Some(number) => Ok(Some(DoneBy::PerformerOf(number))),
-                None => Err(BuildFault::Missing),
+                None => unreachable!(),
             },
             AttrTree::When(_) => Ok(None),
             AttrTree::Exit(_) => Ok(None),
@@ -250,7 +235,8 @@ impl<'a> Builder<'a> {
     }
 
     /// Who may do an activity; its starter where nothing is said.
-    fn done_by(&self, scope: &Scope<'a>, activity: &'a ActivityTree) -> Result<DoneBy, BuildFault>
+    fn done_by(&self, scope: &Scope<'a>, activity: &'a ActivityTree) -> Result<DoneBy, AllocError>
+        requires { All (λ x. IsDoerFound scope.now.elements.now x.what) activity.now.attrs }
         ensures { IfOk result (λ doer. doer ≡ done_by scope.now.elements.now activity.now.attrs) }
     {
         for attribute in activity.attrs.as_slice() {
@@ -261,7 +247,8 @@ impl<'a> Builder<'a> {
         Ok(DoneBy::Starter)
     }
 
-    fn program(&self, scope: &Scope<'a>, activity: &'a ActivityTree) -> Result<Program, BuildFault>
+    fn program(&self, scope: &Scope<'a>, activity: &'a ActivityTree) -> Result<Program, AllocError>
+        requires { All (λ x. IsDoerFound scope.now.elements.now x.what) activity.now.attrs }
         ensures { IfOk result (λ made. made ≡ program_by scope.now.elements.now activity.now.attrs) }
     {
         Ok(Program {
@@ -272,7 +259,8 @@ impl<'a> Builder<'a> {
     }
 
     /// The place in the library of the process that an activity runs.
-    fn callee(&self, process: u32, name: &'a NameAt) -> Result<u32, BuildFault>
+    fn callee(&self, process: u32, name: &'a NameAt) -> Result<u32, AllocError>
+        requires { IsSome (place_meant self.now.known process name.now.name) }
         ensures before { IfOk result (λ place. place < place_behind self.now.known.catalog.now process) }
         ensures meant { IfOk result (λ place. place_meant self.now.known process name.now.name ≡ Some place) }
     {
@@ -280,17 +268,20 @@ impl<'a> Builder<'a> {
             Some(Callee::Library(place)) => Ok(place),
             Some(Callee::Text(number)) => {
                 let earlier = narrow(self.known.catalog().library().templates.len())?;
+                // No library has room for more templates than 32 bits tell.
                 match earlier.checked_add(number) {
                     Some(place) => Ok(place),
-                    None => Err(BuildFault::NoMemory),
+                    None => Err(AllocError),
                 }
             }
-            None => Err(BuildFault::Missing),
+            None => unreachable!(),
         }
     }
 
     /// The transition condition of a connector.
-    fn when(&self, scope: &Scope<'a>, control: &'a ControlTree) -> Result<When, BuildFault>
+    fn when(&self, scope: &Scope<'a>, control: &'a ControlTree) -> Result<When, AllocError>
+        requires { IsWhenFound (output_leaves (table_leaves self.now.table) scope.now.elements.now
+            control.now.from.name) control.now.when }
         ensures { IfOk result (IsWhen (output_leaves (table_leaves self.now.table) scope.now.elements.now
             control.now.from.name) control.now.when) }
     {
@@ -298,21 +289,22 @@ impl<'a> Builder<'a> {
             WhenTree::Always => Ok(When::Always),
             WhenTree::Otherwise => Ok(When::Otherwise),
             WhenTree::Cond(cond) => match self.table.connector_leaves(scope, control) {
-                None => Err(BuildFault::Missing),
+                None => unreachable!(),
                 Some(leaves) => Ok(When::Cond(expr(self.alloc, &cond.cond, leaves)?)),
             },
         }
     }
 
     /// A connector.
-    fn control(&self, scope: &Scope<'a>, control: &'a ControlTree) -> Result<Control, BuildFault>
+    fn control(&self, scope: &Scope<'a>, control: &'a ControlTree) -> Result<Control, AllocError>
+        requires { IsControlFound (table_leaves self.now.table) scope.now.elements.now control.now }
         ensures ends { IfOk result (λ made. edge_of scope.now.elements.now control.now ≡ Some (made.from, made.to)) }
         ensures meant { IfOk result (IsControl (table_leaves self.now.table) scope.now.elements.now control.now) }
     {
         match scope.number(&control.from) {
-            None => Err(BuildFault::Missing),
+            None => unreachable!(),
             Some(from) => match scope.number(&control.to) {
-                None => Err(BuildFault::Missing),
+                None => unreachable!(),
                 Some(to) => Ok(Control {
                     from,
                     to,
@@ -322,7 +314,9 @@ impl<'a> Builder<'a> {
         }
     }
 
-    fn controls(&self, scope: &Scope<'a>) -> Result<List<Control>, BuildFault>
+    fn controls(&self, scope: &Scope<'a>) -> Result<List<Control>, AllocError>
+        requires { All (IsControlFound (table_leaves self.now.table) scope.now.elements.now)
+            (controls_in scope.now.elements.now) }
         ensures ends { IfOk result (λ controls. pairs_of controls ≡ edges_in scope.now.elements.now) }
         ensures meant { IfOk result (AreParts (IsOne (IsControl (table_leaves self.now.table) scope.now.elements.now))
             (controls_in scope.now.elements.now)) }
@@ -335,14 +329,16 @@ impl<'a> Builder<'a> {
     }
 
     /// The maps of a line, by the places of the leaves.
-    fn maps(&self, scope: &Scope<'a>, line: &'a DataTree) -> Result<List<LeafMap>, BuildFault>
+    fn maps(&self, scope: &Scope<'a>, line: &'a DataTree) -> Result<List<LeafMap>, AllocError>
+        requires { AreMapsFound (line_source (table_leaves self.now.table) (text_of scope.now) line.now.ends)
+            (line_target (table_leaves self.now.table) (text_of scope.now) line.now.ends) line.now.maps }
         ensures { IfOk result (AreMaps (line_source (table_leaves self.now.table) (text_of scope.now) line.now.ends)
             (line_target (table_leaves self.now.table) (text_of scope.now) line.now.ends) line.now.maps) }
     {
         match self.table.line_source(scope, &line.ends) {
-            None => Err(BuildFault::Missing),
+            None => unreachable!(),
             Some(from) => match self.table.line_target(scope, &line.ends) {
-                None => Err(BuildFault::Missing),
+                None => unreachable!(),
                 Some(to) => leaf_maps(self.alloc, line.maps.as_slice(), from, to),
             },
         }
@@ -353,8 +349,9 @@ impl<'a> Builder<'a> {
         &self,
         scope: &Scope<'a>,
         line: &'a DataTree,
-    ) -> Result<Option<DataLine>, BuildFault>
-        requires { IsLineAlong scope.now.elements.now line.now }
+    ) -> Result<Option<DataLine>, AllocError>
+        requires along { IsLineAlong scope.now.elements.now line.now }
+        requires found { IsLineFound (table_leaves self.now.table) (text_of scope.now) line.now }
         ensures drawn { IfOk result (λ drawn. IfSome drawn (IsDrawn scope.now.elements.now)) }
         ensures meant { IfOk result (IsDataLine (table_leaves self.now.table) (text_of scope.now) line.now) }
     {
@@ -362,10 +359,10 @@ impl<'a> Builder<'a> {
             EndsTree::Loop(_) => Ok(None),
             EndsTree::Line(from, to) => {
                 let Some(from) = map_end(scope, from) else {
-                    return Err(BuildFault::Missing);
+                    unreachable!();
                 };
                 let Some(to) = map_end(scope, to) else {
-                    return Err(BuildFault::Missing);
+                    unreachable!();
                 };
                 let maps = self.maps(scope, line)?;
                 Ok(Some(DataLine { from, to, maps }))
@@ -373,8 +370,10 @@ impl<'a> Builder<'a> {
         }
     }
 
-    fn lines(&self, scope: &Scope<'a>) -> Result<List<DataLine>, BuildFault>
-        requires { All (IsLineAlong scope.now.elements.now) (lines_in scope.now.elements.now) }
+    fn lines(&self, scope: &Scope<'a>) -> Result<List<DataLine>, AllocError>
+        requires along { All (IsLineAlong scope.now.elements.now) (lines_in scope.now.elements.now) }
+        requires found { All (IsLineFound (table_leaves self.now.table) (text_of scope.now))
+            (lines_in scope.now.elements.now) }
         ensures drawn { IfOk result (All (IsDrawn scope.now.elements.now)) }
         ensures meant { IfOk result (AreParts (IsDataLine (table_leaves self.now.table) (text_of scope.now))
             (lines_in scope.now.elements.now)) }
@@ -394,7 +393,8 @@ impl<'a> Builder<'a> {
         &self,
         scope: &Scope<'a>,
         line: &'a DataTree,
-    ) -> Result<Option<LoopLine>, BuildFault>
+    ) -> Result<Option<LoopLine>, AllocError>
+        requires { IsLineFound (table_leaves self.now.table) (text_of scope.now) line.now }
         ensures within { IfOk result (λ made. IfSome made
             (λ l. l.activity < length (activities_in scope.now.elements.now))) }
         ensures meant { IfOk result (IsLoopLine (table_leaves self.now.table) (text_of scope.now) line.now) }
@@ -403,7 +403,7 @@ impl<'a> Builder<'a> {
             EndsTree::Line(_, _) => Ok(None),
             EndsTree::Loop(name) => {
                 let Some(activity) = scope.number(name) else {
-                    return Err(BuildFault::Missing);
+                    unreachable!();
                 };
                 let maps = self.maps(scope, line)?;
                 Ok(Some(LoopLine { activity, maps }))
@@ -411,7 +411,9 @@ impl<'a> Builder<'a> {
         }
     }
 
-    fn loops(&self, scope: &Scope<'a>) -> Result<List<LoopLine>, BuildFault>
+    fn loops(&self, scope: &Scope<'a>) -> Result<List<LoopLine>, AllocError>
+        requires { All (IsLineFound (table_leaves self.now.table) (text_of scope.now))
+            (lines_in scope.now.elements.now) }
         ensures within { IfOk result (All (λ l. l.activity < length (activities_in scope.now.elements.now))) }
         ensures meant { IfOk result (AreParts (IsLoopLine (table_leaves self.now.table) (text_of scope.now))
             (lines_in scope.now.elements.now)) }
@@ -427,28 +429,32 @@ impl<'a> Builder<'a> {
     }
 
     /// The leaves of a structure.
-    fn plain(&self, name: &'a NameAt) -> Result<Leaves, BuildFault>
+    fn plain(&self, name: &'a NameAt) -> Result<Leaves, AllocError>
+        requires { IsSome (table_leaves self.now.table name.now.name) }
         ensures { IfOk result (λ made. table_leaves self.now.table name.now.name ≡ Some made.leaves) }
     {
         match self.table.plain(name) {
-            None => Err(BuildFault::Missing),
+            None => unreachable!(),
             Some(leaves) => Ok(leaves.copy()?),
         }
     }
 
     /// The leaves of a structure, with `_RC` before them.
-    fn coded(&self, name: &'a NameAt) -> Result<Leaves, BuildFault>
+    fn coded(&self, name: &'a NameAt) -> Result<Leaves, AllocError>
+        requires { IsSome (table_leaves self.now.table name.now.name) }
         ensures { IfOk result (λ made. with_code (table_leaves self.now.table name.now.name) ≡ Some made.leaves) }
     {
         match self.table.coded(name) {
-            None => Err(BuildFault::Missing),
+            None => unreachable!(),
             Some(leaves) => Ok(leaves.copy()?),
         }
     }
 
     #[cycle(building)]
-    fn work(&self, scope: &Scope<'a>, activity: &'a ActivityTree) -> Result<Work, BuildFault>
-        requires { IsSoundInside activity.now }
+    fn work(&self, scope: &Scope<'a>, activity: &'a ActivityTree) -> Result<Work, AllocError>
+        requires sound { IsSoundInside activity.now }
+        requires found { IsActivityFound (reading_of self.now) (text_of scope.now) activity.now }
+        requires inside { AreFoundInside (reading_of self.now) scope.now.process activity.now }
         ensures sound { IfOk result IsSoundWork }
         ensures calls { IfOk result (IsCallingWork (place_behind self.now.known.catalog.now scope.now.process)) }
         ensures meant { IfOk result (λ made. (depth : ℕ)
@@ -472,8 +478,10 @@ impl<'a> Builder<'a> {
         &self,
         scope: &Scope<'a>,
         activity: &'a ActivityTree,
-    ) -> Result<Activity, BuildFault>
-        requires { IsSoundInside activity.now }
+    ) -> Result<Activity, AllocError>
+        requires sound { IsSoundInside activity.now }
+        requires found { IsActivityFound (reading_of self.now) (text_of scope.now) activity.now }
+        requires inside { AreFoundInside (reading_of self.now) scope.now.process activity.now }
         ensures named { IfOk result (λ built. built.name ≡ activity.now.name.name) }
         ensures sound { IfOk result (λ built. IsSoundWork built.work) }
         ensures calls { IfOk result (λ built. IsCallingWork
@@ -497,8 +505,10 @@ impl<'a> Builder<'a> {
         &self,
         scope: &Scope<'a>,
         elements: &'a [ElementTree],
-    ) -> Result<List<Activity>, BuildFault>
-        requires { All IsSoundInside (activities_in elements.now) }
+    ) -> Result<List<Activity>, AllocError>
+        requires sound { All IsSoundInside (activities_in elements.now) }
+        requires found { All (IsActivityFound (reading_of self.now) (text_of scope.now)) (activities_in elements.now) }
+        requires inside { All (AreFoundInside (reading_of self.now) scope.now.process) (activities_in elements.now) }
         ensures named { IfOk result (λ built. map (λ a. a.name) built ≡ names_in elements.now) }
         ensures sound { IfOk result (All (λ built. IsSoundWork built.work)) }
         ensures calls { IfOk result (All (λ built. IsCallingWork
@@ -528,8 +538,15 @@ impl<'a> Builder<'a> {
         input: &'a NameAt,
         output: &'a NameAt,
         elements: &'a [ElementTree],
-    ) -> Result<Graph, BuildFault>
-        requires { IsSound elements.now }
+    ) -> Result<Graph, AllocError>
+        requires sound { IsSound elements.now }
+        requires found { AreFound (reading_of self.now) (record {
+          process = process;
+          place = place;
+          input = input.now;
+          output = output.now;
+          elements = elements.now;
+        }) }
         ensures sound { IfOk result IsSoundAlone }
         ensures calls { IfOk result (IsCalling (place_behind self.now.known.catalog.now process)) }
         ensures meant { IfOk result (IsMeant (reading_of self.now)
@@ -564,8 +581,9 @@ impl<'a> Builder<'a> {
         number: u32,
         process: &'a ProcessTree,
         shape: Shape,
-    ) -> Result<Template, BuildFault>
-        requires { IsSound process.now.elements }
+    ) -> Result<Template, AllocError>
+        requires sound { IsSound process.now.elements }
+        requires found { AreFound (reading_of self.now) (process_at number process.now) }
         ensures named { IfOk result (λ template. template.name ≡ process.now.name.name) }
         ensures sound { IfOk result (λ template. IsSoundAlone template.graph) }
         ensures calls { IfOk result (λ template. IsCalling

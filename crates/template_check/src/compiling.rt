@@ -6,20 +6,25 @@ ghost use Rattle.leaf_rules.specs.Leaves.{table_leaves};
 ghost use Rattle.leaf_rules.specs.StructureLeaves.{leaves_in};
 ghost use Rattle.leaf_rules.specs.Structures.{behind};
 ghost use Rattle.leaf_rules.specs.Tables.{HasContainers};
+ghost use Rattle.process_rules.specs.Callees.{NamesNone};
+ghost use Rattle.process_rules.specs.Calling.{callee_meant};
 ghost use Rattle.process_rules.specs.Doers.{NamesNoPerformer};
 ghost use Rattle.process_rules.specs.Imports.{IsIndexed};
 ghost use Rattle.process_rules.specs.Knowing.{IsKnowing};
 ghost use Rattle.process_rules.specs.Shapes.{shape_at, shapes_of, told_shape};
 ghost use Rattle.template_check.specs.Built.{AreSoundBehind, AreSoundWithin, IsSound};
 ghost use Rattle.template_check.specs.Compiling.{AreBuilt, AreLeavesOf, HasPeopleOf, HasTree, IsNamedBy, IsMeantBy};
+ghost use Rattle.template_check.specs.Found.{AreGraphsFound};
+ghost use Rattle.template_check.specs.Meant.{reading_of};
 ghost use Rattle.template_check.specs.Judged.{line_at, IsFault, IsEarlyFault, IsJudged};
 ghost use Rattle.template_check.specs.Rules.{fault_in, from_callees, from_connectors, from_leaves, from_sizes};
-ghost use Rattle.template_check.specs.Rules.{later_rules, IsFirstBroken};
+ghost use Rattle.template_check.specs.Rules.{later_rules, rules_on_connectors, rules_on_names, rules_on_uses};
+ghost use Rattle.template_check.specs.Rules.{IsFirstBroken};
 ghost use Rattle.text_graphs.specs.Blocks.{lists_of, IsCovered};
 ghost use Rattle.text_graphs.specs.Graphs.{graph_at, graphs_in, AreGraphsOf, InGraphs};
 ghost use Rattle.text_graphs.specs.Texts.{processes_in, structures_in, AreNamesApart, IsConnected};
 
-use crate::building::{BuildFault, Builder};
+use crate::building::Builder;
 use crate::faults::{ImportFault, RuleFault};
 use crate::judging::{
     first_of_callees, first_of_connectors, first_of_counts, first_of_leaves, first_of_lines,
@@ -96,10 +101,11 @@ fn built<'a>(
     builder: &Builder<'a>,
     tree: &'a Tree,
     shapes: &[Shape],
-) -> Result<Compiled, BuildFault>
+) -> Result<Compiled, AllocError>
     requires sound { All (λ p. IsSound p.elements) (processes_in tree.now.items) }
     requires performers { (p : ℕ) → InGraphs tree.now.items NamesNoPerformer p → ⊥ }
     requires leaves { AreLeavesOf tree.now.items (table_leaves builder.now.table) }
+    requires found { AreGraphsFound (reading_of builder.now) tree.now.items }
     requires knowing { IsKnowing builder.now.known (processes_in tree.now.items) }
     requires shapes { IsIndexed builder.now.known.catalog.now
         → shapes.now ≡ map told_shape (shapes_of builder.now.known.catalog.now.library (processes_in tree.now.items)) }
@@ -135,8 +141,8 @@ type Judged = Result<Compiled, (u8, u32)>;
 
 /// Judges rules 21 to 24 in a text that breaks none of the others, and builds what it adds where it breaks none.
 ///
-/// Names, leaves and conditions that the rules have passed stand for something, so that nothing is missing then; were it
-/// so all the same, want of memory would be answered, and nothing be added.
+/// Names, leaves and conditions that the rules have passed stand for something, so building finds whatever it looks
+/// up.
 fn sized_and_built<'a>(
     builder: &Builder<'a>,
     tree: &'a Tree,
@@ -145,6 +151,8 @@ fn sized_and_built<'a>(
 ) -> Result<Judged, AllocError>
     requires graphs { AreGraphsOf tree.now.items (graphs_in scopes.now) }
     requires sound { AreSoundWithin scopes.now (processes_in tree.now.items) }
+    requires unbroken { IsFirstBroken (rules_on_uses tree.now.items) None }
+    requires called { (p : ℕ) → InGraphs tree.now.items (NamesNone (callee_meant builder.now.known)) p → ⊥ }
     requires performers { (p : ℕ) → InGraphs tree.now.items NamesNoPerformer p → ⊥ }
     requires structures { behind builder.now.table.structures.definitions.items ≡ structures_in tree.now.items }
     requires leaves { AreLeavesOf tree.now.items (table_leaves builder.now.table) }
@@ -164,11 +172,7 @@ fn sized_and_built<'a>(
     if let Some(fault) = first_of_counts(builder.alloc, tree, structures, known, scopes)? {
         return Ok(Err(fault));
     }
-    match built(builder, tree, shapes) {
-        Ok(compiled) => Ok(Ok(compiled)),
-        Err(BuildFault::Missing) => Err(AllocError),
-        Err(BuildFault::NoMemory) => Err(AllocError),
-    }
+    Ok(Ok(built(builder, tree, shapes)?))
 }
 
 /// Judges rules 17 to 24, and builds what the text adds where none is broken.
@@ -181,6 +185,7 @@ fn called_and_built<'a>(
 ) -> Result<Judged, AllocError>
     requires graphs { AreGraphsOf tree.now.items (graphs_in scopes.now) }
     requires sound { AreSoundWithin scopes.now (processes_in tree.now.items) }
+    requires unbroken { IsFirstBroken (rules_on_uses tree.now.items) None }
     requires structures { behind table.structures.definitions.items ≡ structures_in tree.now.items }
     requires leaves { All (λ s. HasContainers (leaves_in (structures_in tree.now.items)) (table_leaves table)
         (graph_at s)) scopes.now }
@@ -218,6 +223,8 @@ fn read_and_built<'a>(
     requires covered { All (λ p. IsCovered (lists_of scopes.now) p.elements) (processes_in tree.now.items) }
     requires named { All (λ s. AreNamesApart s.elements.now) scopes.now }
     requires connected { All (λ s. IsConnected s.elements.now) scopes.now }
+    requires names { IsFirstBroken (rules_on_names tree.now.items) None }
+    requires connectors { IsFirstBroken (rules_on_connectors tree.now.items) None }
     ensures built { IfOk result (λ judged. IfOk judged (AreBuilt earlier.now tree.now.items)) }
     ensures first { IsIndexed earlier.now → IfOk result
         (λ judged. IsFirstBroken (from_leaves earlier.now.library tree.now.items) (fault_in judged)) }
@@ -245,6 +252,7 @@ fn connected_and_built<'a>(
     requires ordered { IsOrdered (behind structures.definitions.items) structures.order }
     requires covered { All (λ p. IsCovered (lists_of scopes.now) p.elements) (processes_in tree.now.items) }
     requires named { All (λ s. AreNamesApart s.elements.now) scopes.now }
+    requires names { IsFirstBroken (rules_on_names tree.now.items) None }
     ensures built { IfOk result (λ judged. IfOk judged (AreBuilt earlier.now tree.now.items)) }
     ensures first { IsIndexed earlier.now → IfOk result
         (λ judged. IsFirstBroken (from_connectors earlier.now.library tree.now.items) (fault_in judged)) }

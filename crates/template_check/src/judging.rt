@@ -7,6 +7,8 @@ ghost use Rattle.leaf_rules.specs.Leaves.{table_leaves};
 ghost use Rattle.leaf_rules.specs.StructureLeaves.{leaves_in};
 ghost use Rattle.leaf_rules.specs.Structures.{behind};
 ghost use Rattle.leaf_rules.specs.Tables.{HasContainers};
+ghost use Rattle.process_rules.specs.Callees.{NamesNone};
+ghost use Rattle.process_rules.specs.Calling.{callee_meant};
 ghost use Rattle.process_rules.specs.Doers.{NamesNoPerformer};
 ghost use Rattle.process_rules.specs.Imports.{IsIndexed};
 ghost use Rattle.process_rules.specs.Knowing.{ArePeople, IsKnowing};
@@ -154,7 +156,9 @@ pub fn first_of_callees<'a>(
     requires leaves { All (λ s. HasContainers (leaves_in (structures_in tree.now.items)) (table_leaves table.now)
         (graph_at s)) scopes.now }
     requires knowing { IsKnowing known.now (processes_in tree.now.items) }
-    ensures { IsIndexed known.now.catalog.now
+    ensures called { IfOk result (λ fault. fault ≡ None
+        → (p : ℕ) → InGraphs tree.now.items (NamesNone (callee_meant known.now)) p → ⊥) }
+    ensures first { IsIndexed known.now.catalog.now
         → IfOk result (IsFirstBroken (rules_on_callees known.now.catalog.now.library tree.now.items)) }
 {
     if let Some(place) = unknown_processes(known, scopes) {

@@ -82,7 +82,7 @@ fn order(alloc: Global, count: usize, controls: &[Control]) -> Result<List<u32>,
     let pairs = pairs(alloc, controls)?;
     match level_order(alloc, nodes, &pairs) {
         Ok(order) => Ok(order),
-        Err(GraphFault::Cycle(_)) => Ok(List::new(alloc)),
+        Err(GraphFault::Cycle(_)) => unreachable!(),
         Err(GraphFault::NoMemory) => Err(AllocError),
     }
 }

@@ -4,56 +4,56 @@ use Rattle.command_lang.proofs.Commands.{turn_form, suspend_form, resume_form, t
 use Rattle.fdl_parser.proofs.StopsTokens.{taken_number}
 use Rattle.command_lang.proofs.grammar.number_behind.Goals as goal
 
-pub returns-in_ok-number-in-43-clause-read : goal.returns-in_ok-number-in-43-clause-read
-returns-in_ok-number-in-43-clause-read c = rw c.in-43.is (Turn c.in_ok-number-in-43.ensures.read)
+pub returns-in_ok-number-in-Turn-clause-read : goal.returns-in_ok-number-in-Turn-clause-read
+returns-in_ok-number-in-Turn-clause-read c = rw c.in-Turn.is (Turn c.in_ok-number-in-Turn.ensures.read)
 
-pub returns-in_ok-number-in-53-clause-read : goal.returns-in_ok-number-in-53-clause-read
-returns-in_ok-number-in-53-clause-read c = rw c.in-53.is (Suspend c.in_ok-number-in-53.ensures.read)
+pub returns-in_ok-number-in-Suspend-clause-read : goal.returns-in_ok-number-in-Suspend-clause-read
+returns-in_ok-number-in-Suspend-clause-read c = rw c.in-Suspend.is (Suspend c.in_ok-number-in-Suspend.ensures.read)
 
-pub returns-in_ok-number-in-54-clause-read : goal.returns-in_ok-number-in-54-clause-read
-returns-in_ok-number-in-54-clause-read c = rw c.in-54.is (Resume c.in_ok-number-in-54.ensures.read)
+pub returns-in_ok-number-in-Resume-clause-read : goal.returns-in_ok-number-in-Resume-clause-read
+returns-in_ok-number-in-Resume-clause-read c = rw c.in-Resume.is (Resume c.in_ok-number-in-Resume.ensures.read)
 
-pub returns-in_ok-number-in-55-clause-read : goal.returns-in_ok-number-in-55-clause-read
-returns-in_ok-number-in-55-clause-read c = rw c.in-55.is (Terminate c.in_ok-number-in-55.ensures.read)
+pub returns-in_ok-number-in-Terminate-clause-read : goal.returns-in_ok-number-in-Terminate-clause-read
+returns-in_ok-number-in-Terminate-clause-read c = rw c.in-Terminate.is (Terminate c.in_ok-number-in-Terminate.ensures.read)
 
-pub returns-in_ok-number-in-56-clause-read : goal.returns-in_ok-number-in-56-clause-read
-returns-in_ok-number-in-56-clause-read c = rw c.in-56.is (Delete c.in_ok-number-in-56.ensures.read)
+pub returns-in_ok-number-in-Delete-clause-read : goal.returns-in_ok-number-in-Delete-clause-read
+returns-in_ok-number-in-Delete-clause-read c = rw c.in-Delete.is (Delete c.in_ok-number-in-Delete.ensures.read)
 
-pub returns-in_ok-number-in-57-clause-read : goal.returns-in_ok-number-in-57-clause-read
-returns-in_ok-number-in-57-clause-read c = rw c.in-57.is (Clock c.in_ok-number-in-57.ensures.read)
+pub returns-in_ok-number-in-Clock-clause-read : goal.returns-in_ok-number-in-Clock-clause-read
+returns-in_ok-number-in-Clock-clause-read c = rw c.in-Clock.is (Clock c.in_ok-number-in-Clock.ensures.read)
 
-pub returns-in_ok-number-in-43-clause-taken : goal.returns-in_ok-number-in-43-clause-taken
-returns-in_ok-number-in-43-clause-taken c = rw c.in-43.is (alone_taken turn_form (taken_number c.in_ok-number-in-43.ensures.read))
+pub returns-in_ok-number-in-Turn-clause-taken : goal.returns-in_ok-number-in-Turn-clause-taken
+returns-in_ok-number-in-Turn-clause-taken c = rw c.in-Turn.is (alone_taken turn_form (taken_number c.in_ok-number-in-Turn.ensures.read))
 
-pub returns-in_err-number-in-43-clause-stops : goal.returns-in_err-number-in-43-clause-stops
-returns-in_err-number-in-43-clause-stops c = rw c.in-43.is (at_err c.from_residual.result c.in_err-number-in-43.field-0.0 c.from_residual.ensures.1 (alone_stops turn_form c.in_err-number-in-43.ensures.stops))
+pub returns-in_err-number-in-Turn-clause-stops : goal.returns-in_err-number-in-Turn-clause-stops
+returns-in_err-number-in-Turn-clause-stops c = rw c.in-Turn.is (at_err c.from_residual.result c.in_err-number-in-Turn.field-0.0 c.from_residual.ensures.1 (alone_stops turn_form c.in_err-number-in-Turn.ensures.stops))
 
-pub returns-in_ok-number-in-53-clause-taken : goal.returns-in_ok-number-in-53-clause-taken
-returns-in_ok-number-in-53-clause-taken c = rw c.in-53.is (alone_taken suspend_form (taken_number c.in_ok-number-in-53.ensures.read))
+pub returns-in_ok-number-in-Suspend-clause-taken : goal.returns-in_ok-number-in-Suspend-clause-taken
+returns-in_ok-number-in-Suspend-clause-taken c = rw c.in-Suspend.is (alone_taken suspend_form (taken_number c.in_ok-number-in-Suspend.ensures.read))
 
-pub returns-in_err-number-in-53-clause-stops : goal.returns-in_err-number-in-53-clause-stops
-returns-in_err-number-in-53-clause-stops c = rw c.in-53.is (at_err c.from_residual-in_err-number-in-53.result c.in_err-number-in-53.field-0.0 c.from_residual-in_err-number-in-53.ensures.1 (alone_stops suspend_form c.in_err-number-in-53.ensures.stops))
+pub returns-in_err-number-in-Suspend-clause-stops : goal.returns-in_err-number-in-Suspend-clause-stops
+returns-in_err-number-in-Suspend-clause-stops c = rw c.in-Suspend.is (at_err c.from_residual-in_err-number-in-Suspend.result c.in_err-number-in-Suspend.field-0.0 c.from_residual-in_err-number-in-Suspend.ensures.1 (alone_stops suspend_form c.in_err-number-in-Suspend.ensures.stops))
 
-pub returns-in_ok-number-in-54-clause-taken : goal.returns-in_ok-number-in-54-clause-taken
-returns-in_ok-number-in-54-clause-taken c = rw c.in-54.is (alone_taken resume_form (taken_number c.in_ok-number-in-54.ensures.read))
+pub returns-in_ok-number-in-Resume-clause-taken : goal.returns-in_ok-number-in-Resume-clause-taken
+returns-in_ok-number-in-Resume-clause-taken c = rw c.in-Resume.is (alone_taken resume_form (taken_number c.in_ok-number-in-Resume.ensures.read))
 
-pub returns-in_err-number-in-54-clause-stops : goal.returns-in_err-number-in-54-clause-stops
-returns-in_err-number-in-54-clause-stops c = rw c.in-54.is (at_err c.from_residual-in_err-number-in-54.result c.in_err-number-in-54.field-0.0 c.from_residual-in_err-number-in-54.ensures.1 (alone_stops resume_form c.in_err-number-in-54.ensures.stops))
+pub returns-in_err-number-in-Resume-clause-stops : goal.returns-in_err-number-in-Resume-clause-stops
+returns-in_err-number-in-Resume-clause-stops c = rw c.in-Resume.is (at_err c.from_residual-in_err-number-in-Resume.result c.in_err-number-in-Resume.field-0.0 c.from_residual-in_err-number-in-Resume.ensures.1 (alone_stops resume_form c.in_err-number-in-Resume.ensures.stops))
 
-pub returns-in_ok-number-in-55-clause-taken : goal.returns-in_ok-number-in-55-clause-taken
-returns-in_ok-number-in-55-clause-taken c = rw c.in-55.is (alone_taken terminate_form (taken_number c.in_ok-number-in-55.ensures.read))
+pub returns-in_ok-number-in-Terminate-clause-taken : goal.returns-in_ok-number-in-Terminate-clause-taken
+returns-in_ok-number-in-Terminate-clause-taken c = rw c.in-Terminate.is (alone_taken terminate_form (taken_number c.in_ok-number-in-Terminate.ensures.read))
 
-pub returns-in_err-number-in-55-clause-stops : goal.returns-in_err-number-in-55-clause-stops
-returns-in_err-number-in-55-clause-stops c = rw c.in-55.is (at_err c.from_residual-in_err-number-in-55.result c.in_err-number-in-55.field-0.0 c.from_residual-in_err-number-in-55.ensures.1 (alone_stops terminate_form c.in_err-number-in-55.ensures.stops))
+pub returns-in_err-number-in-Terminate-clause-stops : goal.returns-in_err-number-in-Terminate-clause-stops
+returns-in_err-number-in-Terminate-clause-stops c = rw c.in-Terminate.is (at_err c.from_residual-in_err-number-in-Terminate.result c.in_err-number-in-Terminate.field-0.0 c.from_residual-in_err-number-in-Terminate.ensures.1 (alone_stops terminate_form c.in_err-number-in-Terminate.ensures.stops))
 
-pub returns-in_ok-number-in-56-clause-taken : goal.returns-in_ok-number-in-56-clause-taken
-returns-in_ok-number-in-56-clause-taken c = rw c.in-56.is (alone_taken delete_form (taken_number c.in_ok-number-in-56.ensures.read))
+pub returns-in_ok-number-in-Delete-clause-taken : goal.returns-in_ok-number-in-Delete-clause-taken
+returns-in_ok-number-in-Delete-clause-taken c = rw c.in-Delete.is (alone_taken delete_form (taken_number c.in_ok-number-in-Delete.ensures.read))
 
-pub returns-in_err-number-in-56-clause-stops : goal.returns-in_err-number-in-56-clause-stops
-returns-in_err-number-in-56-clause-stops c = rw c.in-56.is (at_err c.from_residual-in_err-number-in-56.result c.in_err-number-in-56.field-0.0 c.from_residual-in_err-number-in-56.ensures.1 (alone_stops delete_form c.in_err-number-in-56.ensures.stops))
+pub returns-in_err-number-in-Delete-clause-stops : goal.returns-in_err-number-in-Delete-clause-stops
+returns-in_err-number-in-Delete-clause-stops c = rw c.in-Delete.is (at_err c.from_residual-in_err-number-in-Delete.result c.in_err-number-in-Delete.field-0.0 c.from_residual-in_err-number-in-Delete.ensures.1 (alone_stops delete_form c.in_err-number-in-Delete.ensures.stops))
 
-pub returns-in_ok-number-in-57-clause-taken : goal.returns-in_ok-number-in-57-clause-taken
-returns-in_ok-number-in-57-clause-taken c = rw c.in-57.is (alone_taken clock_form (taken_number c.in_ok-number-in-57.ensures.read))
+pub returns-in_ok-number-in-Clock-clause-taken : goal.returns-in_ok-number-in-Clock-clause-taken
+returns-in_ok-number-in-Clock-clause-taken c = rw c.in-Clock.is (alone_taken clock_form (taken_number c.in_ok-number-in-Clock.ensures.read))
 
-pub returns-in_err-number-in-57-clause-stops : goal.returns-in_err-number-in-57-clause-stops
-returns-in_err-number-in-57-clause-stops c = rw c.in-57.is (at_err c.from_residual-in_err-number-in-57.result c.in_err-number-in-57.field-0.0 c.from_residual-in_err-number-in-57.ensures.1 (alone_stops clock_form c.in_err-number-in-57.ensures.stops))
+pub returns-in_err-number-in-Clock-clause-stops : goal.returns-in_err-number-in-Clock-clause-stops
+returns-in_err-number-in-Clock-clause-stops c = rw c.in-Clock.is (at_err c.from_residual-in_err-number-in-Clock.result c.in_err-number-in-Clock.field-0.0 c.from_residual-in_err-number-in-Clock.ensures.1 (alone_stops clock_form c.in_err-number-in-Clock.ensures.stops))

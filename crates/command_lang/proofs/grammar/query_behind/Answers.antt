@@ -4,62 +4,62 @@ use Rattle.command_lang.proofs.Commands.{show_form, output_form, input_form, wor
 use Rattle.fdl_parser.proofs.StopsTokens.{taken_number, taken_item, taken_name}
 use Rattle.command_lang.proofs.grammar.query_behind.Goals as goal
 
-pub returns-in_ok-number-in-59-clause-read : goal.returns-in_ok-number-in-59-clause-read
-returns-in_ok-number-in-59-clause-read c = rw c.in-59.is (Show c.in_ok-number-in-59.ensures.read)
+pub returns-in_ok-number-in-Show-clause-read : goal.returns-in_ok-number-in-Show-clause-read
+returns-in_ok-number-in-Show-clause-read c = rw c.in-Show.is (Show c.in_ok-number-in-Show.ensures.read)
 
-pub returns-in_ok-number-in-60-clause-read : goal.returns-in_ok-number-in-60-clause-read
-returns-in_ok-number-in-60-clause-read c = rw c.in-60.is (Output c.in_ok-number-in-60.ensures.read)
+pub returns-in_ok-number-in-Output-clause-read : goal.returns-in_ok-number-in-Output-clause-read
+returns-in_ok-number-in-Output-clause-read c = rw c.in-Output.is (Output c.in_ok-number-in-Output.ensures.read)
 
-pub returns-in_ok-item-in-61-clause-read : goal.returns-in_ok-item-in-61-clause-read
-returns-in_ok-item-in-61-clause-read c = rw c.in-61.is (Input c.in_ok-item-in-61.ensures.read)
+pub returns-in_ok-item-in-Input-clause-read : goal.returns-in_ok-item-in-Input-clause-read
+returns-in_ok-item-in-Input-clause-read c = rw c.in-Input.is (Input c.in_ok-item-in-Input.ensures.read)
 
-pub returns-in_ok-person-in-62-clause-read : goal.returns-in_ok-person-in-62-clause-read
-returns-in_ok-person-in-62-clause-read c = rw c.in-62.is (Worklist c.in_ok-person-in-62.ensures.read)
+pub returns-in_ok-person-in-Worklist-clause-read : goal.returns-in_ok-person-in-Worklist-clause-read
+returns-in_ok-person-in-Worklist-clause-read c = rw c.in-Worklist.is (Worklist c.in_ok-person-in-Worklist.ensures.read)
 
-pub returns-in_ok-number-in-63-clause-read : goal.returns-in_ok-number-in-63-clause-read
-returns-in_ok-number-in-63-clause-read c = rw c.in-63.is (Queue c.in_ok-number-in-63.ensures.read)
+pub returns-in_ok-number-in-Queue-clause-read : goal.returns-in_ok-number-in-Queue-clause-read
+returns-in_ok-number-in-Queue-clause-read c = rw c.in-Queue.is (Queue c.in_ok-number-in-Queue.ensures.read)
 
-pub returns-in_ok-number-in-64-clause-read : goal.returns-in_ok-number-in-64-clause-read
-returns-in_ok-number-in-64-clause-read c = rw c.in-64.is (Audit c.in_ok-number-in-64.ensures.read)
+pub returns-in_ok-number-in-Audit-clause-read : goal.returns-in_ok-number-in-Audit-clause-read
+returns-in_ok-number-in-Audit-clause-read c = rw c.in-Audit.is (Audit c.in_ok-number-in-Audit.ensures.read)
 
-pub returns-in-65-clause-read : goal.returns-in-65-clause-read
-returns-in-65-clause-read c = rw c.in-65.is Templates
+pub returns-in-Templates-clause-read : goal.returns-in-Templates-clause-read
+returns-in-Templates-clause-read c = rw c.in-Templates.is Templates
 
-pub returns-in_ok-number-in-59-clause-taken : goal.returns-in_ok-number-in-59-clause-taken
-returns-in_ok-number-in-59-clause-taken c = rw c.in-59.is (alone_taken show_form (taken_number c.in_ok-number-in-59.ensures.read))
+pub returns-in_ok-number-in-Show-clause-taken : goal.returns-in_ok-number-in-Show-clause-taken
+returns-in_ok-number-in-Show-clause-taken c = rw c.in-Show.is (alone_taken show_form (taken_number c.in_ok-number-in-Show.ensures.read))
 
-pub returns-in_err-number-in-59-clause-stops : goal.returns-in_err-number-in-59-clause-stops
-returns-in_err-number-in-59-clause-stops c = rw c.in-59.is (at_err c.from_residual.result c.in_err-number-in-59.field-0.0 c.from_residual.ensures.1 (alone_stops show_form c.in_err-number-in-59.ensures.stops))
+pub returns-in_err-number-in-Show-clause-stops : goal.returns-in_err-number-in-Show-clause-stops
+returns-in_err-number-in-Show-clause-stops c = rw c.in-Show.is (at_err c.from_residual.result c.in_err-number-in-Show.field-0.0 c.from_residual.ensures.1 (alone_stops show_form c.in_err-number-in-Show.ensures.stops))
 
-pub returns-in_ok-number-in-60-clause-taken : goal.returns-in_ok-number-in-60-clause-taken
-returns-in_ok-number-in-60-clause-taken c = rw c.in-60.is (alone_taken output_form (taken_number c.in_ok-number-in-60.ensures.read))
+pub returns-in_ok-number-in-Output-clause-taken : goal.returns-in_ok-number-in-Output-clause-taken
+returns-in_ok-number-in-Output-clause-taken c = rw c.in-Output.is (alone_taken output_form (taken_number c.in_ok-number-in-Output.ensures.read))
 
-pub returns-in_err-number-in-60-clause-stops : goal.returns-in_err-number-in-60-clause-stops
-returns-in_err-number-in-60-clause-stops c = rw c.in-60.is (at_err c.from_residual-in_err-number-in-60.result c.in_err-number-in-60.field-0.0 c.from_residual-in_err-number-in-60.ensures.1 (alone_stops output_form c.in_err-number-in-60.ensures.stops))
+pub returns-in_err-number-in-Output-clause-stops : goal.returns-in_err-number-in-Output-clause-stops
+returns-in_err-number-in-Output-clause-stops c = rw c.in-Output.is (at_err c.from_residual-in_err-number-in-Output.result c.in_err-number-in-Output.field-0.0 c.from_residual-in_err-number-in-Output.ensures.1 (alone_stops output_form c.in_err-number-in-Output.ensures.stops))
 
-pub returns-in_ok-item-in-61-clause-taken : goal.returns-in_ok-item-in-61-clause-taken
-returns-in_ok-item-in-61-clause-taken c = rw c.in-61.is (alone_taken input_form (taken_item c.in_ok-item-in-61.ensures.read))
+pub returns-in_ok-item-in-Input-clause-taken : goal.returns-in_ok-item-in-Input-clause-taken
+returns-in_ok-item-in-Input-clause-taken c = rw c.in-Input.is (alone_taken input_form (taken_item c.in_ok-item-in-Input.ensures.read))
 
-pub returns-in_err-item-in-61-clause-stops : goal.returns-in_err-item-in-61-clause-stops
-returns-in_err-item-in-61-clause-stops c = rw c.in-61.is (at_err c.from_residual-in_err-item-in-61.result c.in_err-item-in-61.field-0.0 c.from_residual-in_err-item-in-61.ensures.1 (alone_stops input_form c.in_err-item-in-61.ensures.stops))
+pub returns-in_err-item-in-Input-clause-stops : goal.returns-in_err-item-in-Input-clause-stops
+returns-in_err-item-in-Input-clause-stops c = rw c.in-Input.is (at_err c.from_residual-in_err-item-in-Input.result c.in_err-item-in-Input.field-0.0 c.from_residual-in_err-item-in-Input.ensures.1 (alone_stops input_form c.in_err-item-in-Input.ensures.stops))
 
-pub returns-in_ok-person-in-62-clause-taken : goal.returns-in_ok-person-in-62-clause-taken
-returns-in_ok-person-in-62-clause-taken c = rw c.in-62.is (alone_taken worklist_form (taken_name c.in_ok-person-in-62.ensures.read))
+pub returns-in_ok-person-in-Worklist-clause-taken : goal.returns-in_ok-person-in-Worklist-clause-taken
+returns-in_ok-person-in-Worklist-clause-taken c = rw c.in-Worklist.is (alone_taken worklist_form (taken_name c.in_ok-person-in-Worklist.ensures.read))
 
-pub returns-in_err-person-in-62-clause-stops : goal.returns-in_err-person-in-62-clause-stops
-returns-in_err-person-in-62-clause-stops c = rw c.in-62.is (at_err c.from_residual-in_err-person-in-62.result c.in_err-person-in-62.field-0.0 c.from_residual-in_err-person-in-62.ensures.1 (alone_stops worklist_form c.in_err-person-in-62.ensures.stops))
+pub returns-in_err-person-in-Worklist-clause-stops : goal.returns-in_err-person-in-Worklist-clause-stops
+returns-in_err-person-in-Worklist-clause-stops c = rw c.in-Worklist.is (at_err c.from_residual-in_err-person-in-Worklist.result c.in_err-person-in-Worklist.field-0.0 c.from_residual-in_err-person-in-Worklist.ensures.1 (alone_stops worklist_form c.in_err-person-in-Worklist.ensures.stops))
 
-pub returns-in_ok-number-in-63-clause-taken : goal.returns-in_ok-number-in-63-clause-taken
-returns-in_ok-number-in-63-clause-taken c = rw c.in-63.is (alone_taken queue_form (taken_number c.in_ok-number-in-63.ensures.read))
+pub returns-in_ok-number-in-Queue-clause-taken : goal.returns-in_ok-number-in-Queue-clause-taken
+returns-in_ok-number-in-Queue-clause-taken c = rw c.in-Queue.is (alone_taken queue_form (taken_number c.in_ok-number-in-Queue.ensures.read))
 
-pub returns-in_err-number-in-63-clause-stops : goal.returns-in_err-number-in-63-clause-stops
-returns-in_err-number-in-63-clause-stops c = rw c.in-63.is (at_err c.from_residual-in_err-number-in-63.result c.in_err-number-in-63.field-0.0 c.from_residual-in_err-number-in-63.ensures.1 (alone_stops queue_form c.in_err-number-in-63.ensures.stops))
+pub returns-in_err-number-in-Queue-clause-stops : goal.returns-in_err-number-in-Queue-clause-stops
+returns-in_err-number-in-Queue-clause-stops c = rw c.in-Queue.is (at_err c.from_residual-in_err-number-in-Queue.result c.in_err-number-in-Queue.field-0.0 c.from_residual-in_err-number-in-Queue.ensures.1 (alone_stops queue_form c.in_err-number-in-Queue.ensures.stops))
 
-pub returns-in_ok-number-in-64-clause-taken : goal.returns-in_ok-number-in-64-clause-taken
-returns-in_ok-number-in-64-clause-taken c = rw c.in-64.is (alone_taken audit_form (taken_number c.in_ok-number-in-64.ensures.read))
+pub returns-in_ok-number-in-Audit-clause-taken : goal.returns-in_ok-number-in-Audit-clause-taken
+returns-in_ok-number-in-Audit-clause-taken c = rw c.in-Audit.is (alone_taken audit_form (taken_number c.in_ok-number-in-Audit.ensures.read))
 
-pub returns-in_err-number-in-64-clause-stops : goal.returns-in_err-number-in-64-clause-stops
-returns-in_err-number-in-64-clause-stops c = rw c.in-64.is (at_err c.from_residual-in_err-number-in-64.result c.in_err-number-in-64.field-0.0 c.from_residual-in_err-number-in-64.ensures.1 (alone_stops audit_form c.in_err-number-in-64.ensures.stops))
+pub returns-in_err-number-in-Audit-clause-stops : goal.returns-in_err-number-in-Audit-clause-stops
+returns-in_err-number-in-Audit-clause-stops c = rw c.in-Audit.is (at_err c.from_residual-in_err-number-in-Audit.result c.in_err-number-in-Audit.field-0.0 c.from_residual-in_err-number-in-Audit.ensures.1 (alone_stops audit_form c.in_err-number-in-Audit.ensures.stops))
 
-pub returns-in-65-clause-taken : goal.returns-in-65-clause-taken
-returns-in-65-clause-taken c = rw c.in-65.is templates_taken
+pub returns-in-Templates-clause-taken : goal.returns-in-Templates-clause-taken
+returns-in-Templates-clause-taken c = rw c.in-Templates.is templates_taken

@@ -1,7 +1,9 @@
-use Rattle.std.proofs.Common.{◌≡◌, take}
-use Rattle.live_history.specs.Rows.{present}
+use Rattle.std.proofs.Common.{◌≡◌, ◌+◌, length}
 use Rattle.flow_words.specs.Loading.{turns_of}
 use Rattle.flow_words.proofs.load.turns.Given as goal
 
-abbrev pub invariant-loop-row : goal.invariant-loop-row
-invariant-loop-row l = l.turns ≡ turns_of (present (take l.row-index l.rows))
+abbrev pub invariant-loop-numbered : goal.invariant-loop-numbered
+invariant-loop-numbered l = l.turns + turns_of l.walk ≡ turns_of l.history.items
+
+abbrev pub decreases-loop-numbered : goal.decreases-loop-numbered
+decreases-loop-numbered l = length l.walk

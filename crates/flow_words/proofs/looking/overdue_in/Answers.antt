@@ -1,8 +1,10 @@
-use Rattle.std.proofs.Common.{inl, inr, rules}
+use Rattle.std.proofs.Common.{◌∙◌, ap, inl, inr, rules}
+use Rattle.std.proofs.lemmas.Result.{err_from_is_err_and}
 use Rattle.flow_core.specs.Summaries.{summary}
 use Rattle.flow_session.proofs.Runs.{opened}
 use Rattle.flow_words.specs.Outside.{files}
 use Rattle.flow_words.specs.Scripts.{status_of_word}
+use Rattle.flow_words.proofs.EndingLemmas.{word_memory}
 use Rattle.flow_words.proofs.Verdicts.{prints_late, no_memory}
 use Rattle.flow_words.proofs.Serving.{stood_there}
 use Rattle.flow_words.proofs.looking.overdue_in.Goals as goal
@@ -25,3 +27,8 @@ returns-in-Err-clause-cause g c read read' = c.refuse.ensures.cause read read' (
 
 pub returns-in_ok-text-in-Ok-clause-cause : goal.returns-in_ok-text-in-Ok-clause-cause
 returns-in_ok-text-in-Ok-clause-cause g c read read' = c.print_answer.ensures.cause read read' (g.D.Disk.faults c.args.disk.now) (g.D.Disk.faults c.reopen.new.disk)
+
+pub returns-in_err-text-in-Ok-clause-cause : goal.returns-in_err-text-in-Ok-clause-cause
+returns-in_err-text-in-Ok-clause-cause g c read read' =
+    let p = err_from_is_err_and c.from_residual.result c.from_residual.ensures.1 in
+    word_memory read read' (g.K.Sink.faults c.args.out.now) (g.K.Sink.faults c.args.out.now) (g.D.Disk.faults c.args.disk.now) (g.D.Disk.faults c.reopen.new.disk) (status_of_word c.from_residual.result) (ap status_of_word p.1 ∙ p.2)

@@ -1,9 +1,6 @@
 use Rattle.std.proofs.Common.{◌≡◌, ◌++◌}
 use Rattle.navigator.proofs.changes.messages_of.Given as goal
 
-abbrev pub invariant-loop-signal : goal.invariant-loop-signal
-invariant-loop-signal l = l.messages ≡ l.yielded
-
 abbrev pub invariant-loop-begin : goal.invariant-loop-begin
 invariant-loop-begin l = l.messages ≡ l.initial.messages ++ l.yielded
 

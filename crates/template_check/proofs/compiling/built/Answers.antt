@@ -13,14 +13,24 @@ use Rattle.text_graphs.specs.Texts.{person_of, process_of, processes_in}
 use Rattle.template_check.proofs.Meaning.{kind_next, kind_past, meant_next}
 use Rattle.template_check.proofs.Performers.{all_performed}
 use Rattle.template_check.proofs.Calling.{alone_push, ordered_push}
+use Rattle.template_check.proofs.Found.{process_found, process_listed}
 use Rattle.template_check.proofs.Numbers.{all_numbered, next_versions, people_next, people_past, told_next, versions_next, versions_of, versions_past}
 use Rattle.template_check.proofs.ProcessNames.{named_next, named_past}
 use Rattle.text_graphs.proofs.Judging.{all_kept}
 use Rattle.template_check.proofs.compiling.built.Goals as goal
 use Rattle.template_check.proofs.compiling.built.Goals.{in-Structure, in-Person+in_ok-person-in-Person+in_ok-push-in-Person, in-Process+in_ok-narrow-in-Process+in_ok-template-in-Process+in_ok-push-in-Process}
 
-pub template-requires : goal.template-requires
-template-requires c =
+pub template-requires-clause-found : goal.template-requires-clause-found
+template-requires-clause-found c =
+    let items = c.args.tree.now.items in
+    let less = rw c.as_slice-item-items.ensures at c.loop-item-test.true in
+    let is = rw c.as_slice-item-items.ensures at c.item-item.is in
+    let number : c.in_ok-narrow-in-Process.field-0 ≡ length c.loop-item.templates = c.in_ok-narrow-in-Process.ensures ∙ c.len-number.ensures in
+    process_found (reading_of c.args.builder.now) items c.in_ok-narrow-in-Process.field-0 c.in-Process.process c.requires.found
+    (process_listed items c.loop-item.item-index c.item-item.result c.in-Process.process c.loop-item.templates c.in_ok-narrow-in-Process.field-0 less is (ap process_of c.in-Process.is) c.loop-item.invariant.named number)
+
+pub template-requires-clause-sound : goal.template-requires-clause-sound
+template-requires-clause-sound c =
     let less = rw c.as_slice-item-items.ensures at c.loop-item-test.true in
     let is = rw c.as_slice-item-items.ensures at c.item-item.is in
     all_kept process_of (λ (p : ProcessTree). IsSound p.elements) c.args.tree.now.items c.loop-item.item-index c.item-item.result c.in-Process.process c.requires.sound less is (ap process_of c.in-Process.is)

@@ -16,7 +16,7 @@ returns-in-Some-clause-first c = λ indexed.
     let items = c.args.tree.now.items in
     let library = c.args.earlier.now.library in
     let known = c.in_ok-known.known.catalog.now in
-    let callees : IsIndexed known → IsFirstBroken (rules_on_callees known.library items) (Some c.in-Some.fault) = rw c.in-Some.is at c.in_ok-fault.ensures in
+    let callees : IsIndexed known → IsFirstBroken (rules_on_callees known.library items) (Some c.in-Some.fault) = rw c.in-Some.is at c.in_ok-fault.ensures.first in
     let here = subst (λ (k : Catalog). IsIndexed k → IsFirstBroken (rules_on_callees k.library items) (Some c.in-Some.fault)) c.in_ok-known.ensures.catalog callees indexed in
     some_then (rules_on_callees library items) (rules_on_people library items ++ from_sizes library items) c.in-Some.fault here
 
@@ -26,7 +26,7 @@ returns-in-Some-2-clause-first c = λ indexed.
     let library = c.args.earlier.now.library in
     let known = c.in_ok-known.known.catalog.now in
     let people : IsIndexed known → IsFirstBroken (rules_on_people known.library items) (Some c.in-Some-2.fault) = rw c.in-Some-2.is at c.in_ok-fault-2.ensures.first in
-    let callees : IsIndexed known → IsFirstBroken (rules_on_callees known.library items) None = rw c.in_default.is at c.in_ok-fault.ensures in
+    let callees : IsIndexed known → IsFirstBroken (rules_on_callees known.library items) None = rw c.in_default.is at c.in_ok-fault.ensures.first in
     let none = subst (λ (k : Catalog). IsIndexed k → IsFirstBroken (rules_on_callees k.library items) None) c.in_ok-known.ensures.catalog callees indexed in
     let here = subst (λ (k : Catalog). IsIndexed k → IsFirstBroken (rules_on_people k.library items) (Some c.in-Some-2.fault)) c.in_ok-known.ensures.catalog people indexed in
     none_then (rules_on_callees library items) (rules_on_people library items ++ from_sizes library items) (Some c.in-Some-2.fault) none (some_then (rules_on_people library items) (from_sizes library items) c.in-Some-2.fault here)
@@ -46,7 +46,7 @@ returns-clause-first c = λ indexed.
     let library = c.args.earlier.now.library in
     let known = c.in_ok-known.known.catalog.now in
     let people : IsIndexed known → IsFirstBroken (rules_on_people known.library items) None = rw c.in_default-2.is at c.in_ok-fault-2.ensures.first in
-    let callees : IsIndexed known → IsFirstBroken (rules_on_callees known.library items) None = rw c.in_default.is at c.in_ok-fault.ensures in
+    let callees : IsIndexed known → IsFirstBroken (rules_on_callees known.library items) None = rw c.in_default.is at c.in_ok-fault.ensures.first in
     let none = subst (λ (k : Catalog). IsIndexed k → IsFirstBroken (rules_on_callees k.library items) None) c.in_ok-known.ensures.catalog callees indexed in
     let none' = subst (λ (k : Catalog). IsIndexed k → IsFirstBroken (rules_on_people k.library items) None) c.in_ok-known.ensures.catalog people indexed in
     let rest = subst (λ (k : Catalog). IsIndexed k → IfOk c.sized_and_built.result (λ judged. IsFirstBroken (from_sizes k.library items) (fault_in judged))) c.in_ok-known.ensures.catalog c.sized_and_built.ensures.first indexed in
@@ -55,3 +55,6 @@ returns-clause-first c = λ indexed.
 
 pub sized_and_built-requires-clause-performers : goal.sized_and_built-requires-clause-performers
 sized_and_built-requires-clause-performers c = c.in_ok-fault-2.ensures.performers c.in_default-2.is
+
+pub sized_and_built-requires-clause-called : goal.sized_and_built-requires-clause-called
+sized_and_built-requires-clause-called c = c.in_ok-fault.ensures.called c.in_default.is

@@ -27,3 +27,6 @@ returns-clause-first c = λ indexed.
     let none : IsFirstBroken (rules_on_names items) None = rw c.in_default.is at c.in_ok-fault.ensures.first in
     let none' : IsFirstBroken (rules_on_structures items) None = rw c.in_default-2.is at c.in_ok-fault-2.ensures.first in
     then_first (rules_on_names items) (rules_on_structures items ++ later) c.connected_and_built.result none (then_first (rules_on_structures items) later c.connected_and_built.result none' (c.connected_and_built.ensures.first indexed))
+
+pub connected_and_built-requires-clause-names : goal.connected_and_built-requires-clause-names
+connected_and_built-requires-clause-names c = rw c.in_default.is at c.in_ok-fault.ensures.first

@@ -8,3 +8,6 @@ returns-in-None-clause-first c = λ indexed.
     let items = c.args.tree.now.items in
     let none : IsFirstBroken (rules_on_connectors items) None = rw c.in-None.is at c.in_ok-fault.ensures.first in
     then_first (rules_on_connectors items) (from_leaves c.args.earlier.now.library items) c.read_and_built.result none (c.read_and_built.ensures.first indexed)
+
+pub read_and_built-requires-clause-connectors : goal.read_and_built-requires-clause-connectors
+read_and_built-requires-clause-connectors c = rw c.in-None.is at c.in_ok-fault.ensures.first

@@ -8,7 +8,7 @@ use Rattle.leaf_rules.specs.Tables.{HasContainers}
 use Rattle.leaf_rules.proofs.Agreeing.{agreed_everywhere}
 use Rattle.text_graphs.specs.Graphs.{graph_at}
 use Rattle.text_graphs.specs.Texts.{processes_in}
-use Rattle.template_check.specs.Rules.{rules_on_leaves, rules_on_lines, from_callees, IsFirstBroken}
+use Rattle.template_check.specs.Rules.{rules_on_connectors, rules_on_leaves, rules_on_lines, rules_on_names, from_callees, IsFirstBroken}
 use Rattle.template_check.proofs.FirstBroken.{none_then, some_then, then_first}
 use Rattle.template_check.proofs.Together.{sound_text}
 use Rattle.template_check.proofs.compiling.read_and_built.Goals as goal
@@ -40,3 +40,9 @@ returns-clause-first c = λ indexed.
     let later = from_callees c.args.earlier.now.library items in
     let none : IsFirstBroken (rules_on_lines items) None = rw c.in_default-2.is at c.in_ok-fault.ensures.first in
     then_first (rules_on_leaves items) (rules_on_lines items ++ later) c.called_and_built.result c.in_default.ensures (then_first (rules_on_lines items) later c.called_and_built.result none (c.called_and_built.ensures.first indexed))
+
+pub called_and_built-requires-clause-unbroken : goal.called_and_built-requires-clause-unbroken
+called_and_built-requires-clause-unbroken c =
+    let items = c.args.tree.now.items in
+    none_then (rules_on_names items) (rules_on_connectors items ++ rules_on_leaves items) None c.requires.names
+    (none_then (rules_on_connectors items) (rules_on_leaves items) None c.requires.connectors c.in_default.ensures)

@@ -12,8 +12,8 @@ level_order-requires c =
     (subst (λ (n : ℕ). AreNodes n (pairs_of c.args.controls.now)) (sym c.in_ok-nodes.ensures) (pairs_below c.args.count c.args.controls.now c.requires.sources c.requires.targets))
 
 -- no walk is closed, so none was found
-pub returns-in-Err-Cycle : goal.returns-in-Err-Cycle
-returns-in-Err-Cycle c =
+pub unreachable-requires : goal.unreachable-requires
+unreachable-requires c =
     let found = subst (λ (edges : List (ℕ × ℕ)). IsCycleFound edges c.in-Err-Cycle.field-0) (c.deref.ensures.value ∙ c.in_ok-pairs.ensures) c.in-Err-Cycle.ensures in
     let closed : IsClosedWalk (pairs_of c.args.controls.now) c.in-Err-Cycle.field-0-0 = subst (IsCycleFound (pairs_of c.args.controls.now)) c.in-Err-Cycle.field-0-is found in
-    absurd (never_cyclic (pairs_of c.args.controls.now) c.requires.acyclic (c.in-Err-Cycle.field-0-0, closed))
+    never_cyclic (pairs_of c.args.controls.now) c.requires.acyclic (c.in-Err-Cycle.field-0-0, closed)

@@ -3,8 +3,8 @@ use Rattle.fdl_parser.specs.Conditions.{Comparison, Denied, Bracketed, TwoNegati
 use Rattle.fdl_parser.proofs.StopsConditions.{negation_compared, negation_denied, negation_bracketed, stops_comparison, stops_level, stops_denied, stops_inner, stops_closing, conjunction_first, conjunction_more, conjunction_taken, stops_first_negation, stops_next_negation, disjunction_first, disjunction_more, disjunction_taken, stops_first_conjunction, stops_next_conjunction}
 use Rattle.fdl_parser.proofs.Stops.{at_err}
 use Rattle.fdl_parser.proofs.StopsTokens.{stops_mark}
-use Rattle.fdl_parser.specs.declared.cursor.mark.TheConstants as mark
-use Rattle.flow_table.specs.declared.keyword.TheConstants as word
+use Rattle.fdl_lexer.specs.declared.kinds.Mark.TheVariants as mark
+use Rattle.flow_table.specs.declared.keyword.Keyword.TheVariants as word
 use Rattle.std.proofs.Common.{[], ◌∷◌, inl, inr}
 use Rattle.fdl_lexer.specs.declared.kinds.What.TheVariants.{Word, Mark}
 use Rattle.fdl_parser.specs.Tokens.{first_kind}
@@ -81,8 +81,8 @@ negation-returns-in_err-comparison-clause-stops t c = at_err c.from_residual.res
 
 pub negation-returns-then-levels-eq0-clause-stops : goal.negation-returns-then-levels-eq0-clause-stops
 negation-returns-then-levels-eq0-clause-stops t c =
-    let here : Among (Word word.NOT ∷ Mark mark.OPEN ∷ []) (first_kind c.args.self.now.left) =
-    elim c.else-not-denies.branch as (λ w. Among (Word word.NOT ∷ Mark mark.OPEN ∷ []) (first_kind c.args.self.now.left)) [
+    let here : Among (Word word.Not ∷ Mark mark.Open ∷ []) (first_kind c.args.self.now.left) =
+    elim c.else-not-denies.branch as (λ w. Among (Word word.Not ∷ Mark mark.Open ∷ []) (first_kind c.args.self.now.left)) [
       | negation-else-not-denies-via-then-not-denies+else-not-is_mark w ↦ inr (inl (w.is_mark.ensures.yes w.if-not-is_mark.false))
       | negation-else-not-denies-via-else-not-denies w ↦ inl (c.is_word-denies.ensures.yes w.if-not-denies.false)
     ] in
@@ -95,7 +95,7 @@ pub negation-returns-in_err-inner-clause-stops : goal.negation-returns-in_err-in
 negation-returns-in_err-inner-clause-stops t c = at_err c.from_residual-in_err-inner.result c.in_err-inner.field-0.0 c.from_residual-in_err-inner.ensures.1 (let h : 0 < c.args.levels = omega arith in stops_inner h c.in_ok-mark.ensures.read c.in_err-inner.ensures.stops)
 
 pub negation-returns-in_err-mark-2-clause-stops : goal.negation-returns-in_err-mark-2-clause-stops
-negation-returns-in_err-mark-2-clause-stops t c = at_err c.from_residual-in_err-mark-2.result c.in_err-mark-2.field-0.0 c.from_residual-in_err-mark-2.ensures.1 (let h : 0 < c.args.levels = omega arith in stops_closing h c.in_ok-mark.ensures.read c.in_ok-inner.ensures.taken (stops_mark mark.CLOSE c.disjunction.new.self c.mark-2.new.self _ c.in_err-mark-2.ensures.refused))
+negation-returns-in_err-mark-2-clause-stops t c = at_err c.from_residual-in_err-mark-2.result c.in_err-mark-2.field-0.0 c.from_residual-in_err-mark-2.ensures.1 (let h : 0 < c.args.levels = omega arith in stops_closing h c.in_ok-mark.ensures.read c.in_ok-inner.ensures.taken (stops_mark mark.Close c.disjunction.new.self c.mark-2.new.self _ c.in_err-mark-2.ensures.refused))
 
 pub conjunction-returns-then-not-is_word-clause-taken : goal.conjunction-returns-then-not-is_word-clause-taken
 conjunction-returns-then-not-is_word-clause-taken t c = conjunction_taken (conjunction_first c.in_ok-first.ensures.taken) (c.is_word.ensures.no c.if-not-is_word.true)

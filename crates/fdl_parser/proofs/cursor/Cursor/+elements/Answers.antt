@@ -4,7 +4,7 @@ use Rattle.std.proofs.Common.{refl}
 use Rattle.fdl_parser.proofs.Shapes.{word_shape, name_shape, stops_as, stop_now, stop_then, at_first, before, any_stops, free_stops}
 use Rattle.fdl_parser.proofs.Stops.{at_err, stops_second}
 use Rattle.fdl_parser.proofs.StopsTokens.{stops_word}
-use Rattle.flow_table.specs.declared.keyword.TheConstants as word
+use Rattle.flow_table.specs.declared.keyword.Keyword.TheVariants as word
 use Rattle.std.proofs.Common.{ap}
 use Rattle.fdl_parser.specs.Tokens.{Reading}
 use Rattle.fdl_parser.proofs.StopsActivities.{block_same, block_name, block_structures, block_attributes, block_end, structures_shape, closing_shape, element_block, element_control, element_data, element_process, element_program, stops_block, stops_control, stops_data, stops_process, stops_program, elements_none, elements_more, elements_taken, stops_elements}
@@ -46,22 +46,22 @@ elements-loop-elements-preserved t c = record {
 }
 
 pub block-returns-in_err-place-clause-stops : goal.block-returns-in_err-place-clause-stops
-block-returns-in_err-place-clause-stops t c = λ some. at_err c.from_residual.result c.in_err-place.field-0.0 c.from_residual.ensures.1 (free_stops (stops_as (block_same c.args.levels some) (stop_now (block_name c.args.levels).can (stops_word word.BLOCK c.args.self.now c.word.new.self _ c.in_err-place.ensures.refused))))
+block-returns-in_err-place-clause-stops t c = λ some. at_err c.from_residual.result c.in_err-place.field-0.0 c.from_residual.ensures.1 (free_stops (stops_as (block_same c.args.levels some) (stop_now (block_name c.args.levels).can (stops_word word.Block c.args.self.now c.word.new.self _ c.in_err-place.ensures.refused))))
 
 pub block-returns-in_err-name-clause-stops : goal.block-returns-in_err-name-clause-stops
-block-returns-in_err-name-clause-stops t c = λ some. at_err c.from_residual-in_err-name.result c.in_err-name.field-0.0 c.from_residual-in_err-name.ensures.1 (free_stops (stops_as (block_same c.args.levels some) (stop_then (word_shape word.BLOCK) (_, c.in_ok-place.ensures.read) (stop_now (block_structures c.args.levels).can c.in_err-name.ensures.stops))))
+block-returns-in_err-name-clause-stops t c = λ some. at_err c.from_residual-in_err-name.result c.in_err-name.field-0.0 c.from_residual-in_err-name.ensures.1 (free_stops (stops_as (block_same c.args.levels some) (stop_then (word_shape word.Block) (_, c.in_ok-place.ensures.read) (stop_now (block_structures c.args.levels).can c.in_err-name.ensures.stops))))
 
 pub block-returns-in_err-input-clause-stops : goal.block-returns-in_err-input-clause-stops
-block-returns-in_err-input-clause-stops t c = λ some. at_err c.from_residual-in_err-input.result c.in_err-input.field-0.0 c.from_residual-in_err-input.ensures.1 (free_stops (stops_as (block_same c.args.levels some) (stop_then (word_shape word.BLOCK) (_, c.in_ok-place.ensures.read) (stop_then name_shape (_, c.in_ok-name.ensures.read) (stop_now (block_attributes c.args.levels).can c.in_err-input.ensures.stops)))))
+block-returns-in_err-input-clause-stops t c = λ some. at_err c.from_residual-in_err-input.result c.in_err-input.field-0.0 c.from_residual-in_err-input.ensures.1 (free_stops (stops_as (block_same c.args.levels some) (stop_then (word_shape word.Block) (_, c.in_ok-place.ensures.read) (stop_then name_shape (_, c.in_ok-name.ensures.read) (stop_now (block_attributes c.args.levels).can c.in_err-input.ensures.stops)))))
 
 pub block-returns-in_err-attrs-clause-stops : goal.block-returns-in_err-attrs-clause-stops
-block-returns-in_err-attrs-clause-stops t c = λ some. at_err c.from_residual-in_err-attrs.result c.in_err-attrs.field-0.0 c.from_residual-in_err-attrs.ensures.1 (free_stops (stops_as (block_same c.args.levels some) (stop_then (word_shape word.BLOCK) (_, c.in_ok-place.ensures.read) (stop_then name_shape (_, c.in_ok-name.ensures.read) (stop_then structures_shape (_, _, c.in_ok-input.ensures.read) (at_first (block_end c.args.levels).can (before {n = 4} (block_end c.args.levels) refl) c.in_err-attrs.ensures.stops))))))
+block-returns-in_err-attrs-clause-stops t c = λ some. at_err c.from_residual-in_err-attrs.result c.in_err-attrs.field-0.0 c.from_residual-in_err-attrs.ensures.1 (free_stops (stops_as (block_same c.args.levels some) (stop_then (word_shape word.Block) (_, c.in_ok-place.ensures.read) (stop_then name_shape (_, c.in_ok-name.ensures.read) (stop_then structures_shape (_, _, c.in_ok-input.ensures.read) (at_first (block_end c.args.levels).can (before {n = 4} (block_end c.args.levels) refl) c.in_err-attrs.ensures.stops))))))
 
 pub block-returns-in_err-elements-clause-stops : goal.block-returns-in_err-elements-clause-stops
-block-returns-in_err-elements-clause-stops t c = λ some. at_err c.from_residual-in_err-elements.result c.in_err-elements.field-0.0 c.from_residual-in_err-elements.ensures.1 (free_stops (stops_as (block_same c.args.levels some) (stop_then (word_shape word.BLOCK) (_, c.in_ok-place.ensures.read) (stop_then name_shape (_, c.in_ok-name.ensures.read) (stop_then structures_shape (_, _, c.in_ok-input.ensures.read) (stops_second (before {n = 4} (block_end c.args.levels) refl) c.in_ok-attrs.ensures.taken (at_first closing_shape.can (before {n = 3} closing_shape refl) c.in_err-elements.ensures.stops)))))))
+block-returns-in_err-elements-clause-stops t c = λ some. at_err c.from_residual-in_err-elements.result c.in_err-elements.field-0.0 c.from_residual-in_err-elements.ensures.1 (free_stops (stops_as (block_same c.args.levels some) (stop_then (word_shape word.Block) (_, c.in_ok-place.ensures.read) (stop_then name_shape (_, c.in_ok-name.ensures.read) (stop_then structures_shape (_, _, c.in_ok-input.ensures.read) (stops_second (before {n = 4} (block_end c.args.levels) refl) c.in_ok-attrs.ensures.taken (at_first closing_shape.can (before {n = 3} closing_shape refl) c.in_err-elements.ensures.stops)))))))
 
 pub block-returns-in_err-end-clause-stops : goal.block-returns-in_err-end-clause-stops
-block-returns-in_err-end-clause-stops t c = λ some. at_err c.from_residual-in_err-end.result c.in_err-end.field-0.0 c.from_residual-in_err-end.ensures.1 (free_stops (stops_as (block_same c.args.levels some) (stop_then (word_shape word.BLOCK) (_, c.in_ok-place.ensures.read) (stop_then name_shape (_, c.in_ok-name.ensures.read) (stop_then structures_shape (_, _, c.in_ok-input.ensures.read) (stops_second (before {n = 4} (block_end c.args.levels) refl) c.in_ok-attrs.ensures.taken (stops_second (before {n = 3} closing_shape refl) c.in_ok-elements.ensures.taken (any_stops c.in_err-end.ensures.stops))))))))
+block-returns-in_err-end-clause-stops t c = λ some. at_err c.from_residual-in_err-end.result c.in_err-end.field-0.0 c.from_residual-in_err-end.ensures.1 (free_stops (stops_as (block_same c.args.levels some) (stop_then (word_shape word.Block) (_, c.in_ok-place.ensures.read) (stop_then name_shape (_, c.in_ok-name.ensures.read) (stop_then structures_shape (_, _, c.in_ok-input.ensures.read) (stops_second (before {n = 4} (block_end c.args.levels) refl) c.in_ok-attrs.ensures.taken (stops_second (before {n = 3} closing_shape refl) c.in_ok-elements.ensures.taken (any_stops c.in_err-end.ensures.stops))))))))
 
 pub element-returns-then-is_word-clause-taken : goal.element-returns-then-is_word-clause-taken
 element-returns-then-is_word-clause-taken t c = element_block (_, c.in_ok-block.ensures.read)

@@ -1,7 +1,7 @@
 use Rattle.fdl_parser.specs.Items.{NoCount, OneCount}
 use Rattle.fdl_parser.proofs.Stops.{at_err}
 use Rattle.fdl_parser.proofs.StopsTokens.{stops_mark}
-use Rattle.fdl_parser.specs.declared.cursor.mark.TheConstants as mark
+use Rattle.fdl_lexer.specs.declared.kinds.Mark.TheVariants as mark
 use Rattle.fdl_parser.proofs.StopsItems.{count_none, count_some, stops_count, stops_count_close}
 use Rattle.fdl_parser.proofs.cursor.Cursor.count.Goals as goal
 
@@ -21,4 +21,4 @@ pub returns-in_err-count-clause-stops : goal.returns-in_err-count-clause-stops
 returns-in_err-count-clause-stops c = at_err c.from_residual-in_err-count.result c.in_err-count.field-0.0 c.from_residual-in_err-count.ensures.1 (stops_count c.in_ok-mark.ensures.read c.in_err-count.ensures.stops)
 
 pub returns-in_err-mark-2-clause-stops : goal.returns-in_err-mark-2-clause-stops
-returns-in_err-mark-2-clause-stops c = at_err c.from_residual-in_err-mark-2.result c.in_err-mark-2.field-0.0 c.from_residual-in_err-mark-2.ensures.1 (stops_count_close c.in_ok-mark.ensures.read c.in_ok-count.ensures.read (stops_mark mark.CLOSE c.number.new.self c.mark-2.new.self _ c.in_err-mark-2.ensures.refused))
+returns-in_err-mark-2-clause-stops c = at_err c.from_residual-in_err-mark-2.result c.in_err-mark-2.field-0.0 c.from_residual-in_err-mark-2.ensures.1 (stops_count_close c.in_ok-mark.ensures.read c.in_ok-count.ensures.read (stops_mark mark.Close c.number.new.self c.mark-2.new.self _ c.in_err-mark-2.ensures.refused))

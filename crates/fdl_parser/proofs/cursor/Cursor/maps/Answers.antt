@@ -2,7 +2,7 @@ use Rattle.std.proofs.Common.{arith}
 use Rattle.fdl_parser.specs.Lines.{FirstMap, MoreMaps}
 use Rattle.fdl_parser.proofs.Stops.{at_err}
 use Rattle.fdl_parser.proofs.StopsTokens.{stops_word}
-use Rattle.flow_table.specs.declared.keyword.TheConstants as word
+use Rattle.flow_table.specs.declared.keyword.Keyword.TheVariants as word
 use Rattle.fdl_parser.proofs.StopsLines.{maps_first, maps_more, maps_taken, stops_maps, stops_first_map, stops_next_map}
 use Rattle.fdl_parser.proofs.cursor.Cursor.maps.Goals as goal
 
@@ -26,7 +26,7 @@ pub returns-clause-taken : goal.returns-clause-taken
 returns-clause-taken c = maps_taken c.loop-self.invariant.so_far (c.is_mark.ensures.no c.loop-self-test.false)
 
 pub returns-in_err-word-clause-stops : goal.returns-in_err-word-clause-stops
-returns-in_err-word-clause-stops c = at_err c.from_residual.result c.in_err-word.field-0.0 c.from_residual.ensures.1 (stops_maps (stops_word word.MAP c.args.self.now c.word.new.self _ c.in_err-word.ensures.refused))
+returns-in_err-word-clause-stops c = at_err c.from_residual.result c.in_err-word.field-0.0 c.from_residual.ensures.1 (stops_maps (stops_word word.Map c.args.self.now c.word.new.self _ c.in_err-word.ensures.refused))
 
 pub returns-in_err-first-clause-stops : goal.returns-in_err-first-clause-stops
 returns-in_err-first-clause-stops c = at_err c.from_residual-in_err-first.result c.in_err-first.field-0.0 c.from_residual-in_err-first.ensures.1 (stops_first_map c.in_ok-word.ensures.read c.in_err-first.ensures.stops)

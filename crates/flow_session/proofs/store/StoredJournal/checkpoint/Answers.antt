@@ -5,7 +5,6 @@ use Rattle.flow_disk.proofs.Runs.{weaker}
 use Rattle.txn_log.specs.declared.log.Log.{Log}
 use Rattle.checkpoint.specs.Compacting.{IsCompacted, MayBeCompacted}
 use Rattle.flow_core.specs.Summaries.{summary}
-use Rattle.live_history.specs.Rows.{present}
 use Rattle.live_history.specs.declared.history.History.{History}
 use Rattle.flow_session.specs.Fitting.{HasFitRecords}
 use Rattle.flow_session.specs.Histories.{StandsFor, payloads}
@@ -18,9 +17,9 @@ pub returns-in_err-move_log-clause-any_moment : goal.returns-in_err-move_log-cla
 returns-in_err-move_log-clause-any_moment g c told =
     let d = g.D.Disk in
     let is = c.requires.open told in
-    let live = ap payloads (c.rows-rows.ensures ∙ ap (λ (h : History). h.items) c.live.ensures) in
+    let live = ap (λ (h : History). payloads h.items) c.live-history.ensures in
     in_journal (λ j. j.disk) d.moment d.left_since _ _ (StandsFor (summary c.args.core.now))
-    (weaker d.moment d.left_since d.images c.args.self.now.disk c.move_log.new.disk (MayBeCompacted (opposite c.args.self.now.log.slot) c.in-Some.header (payloads (present c.rows-rows.result.now)) (d.seen c.args.self.now.disk)) (StandsFor (summary c.args.core.now)) (c.move_log.ensures.any_moment told is.only)
+    (weaker d.moment d.left_since d.images c.args.self.now.disk c.move_log.new.disk (MayBeCompacted (opposite c.args.self.now.log.slot) c.in-Some.header (payloads c.live-history.result.now.items) (d.seen c.args.self.now.disk)) (StandsFor (summary c.args.core.now)) (c.move_log.ensures.any_moment told is.only)
     (λ image may. may_be_compacted (summary c.args.core.now) (opposite c.args.self.now.log.slot) c.in-Some.header (d.seen c.args.self.now.disk) image is.holds c.in-Some.ensures.2
     (subst (λ ps. MayBeCompacted (opposite c.args.self.now.log.slot) c.in-Some.header ps (d.seen c.args.self.now.disk) image) live may)))
 
@@ -28,7 +27,7 @@ pub returns-clause-kept : goal.returns-clause-kept
 returns-clause-kept g c told =
     let d = g.D.Disk in
     let is = c.requires.open told in
-    let live = ap payloads (c.rows-rows.ensures ∙ ap (λ (h : History). h.items) c.live.ensures) in
+    let live = ap (λ (h : History). payloads h.items) c.live-history.ensures in
     record {
       alive = c.in_ok-move_log.ensures.alive;
       stands = c.in_ok-move_log.ensures.stands told;
@@ -41,9 +40,9 @@ pub returns-clause-any_moment : goal.returns-clause-any_moment
 returns-clause-any_moment g c told =
     let d = g.D.Disk in
     let is = c.requires.open told in
-    let live = ap payloads (c.rows-rows.ensures ∙ ap (λ (h : History). h.items) c.live.ensures) in
+    let live = ap (λ (h : History). payloads h.items) c.live-history.ensures in
     in_journal (λ j. j.disk) d.moment d.left_since _ _ (StandsFor (summary c.args.core.now))
-    (weaker d.moment d.left_since d.images c.args.self.now.disk c.move_log.new.disk (MayBeCompacted (opposite c.args.self.now.log.slot) c.in-Some.header (payloads (present c.rows-rows.result.now)) (d.seen c.args.self.now.disk)) (StandsFor (summary c.args.core.now)) (c.move_log.ensures.any_moment told is.only)
+    (weaker d.moment d.left_since d.images c.args.self.now.disk c.move_log.new.disk (MayBeCompacted (opposite c.args.self.now.log.slot) c.in-Some.header (payloads c.live-history.result.now.items) (d.seen c.args.self.now.disk)) (StandsFor (summary c.args.core.now)) (c.move_log.ensures.any_moment told is.only)
     (λ image may. may_be_compacted (summary c.args.core.now) (opposite c.args.self.now.log.slot) c.in-Some.header (d.seen c.args.self.now.disk) image is.holds c.in-Some.ensures.2
     (subst (λ ps. MayBeCompacted (opposite c.args.self.now.log.slot) c.in-Some.header ps (d.seen c.args.self.now.disk) image) live may)))
 
@@ -51,7 +50,7 @@ pub returns-clause-moved : goal.returns-clause-moved
 returns-clause-moved g c =
     let d = g.D.Disk in
     let log = c.in_ok-move_log.ensures.log in
-    let live = ap payloads (c.rows-rows.ensures ∙ ap (λ (h : History). h.items) c.live.ensures) in
+    let live = ap (λ (h : History). payloads h.items) c.live-history.ensures in
     record {
       slot = log.0;
       generation = log.1 ∙ c.in-Some.ensures.1;
@@ -78,11 +77,11 @@ pub returns-in_err-move_log-clause-fit : goal.returns-in_err-move_log-clause-fit
 returns-in_err-move_log-clause-fit g c told now fit =
     let d = g.D.Disk in
     let is = c.requires.open told in
-    let live = ap payloads (c.rows-rows.ensures ∙ ap (λ (h : History). h.items) c.live.ensures) in
+    let live = ap (λ (h : History). payloads h.items) c.live-history.ensures in
     let seen_fit = now (d.seen c.args.self.now.disk)
     (seen_left d.moment d.left_since d.images g.met.D.Disk.counts_now d.tells d.seen g.met.D.Disk.honest c.args.self.now.disk told) in
     in_journal (λ j. j.disk) d.moment d.left_since _ _ HasFitRecords
-    (weaker d.moment d.left_since d.images c.args.self.now.disk c.move_log.new.disk (MayBeCompacted (opposite c.args.self.now.log.slot) c.in-Some.header (payloads (present c.rows-rows.result.now)) (d.seen c.args.self.now.disk)) HasFitRecords (c.move_log.ensures.any_moment told is.only)
+    (weaker d.moment d.left_since d.images c.args.self.now.disk c.move_log.new.disk (MayBeCompacted (opposite c.args.self.now.log.slot) c.in-Some.header (payloads c.live-history.result.now.items) (d.seen c.args.self.now.disk)) HasFitRecords (c.move_log.ensures.any_moment told is.only)
     (λ image may. fit_compacted (summary c.args.core.now) (opposite c.args.self.now.log.slot) c.in-Some.header (d.seen c.args.self.now.disk) image seen_fit is.holds c.in-Some.ensures.2 c.in-Some.ensures.0 fit
     (subst (λ ps. MayBeCompacted (opposite c.args.self.now.log.slot) c.in-Some.header ps (d.seen c.args.self.now.disk) image) live may)))
 
@@ -90,11 +89,11 @@ pub returns-clause-fit : goal.returns-clause-fit
 returns-clause-fit g c told now fit =
     let d = g.D.Disk in
     let is = c.requires.open told in
-    let live = ap payloads (c.rows-rows.ensures ∙ ap (λ (h : History). h.items) c.live.ensures) in
+    let live = ap (λ (h : History). payloads h.items) c.live-history.ensures in
     let seen_fit = now (d.seen c.args.self.now.disk)
     (seen_left d.moment d.left_since d.images g.met.D.Disk.counts_now d.tells d.seen g.met.D.Disk.honest c.args.self.now.disk told) in
     in_journal (λ j. j.disk) d.moment d.left_since _ _ HasFitRecords
-    (weaker d.moment d.left_since d.images c.args.self.now.disk c.move_log.new.disk (MayBeCompacted (opposite c.args.self.now.log.slot) c.in-Some.header (payloads (present c.rows-rows.result.now)) (d.seen c.args.self.now.disk)) HasFitRecords (c.move_log.ensures.any_moment told is.only)
+    (weaker d.moment d.left_since d.images c.args.self.now.disk c.move_log.new.disk (MayBeCompacted (opposite c.args.self.now.log.slot) c.in-Some.header (payloads c.live-history.result.now.items) (d.seen c.args.self.now.disk)) HasFitRecords (c.move_log.ensures.any_moment told is.only)
     (λ image may. fit_compacted (summary c.args.core.now) (opposite c.args.self.now.log.slot) c.in-Some.header (d.seen c.args.self.now.disk) image seen_fit is.holds c.in-Some.ensures.2 c.in-Some.ensures.0 fit
     (subst (λ ps. MayBeCompacted (opposite c.args.self.now.log.slot) c.in-Some.header ps (d.seen c.args.self.now.disk) image) live may)))
 

@@ -1,6 +1,8 @@
-use Rattle.std.proofs.Common.{◌≡◌, ◌++◌}
-use Rattle.live_history.specs.Rows.{present}
+use Rattle.std.proofs.Common.{◌≡◌, ◌++◌, length}
 use Rattle.live_history.proofs.history.History.compact.Given as goal
 
-abbrev pub invariant-loop-row : goal.invariant-loop-row
-invariant-loop-row l = l.self.items ++ present l.row-iterator.rest.items ≡ l.fn.self.items
+abbrev pub invariant-loop-old : goal.invariant-loop-old
+invariant-loop-old l = l.self.items ++ l.walk ≡ l.fn.self.items
+
+abbrev pub decreases-loop-old : goal.decreases-loop-old
+decreases-loop-old l = length l.walk

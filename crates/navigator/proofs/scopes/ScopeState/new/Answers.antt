@@ -27,5 +27,5 @@ returns-clause-shows c = λ ts depth k untouched incoming fits.
     let lengths = ap length items in
     let within = c.loop-i.auto.i-end in
     let all : c.loop-i.i ≡ length (out-Graph c.args.graph.now).activities = omega arith in
-    let s : ScopeState = roll-ScopeState (record { begun = false; input = c.args.input; tallies = c.loop-i.tallies; ends = c.loop-i.ends; states = c.loop-i.states; unsettled = c.len.result }) in
-    fresh_shows ts depth k c.args.graph.now c.args.input s (made_fresh c.args.graph.now c.args.input s c.loop-i.i all refl refl c.len.ensures c.loop-i.invariant) untouched incoming fits
+    let s : ScopeState = roll-ScopeState (record { begun = false; input = c.args.input; tallies = c.loop-i.tallies; ends = c.loop-i.ends; states = c.loop-i.states; unsettled = c.len-count.result }) in
+    fresh_shows ts depth k c.args.graph.now c.args.input s (made_fresh c.args.graph.now c.args.input s c.loop-i.i all refl refl c.len-count.ensures c.loop-i.invariant) untouched incoming fits

@@ -3,7 +3,8 @@ use Rattle.flow_model.specs.declared.trees.ElementTree.{ElementTree, the_lemmas}
 use Rattle.flow_model.specs.declared.graphs.Activity.{Activity}
 use Rattle.std.proofs.lemmas.List.Elements.{All-push}
 use Rattle.std.specs.List.{All}
-use Rattle.template_check.specs.Built.{IsSoundWork, IsSoundInside}
+use Rattle.template_check.specs.Built.{IsSound, IsSoundWork, IsSoundInside}
+use Rattle.template_check.specs.Found.{IsActivityFound, AreFoundInside}
 use Rattle.process_rules.specs.Calling.{place_behind, IsCallingWork}
 use Rattle.text_graphs.specs.ClosedWalks.{IsAcyclic}
 use Rattle.text_graphs.specs.Texts.{activity_of, activities_in, names_in, edges_in, IsJudged}
@@ -14,6 +15,7 @@ use Rattle.flow_model.specs.declared.trees.NameAt.{NameAt}
 use Rattle.std.proofs.lemmas.List.{take_all}
 use Rattle.template_check.proofs.Meaning.{parts_next, parts_all, kind_next, kind_past, text_same, graph_meant, block_meant}
 use Rattle.template_check.proofs.Calling.{built_calling}
+use Rattle.template_check.proofs.Found.{here_found, block_found}
 use Rattle.template_check.proofs.Laying.{within, built_sound, sound_here, sound_inside, as_many, named_next, named_past}
 use Rattle.text_graphs.proofs.Judging.{all_kept}
 use Rattle.template_check.proofs.building.Builder.+building.Goals as goal
@@ -21,8 +23,26 @@ use Rattle.template_check.proofs.building.Builder.+building.Goals.{activities-in
 
 pub activities-activity-requires : goal.activities-activity-requires
 activities-activity-requires t c =
-    let sound : IsSoundInside c.in-Activity.activity = all_kept activity_of IsSoundInside c.args.elements.now c.loop-element.element-index c.element-item.result c.in-Activity.activity c.requires c.loop-element-test.true c.element-item.is (ap activity_of c.in-Activity.is) in
-    search (rules, the_lemmas)
+    let r = reading_of c.args.self.now in
+    let kept = λ (P : ActivityTree → Type 0) (all : All P (activities_in c.args.elements.now)). all_kept activity_of P c.args.elements.now c.loop-element.element-index c.element-item.result c.in-Activity.activity all c.loop-element-test.true c.element-item.is (ap activity_of c.in-Activity.is) in (
+      search (rules, the_lemmas),
+      (
+        kept IsSoundInside c.requires.sound,
+        (
+          kept (IsActivityFound r (text_of c.args.scope.now)) c.requires.found,
+          kept (AreFoundInside r c.args.scope.now.process) c.requires.inside,
+        ),
+      ),
+    )
+
+pub work-graph-requires : goal.work-graph-requires
+work-graph-requires t c = (
+  search (rules, the_lemmas),
+  (
+    subst IsSound (sym c.as_slice-elements.ensures) (c.requires.sound c.in-Block.elements c.in-Block.is),
+    block_found (reading_of c.args.self.now) c.args.scope.now.process c.args.activity.now c.in-Block.elements c.as_slice-elements.result.now c.in-Block.is c.as_slice-elements.ensures c.requires.inside,
+  ),
+)
 
 pub activities-loop-element-init : goal.activities-loop-element-init
 activities-loop-element-init t c = rw c.new-activities.ensures (record {
@@ -59,10 +79,42 @@ activities-loop-element-preserved t c =
     ]
 
 pub graph-activities-requires : goal.graph-activities-requires
-graph-activities-requires t c = (search rules, sound_inside c.args.elements.now c.requires)
+graph-activities-requires t c =
+    let scope = c.in_ok-scope.scope in
+    let same = c.in_ok-scope.ensures in
+    let r = reading_of c.args.self.now in
+    let names = λ (n : NameAt). n.name in
+    let here = here_found r _ (text_of scope) same.numbered (ap names same.input) (ap names same.output) same.elements c.requires.found in (
+      search rules,
+      (
+        sound_inside c.args.elements.now c.requires.sound,
+        (
+          subst (λ (es : List ElementTree). All (IsActivityFound r (text_of scope)) (activities_in es)) same.elements here.activities,
+          subst (λ (n : ℕ). All (AreFoundInside r n) (activities_in c.args.elements.now)) (sym same.numbered) c.requires.found.inside,
+        ),
+      ),
+    )
 
-pub graph-lines-requires : goal.graph-lines-requires
-graph-lines-requires t c = rw c.in_ok-scope.ensures.elements (sound_here c.args.elements.now c.requires).along
+pub graph-controls-requires : goal.graph-controls-requires
+graph-controls-requires t c =
+    let same = c.in_ok-scope.ensures in
+    let names = λ (n : NameAt). n.name in
+    (here_found (reading_of c.args.self.now) _ (text_of c.in_ok-scope.scope) same.numbered (ap names same.input) (ap names same.output) same.elements c.requires.found).controls
+
+pub graph-loops-requires : goal.graph-loops-requires
+graph-loops-requires t c =
+    let same = c.in_ok-scope.ensures in
+    let names = λ (n : NameAt). n.name in
+    (here_found (reading_of c.args.self.now) _ (text_of c.in_ok-scope.scope) same.numbered (ap names same.input) (ap names same.output) same.elements c.requires.found).lines
+
+pub graph-lines-requires-clause-along : goal.graph-lines-requires-clause-along
+graph-lines-requires-clause-along t c = rw c.in_ok-scope.ensures.elements (sound_here c.args.elements.now c.requires.sound).along
+
+pub graph-lines-requires-clause-found : goal.graph-lines-requires-clause-found
+graph-lines-requires-clause-found t c =
+    let same = c.in_ok-scope.ensures in
+    let names = λ (n : NameAt). n.name in
+    (here_found (reading_of c.args.self.now) _ (text_of c.in_ok-scope.scope) same.numbered (ap names same.input) (ap names same.output) same.elements c.requires.found).lines
 
 pub graph-wiring-requires-clause-within : goal.graph-wiring-requires-clause-within
 graph-wiring-requires-clause-within t c =
@@ -73,14 +125,14 @@ graph-wiring-requires-clause-within t c =
 
 pub graph-wiring-requires-clause-acyclic : goal.graph-wiring-requires-clause-acyclic
 graph-wiring-requires-clause-acyclic t c =
-    let acyclic : IsAcyclic (edges_in c.in_ok-scope.scope.elements.now) = rw c.in_ok-scope.ensures.elements (sound_here c.args.elements.now c.requires).connected.acyclic in
+    let acyclic : IsAcyclic (edges_in c.in_ok-scope.scope.elements.now) = rw c.in_ok-scope.ensures.elements (sound_here c.args.elements.now c.requires.sound).connected.acyclic in
     rw c.as_slice.ensures (subst IsAcyclic (sym c.in_ok-controls.ensures.ends) acyclic)
 
 pub graph-returns-clause-sound : goal.graph-returns-clause-sound
 graph-returns-clause-sound t c =
     let wired = rw (c.len.ensures, c.as_slice.ensures, c.as_slice-2.ensures, c.as_slice-3.ensures) at c.in_ok-wiring.ensures in
     let elements = c.in_ok-scope.scope.elements.now in
-    let judged : IsJudged elements = subst IsJudged (sym c.in_ok-scope.ensures.elements) (sound_here c.args.elements.now c.requires) in
+    let judged : IsJudged elements = subst IsJudged (sym c.in_ok-scope.ensures.elements) (sound_here c.args.elements.now c.requires.sound) in
     let names = c.in_ok-activities.ensures.named ∙ ap names_in (sym c.in_ok-scope.ensures.elements) in
     built_sound _ _ c.in_ok-activities.activities c.in_ok-controls.controls c.in_ok-lines.lines c.in_ok-loops.loops c.in_ok-wiring.wiring elements
     judged wired names c.in_ok-controls.ensures.ends c.in_ok-lines.ensures.drawn c.in_ok-activities.ensures.sound

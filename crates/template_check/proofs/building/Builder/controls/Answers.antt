@@ -2,12 +2,21 @@ use Rattle.std.proofs.Common.{ℕ, refl, ap, ◌∙◌}
 use Rattle.std.proofs.lemmas.List.{map-append}
 use Rattle.flow_model.specs.declared.graphs.Control.{Control}
 use Rattle.leaf_rules.specs.Leaves.{table_leaves}
+use Rattle.template_check.specs.Found.{IsControlFound}
 use Rattle.template_check.specs.Meant.{NoneLeft, IsOne, IsControl}
 use Rattle.text_graphs.specs.Texts.{edge_of, controls_in}
 use Rattle.template_check.specs.Wires.{pairs_of}
 use Rattle.template_check.proofs.Meaning.{parts_next, parts_all, seen_more, seen_all}
+use Rattle.text_graphs.proofs.Judging.{read_behind}
 use Rattle.text_graphs.proofs.Sorting.{chosen_next}
 use Rattle.template_check.proofs.building.Builder.controls.Goals as goal
+
+pub control-requires : goal.control-requires
+control-requires c =
+    let scope = c.args.scope.now in
+    let less = rw c.deref-control-items.ensures.value at c.loop-control-test.true in
+    let is = rw c.deref-control-items.ensures.value at c.control-item.is in
+    read_behind (IsControlFound (table_leaves c.args.self.now.table) scope.elements.now) scope.controls.items (controls_in scope.elements.now) c.loop-control.control-index c.control-item.result scope.with_controls c.requires less is
 
 pub loop-control-init : goal.loop-control-init
 loop-control-init c = rw c.new-controls.ensures (record { ends = refl; meant = NoneLeft })

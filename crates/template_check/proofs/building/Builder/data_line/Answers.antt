@@ -7,7 +7,7 @@ use Rattle.template_check.proofs.building.Builder.data_line.Goals as goal
 
 pub returns-in_ok-maps-in-Line-clause-drawn : goal.returns-in_ok-maps-in-Line-clause-drawn
 returns-in_ok-maps-in-Line-clause-drawn c =
-    drawn c.args.scope.now.elements.now c.args.line.now c.in-Line.from c.in-Line.to _ c.requires c.in-Line.is (sym c.in-Some.ensures) (sym c.in-Some-map_end.ensures)
+    drawn c.args.scope.now.elements.now c.args.line.now c.in-Line.from c.in-Line.to _ c.requires.along c.in-Line.is (sym c.in-Some.ensures) (sym c.in-Some-map_end.ensures)
 
 pub returns-in_ok-maps-in-Line-clause-meant : goal.returns-in_ok-maps-in-Line-clause-meant
 returns-in_ok-maps-in-Line-clause-meant c =

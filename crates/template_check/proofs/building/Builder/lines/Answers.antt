@@ -2,6 +2,7 @@ use Rattle.std.proofs.Common.{Option, arith, subst}
 use Rattle.std.proofs.lemmas.List.Elements.{All-push}
 use Rattle.flow_model.specs.declared.graphs.DataLine.{DataLine}
 use Rattle.template_check.specs.Built.{IsDrawn}
+use Rattle.template_check.specs.Found.{IsLineFound}
 use Rattle.text_graphs.specs.GraphTexts.{text_of}
 use Rattle.leaf_rules.specs.Leaves.{table_leaves}
 use Rattle.template_check.specs.Meant.{NoneLeft, IsDataLine}
@@ -11,12 +12,19 @@ use Rattle.template_check.proofs.Meaning.{parts_next, parts_past, parts_all, see
 use Rattle.template_check.proofs.building.Builder.lines.Goals as goal
 use Rattle.template_check.proofs.building.Builder.lines.Goals.{in-None, in-Some+in_ok-push-in-Some}
 
-pub data_line-requires : goal.data_line-requires
-data_line-requires c =
+pub data_line-requires-clause-found : goal.data_line-requires-clause-found
+data_line-requires-clause-found c =
     let scope = c.args.scope.now in
     let less = rw c.deref-line-items.ensures.value at c.loop-line-test.true in
     let is = rw c.deref-line-items.ensures.value at c.line-item.is in
-    read_behind (IsLineAlong scope.elements.now) scope.lines.items (lines_in scope.elements.now) c.loop-line.line-index c.line-item.result scope.with_lines c.requires less is
+    read_behind (IsLineFound (table_leaves c.args.self.now.table) (text_of scope)) scope.lines.items (lines_in scope.elements.now) c.loop-line.line-index c.line-item.result scope.with_lines c.requires.found less is
+
+pub data_line-requires-clause-along : goal.data_line-requires-clause-along
+data_line-requires-clause-along c =
+    let scope = c.args.scope.now in
+    let less = rw c.deref-line-items.ensures.value at c.loop-line-test.true in
+    let is = rw c.deref-line-items.ensures.value at c.line-item.is in
+    read_behind (IsLineAlong scope.elements.now) scope.lines.items (lines_in scope.elements.now) c.loop-line.line-index c.line-item.result scope.with_lines c.requires.along less is
 
 pub loop-line-init : goal.loop-line-init
 loop-line-init c = rw c.new-lines.ensures (record { drawn = λ k d less. absurd (omega (arith, less)); meant = NoneLeft })

@@ -3,11 +3,20 @@ use Rattle.std.proofs.lemmas.List.Elements.{All-push}
 use Rattle.flow_model.specs.declared.graphs.LoopLine.{LoopLine}
 use Rattle.text_graphs.specs.GraphTexts.{text_of}
 use Rattle.leaf_rules.specs.Leaves.{table_leaves}
+use Rattle.template_check.specs.Found.{IsLineFound}
 use Rattle.template_check.specs.Meant.{NoneLeft, IsLoopLine}
 use Rattle.text_graphs.specs.Texts.{activities_in, lines_in}
+use Rattle.text_graphs.proofs.Judging.{read_behind}
 use Rattle.template_check.proofs.Meaning.{parts_next, parts_past, parts_all, seen_more, seen_all}
 use Rattle.template_check.proofs.building.Builder.loops.Goals as goal
 use Rattle.template_check.proofs.building.Builder.loops.Goals.{in-None, in-Some+in_ok-push-in-Some}
+
+pub loop_line-requires : goal.loop_line-requires
+loop_line-requires c =
+    let scope = c.args.scope.now in
+    let less = rw c.deref-line-items.ensures.value at c.loop-line-test.true in
+    let is = rw c.deref-line-items.ensures.value at c.line-item.is in
+    read_behind (IsLineFound (table_leaves c.args.self.now.table) (text_of scope)) scope.lines.items (lines_in scope.elements.now) c.loop-line.line-index c.line-item.result scope.with_lines c.requires less is
 
 pub loop-line-init : goal.loop-line-init
 loop-line-init c = rw c.new-loops.ensures (record { within = λ k d less. absurd (omega (arith, less)); meant = NoneLeft })
