@@ -38,8 +38,8 @@ use Rattle.machine.specs.States as states
 use Rattle.machine.specs.Verdicts as machine
 use Rattle.machine_laws.specs.Viewed.{view, entry_of}
 use Rattle.machine_laws.proofs.Seen.{items}
-use Rattle.machine_verdicts.proofs.Subjects.{seen, modes, subject_seen}
-use Rattle.machine_verdicts.specs.Keyed.{AreKeyed}
+use Rattle.machine_laws.proofs.Subjects.{seen, modes, subject_seen}
+use Rattle.machine_laws.specs.Keyed.{AreKeyed}
 use Rattle.process_rules.specs.Imports.{newest_place}
 use Rattle.recover_queue.specs.Queues.{queue as messages_of}
 use Rattle.admission_laws.specs.ApartLeaves.{HasLeavesApart, HaveLeavesApart, ItemsHaveLeavesApart}

@@ -12,7 +12,7 @@ use Rattle.machine.specs.States as machine
 use Rattle.machine.specs.Steps.{Steps}
 use Rattle.machine.specs.Verdicts.{IsVerdict}
 use Rattle.machine_laws.specs.Viewed.{view}
-use Rattle.machine_verdicts.specs.Keyed.{AreKeyed}
+use Rattle.machine_laws.specs.Keyed.{AreKeyed}
 use Rattle.reopening_laws.specs.Codes.{HaveCodes}
 use Rattle.reopening_laws.specs.Making.{MadeByCommands}
 use Rattle.admission_laws.specs.ApartLeaves.{HaveLeavesApart}

@@ -25,8 +25,8 @@ use Rattle.machine.specs.States.{State, blank}
 use Rattle.machine.specs.Steps.{after, Steps}
 use Rattle.machine.specs.Verdicts.{IsVerdict}
 use Rattle.machine_laws.specs.Viewed.{view}
-use Rattle.machine_verdicts.proofs.Keyed.{blank_keyed}
-use Rattle.machine_verdicts.specs.WholeStates.{IsWhole}
+use Rattle.machine_laws.proofs.Keyed.{blank_keyed}
+use Rattle.machine_laws.specs.WholeStates.{IsWhole}
 use Rattle.reopening_laws.specs.Making.{MadeByCommands}
 use Rattle.txn_log.specs.Stored.{is_unmade, has_magic, header_of, header_fault, header_text, length_at}
 use Rattle.txn_log.specs.Stores.{Counts, store_of}

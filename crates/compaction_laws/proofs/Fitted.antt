@@ -20,7 +20,7 @@ use Rattle.flow_txn.specs.Records.{record_bytes}
 use Rattle.machine.specs.States.{State, templates}
 use Rattle.machine.specs.Verdicts.{IsVerdict}
 use Rattle.machine_laws.specs.Viewed.{view}
-use Rattle.machine_verdicts.specs.Keyed.{AreKeyed}
+use Rattle.machine_laws.specs.Keyed.{AreKeyed}
 use Rattle.reopening_laws.proofs.Admitted.{command_admitted}
 use Rattle.reopening_laws.proofs.Codes.{items_have_codes}
 use Rattle.reopening_laws.specs.Codes.{HasCodes, HaveCodes}

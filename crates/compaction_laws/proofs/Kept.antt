@@ -13,7 +13,7 @@ use Rattle.flow_model.specs.declared.transactions.Transaction.TheVariants.{Trans
 use Rattle.flow_model.specs.declared.transactions.Transaction.TheVariants.{Suspend, Resume, Terminate, Delete, Clock}
 use Rattle.machine.specs.Steps.{started, last_root_by}
 use Rattle.machine_laws.specs.Viewed.{view}
-use Rattle.machine_verdicts.specs.Keyed.{AreKeyed}
+use Rattle.machine_laws.specs.Keyed.{AreKeyed}
 use Rattle.reopening_laws.proofs.Admitted.{command_admitted}
 use Rattle.reopening_laws.proofs.Codes.{items_have_codes}
 use Rattle.reopening_laws.specs.Codes.{HaveCodes}

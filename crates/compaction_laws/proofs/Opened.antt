@@ -19,9 +19,9 @@ use Rattle.machine.specs.Scripts.{StepsAs}
 use Rattle.machine.specs.States.{State, blank}
 use Rattle.machine.specs.Steps.{Steps, started, last_root_by}
 use Rattle.machine_laws.specs.Viewed.{view}
-use Rattle.machine_verdicts.specs.Keyed.{AreKeyed}
-use Rattle.machine_verdicts.proofs.Keyed.{blank_keyed}
-use Rattle.machine_verdicts.proofs.Obeyed.{record_adopted}
+use Rattle.machine_laws.specs.Keyed.{AreKeyed}
+use Rattle.machine_laws.proofs.Keyed.{blank_keyed}
+use Rattle.machine_laws.proofs.Obeyed.{record_adopted}
 use Rattle.reopening_laws.proofs.Admitted.{both_none}
 use Rattle.txn_log.specs.declared.header.Header.{Header}
 use Rattle.compaction_laws.specs.Checkpoints.{summary_of}

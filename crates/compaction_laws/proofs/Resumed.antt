@@ -26,8 +26,8 @@ use Rattle.machine.specs.States.{State, blank, templates}
 use Rattle.machine.specs.Verdicts.{IsVerdict}
 use Rattle.machine_laws.specs.Viewed.{view}
 use Rattle.machine_laws.proofs.Judging.{rule_one}
-use Rattle.machine_verdicts.specs.Keyed.{AreKeyed}
-use Rattle.machine_verdicts.proofs.Keyed.{blank_keyed}
+use Rattle.machine_laws.specs.Keyed.{AreKeyed}
+use Rattle.machine_laws.proofs.Keyed.{blank_keyed}
 use Rattle.reopening_laws.proofs.Admitted.{command_admitted}
 use Rattle.reopening_laws.proofs.Codes.{items_have_codes}
 use Rattle.reopening_laws.proofs.Spelled.{one_record}

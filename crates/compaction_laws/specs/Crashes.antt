@@ -15,7 +15,7 @@ use Rattle.flow_session.specs.Serving.{Makes}
 use Rattle.flow_session.specs.declared.serving.Session.{Session}
 use Rattle.machine.specs.States.{State, blank}
 use Rattle.machine_laws.specs.Viewed.{view}
-use Rattle.machine_verdicts.specs.WholeStates.{IsWhole}
+use Rattle.machine_laws.specs.WholeStates.{IsWhole}
 use Rattle.reopening_laws.specs.Making.{MadeByCommands}
 use Rattle.compaction_laws.specs.Checkpoints.{summary_of}
 use Rattle.compaction_laws.specs.Compact.{IsCompact}

@@ -16,7 +16,7 @@ use Rattle.flow_session.specs.Serving.{Makes}
 use Rattle.flow_session.specs.declared.serving.Session.{Session}
 use Rattle.machine.specs.States.{State, blank}
 use Rattle.machine_laws.specs.Viewed.{view}
-use Rattle.machine_verdicts.specs.WholeStates.{IsWhole}
+use Rattle.machine_laws.specs.WholeStates.{IsWhole}
 use Rattle.reopening_laws.specs.Making.{MadeByCommands}
 use Rattle.txn_log.specs.Stores.{Counts, store_of}
 use Rattle.txn_log.specs.declared.header.Header.{Header}

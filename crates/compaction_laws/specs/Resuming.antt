@@ -15,7 +15,7 @@ use Rattle.flow_txn.specs.Ranges.{TransactionFits}
 use Rattle.machine.specs.States.{State}
 use Rattle.machine.specs.Steps.{started}
 use Rattle.machine_laws.specs.Viewed.{view}
-use Rattle.machine_verdicts.specs.Keyed.{AreKeyed}
+use Rattle.machine_laws.specs.Keyed.{AreKeyed}
 use Rattle.reopening_laws.specs.Codes.{HaveCodes}
 use Rattle.reopening_laws.specs.Making.{MadeByCommands}
 use Rattle.txn_log.specs.Stores.{Counts, store_of}

@@ -42,8 +42,8 @@ use Rattle.machine_laws.specs.Viewed.{view, root_of, entry_of}
 use Rattle.machine_laws.proofs.Seen.{items}
 use Rattle.machine_laws.proofs.ShownRows.{shown_rows}
 use Rattle.machine_scopes.specs.Seen.{scopes_of}
-use Rattle.machine_verdicts.proofs.ShownRows.{scope_same}
-use Rattle.machine_verdicts.proofs.Subjects.{performers}
+use Rattle.machine_laws.proofs.SeenShows.{scope_same}
+use Rattle.machine_laws.proofs.Subjects.{performers}
 use Rattle.navigator.specs.Items.{Entry}
 use Rattle.navigator.specs.Serving.{Served}
 use Rattle.navigator.specs.declared.instance.Instance.{Instance}

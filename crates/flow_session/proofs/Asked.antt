@@ -177,6 +177,15 @@ module _ {J : Type 0} (tells : Type 0) (holds : J → Summary → Type 0) (momen
           kept = λ told. keeps_all holds moment left_since r journal (summary c) [] silent (held told);
         })
 
+    -- a call that stops for want of memory, with nothing made
+    pub stopped_first : (T : Type 0) (stop : Stop) (journal : J) (c c' : Core) (IsAsked : List Transaction → Type 0)
+        → (tells → holds journal (summary c)) → stop ≡ NoMemory → IsAsked []
+        → MakesAsked {T = T} tells holds moment left_since journal journal c c' IsAsked (Err stop)
+    stopped_first T stop journal c c' IsAsked held silent none =
+        subst (λ e. MakesAsked {T = T} tells holds moment left_since journal journal c c' IsAsked (Err e)) (sym silent)
+        (makes_nothing tells moment left_since holds at_rest journal (summary c) _ held
+        (record { asked = none; leads = tt; kept = held }))
+
     module _ (counts_now : (journal : J) (t : ℕ) (c : Image) → t ≤ moment journal
         → left_since journal (moment journal) c → left_since journal t c) where
       -- a call that stops while it makes one transaction
@@ -189,9 +198,7 @@ module _ {J : Type 0} (tells : Type 0) (holds : J → Summary → Type 0) (momen
           → MakesAsked {T = T} tells holds moment left_since old new c c' IsAsked (Err stop)
       one_stopped T NoMemory old new c c' t IsAsked held undone leaves fit none one =
           subst (λ j. MakesAsked {T = T} tells holds moment left_since old j c c' IsAsked (Err NoMemory))
-          (sym (undone refl))
-          (makes_nothing tells moment left_since holds at_rest old (summary c) _ held
-          (record { asked = none; leads = tt; kept = held }))
+          (sym (undone refl)) (stopped_first T NoMemory old c c' IsAsked held refl none)
       one_stopped T StoreFault old new c c' t IsAsked held undone leaves fit none one =
           makes_one tells moment left_since old new (summary c) t _ leaves fit (record {
             asked = one;

@@ -22,7 +22,7 @@ use Rattle.machine_laws.proofs.Good.{verdict_good, admitted_good}
 use Rattle.machine_laws.specs.Applied.{Applied}
 use Rattle.machine_laws.specs.Right.{HoldsOpen}
 use Rattle.machine_laws.specs.Viewed.{view}
-use Rattle.machine_verdicts.proofs.Keyed.{applied_keyed, verdict_free, admitted_free}
+use Rattle.machine_laws.proofs.Keyed.{applied_keyed, verdict_free, admitted_free}
 use Rattle.worklist_laws.proofs.OpenAsked.{verdict_asks, admitted_asks}
 use Rattle.worklist_laws.specs.Asking.{AsksOpen}
 use Rattle.flow_session.specs.Histories.{after}
@@ -121,13 +121,6 @@ leads_adopted c c' number t admitted is applied counts = record {
       applied_keyed c c' t right.0 right.1 is (admitted_good c number t due) (admitted_free c number t due) keyed
       applied);
 }
-
--- a transaction to which a command is judged, where the call succeeds
-pub leads_ok : {T E : Type 0} (r : Result T E) (c c' : Core) (command : Command) (v : Verdict) (t : Transaction)
-    → IsVerdict c command v → v ≡ Do t → OnOk r (Applied c t c') → OnOk r (CountsRoot c t c')
-    → OnOk r (LeadsBy c (t ∷ []) c')
-leads_ok (Ok x) c c' command v t verdict is applied counts = leads_by c c' command v t verdict is applied counts
-leads_ok (Err e) c c' command v t verdict is applied counts = tt
 
 -- ---- calls
 

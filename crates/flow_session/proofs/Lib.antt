@@ -1,4 +1,5 @@
--- Read Summaries first, then Histories, Keeping, Fitting, Calls, Leading and Runs; Replaying is of opening.
+-- Read Summaries first, then Histories, Keeping, Fitting, Calls, Leading and Runs; Replaying is of opening. What is replied
+-- is the machine's by Turning (the turns of a DRAIN), Served (an input), RepliedScripts (a script), OneList (two runs).
 pub mod Summaries
 pub mod Histories
 pub mod Keeping
@@ -15,3 +16,7 @@ pub mod Scripts
 pub mod Inputs
 pub mod Stopping
 pub mod Refusing
+pub mod Turning
+pub mod Served
+pub mod RepliedScripts
+pub mod OneList

@@ -17,8 +17,8 @@ use Rattle.machine_laws.proofs.AdoptedSteps.{adopted_step}
 use Rattle.machine_laws.proofs.Good.{admitted_good}
 use Rattle.machine.specs.Scripts.{StepsAs, StateOf}
 use Rattle.machine_laws.specs.Viewed.{view, root_of}
-use Rattle.machine_verdicts.proofs.Keyed.{adopted_keyed, admitted_free, blank_keyed}
-use Rattle.machine_verdicts.specs.Keyed.{AreKeyed}
+use Rattle.machine_laws.proofs.Keyed.{adopted_keyed, admitted_free, blank_keyed}
+use Rattle.machine_laws.specs.Keyed.{AreKeyed}
 use Rattle.recover_queue.specs.Queues.{is_quiet}
 use Rattle.txn_log.specs.Opening.{IsOpened}
 use Rattle.txn_log.specs.Stores.{Counts}

@@ -1,5 +1,5 @@
 -- A DRAIN, which takes messages from the queues in turn.
-use Rattle.std.proofs.Common.{◌≡◌, ◌⊎◌, inl, inr, subst, Result, Ok, Err, IfOk, OnOk, Some, None, ℕ, suc, ◌+◌, ◌-◌, ◌^◌, ◌<◌, ◌≤◌, ◌==◌, min, true, false, List, [], ◌∷◌, length, refl, sym, ap, ◌∙◌, arith, true≢false}
+use Rattle.std.proofs.Common.{◌≡◌, ◌⊎◌, inl, inr, subst, Result, Ok, Err, IfOk, Some, None, ℕ, suc, ◌+◌, ◌-◌, ◌^◌, ◌<◌, ◌≤◌, ◌==◌, min, true, false, List, [], ◌∷◌, length, refl, sym, ap, ◌∙◌, arith, true≢false}
 use Rattle.std.specs.Prelude.{◌&&◌, nat_le, nat_lt, if◌then◌else◌, is_some, slice_get, slice_index_or}
 use Rattle.std.specs.Global.{Vec}
 use Rattle.std.proofs.lemmas.Bool.{and_parts, leb-true}
@@ -143,11 +143,11 @@ behind_some count q = go (leb_tells (suc q) count)
     go (inl is) = rw is.0 (omega arith)
     go (inr is) = rw is.0 (omega arith)
 
--- the transaction to which a TURN is judged, where it is made, takes the front of its queue
-pub takes_front : {T E : Type 0} (r : Result T E) (old new : Core) (q : ℕ) (v : Verdict) (t : Transaction)
-    → IsVerdict old (TurnCommand q) v → v ≡ Do t → OnOk r (Applied old t new) → OnOk r (LeadsBy old (t ∷ []) new)
-    → (IsRightAndListed old → OnOk r (IsRightAndListed new)) → OnOk r (IsTurnOf old new q (t ∷ []))
-takes_front (Ok done) old new q v t verdict is applied leads right =
+-- the transaction to which a TURN is judged takes the front of its queue
+pub takes_front : (old new : Core) (q : ℕ) (v : Verdict) (t : Transaction)
+    → IsVerdict old (TurnCommand q) v → v ≡ Do t → Applied old t new → LeadsBy old (t ∷ []) new
+    → (IsRightAndListed old → IsRightAndListed new) → IsTurnOf old new q (t ∷ [])
+takes_front old new q v t verdict is applied leads right =
     let judged = subst (IsVerdict old (TurnCommand q)) is verdict in
     let made = judged.1 in
     let taken : TakesFront old new q = record {
@@ -159,7 +159,6 @@ takes_front (Ok done) old new q v t verdict is applied leads right =
       right = right;
     } in
     (taken, ap (λ u. u ∷ []) made.2)
-takes_front (Err e) old new q v t verdict is applied leads right = tt
 
 -- a turn leaves one less up to the limit
 pub one_less : (old new : Core) (q : ℕ) → TakesFront old new q → (new.number ≡ old.number + 1) × (new.limit ≡ old.limit)

@@ -7,7 +7,7 @@ use Rattle.flow_disk.specs.Images.{Image}
 use Rattle.flow_model.specs.declared.transactions.Transaction.{Transaction}
 use Rattle.machine.specs.Steps.{Runs}
 use Rattle.machine_laws.specs.Viewed.{view}
-use Rattle.machine_verdicts.specs.Keyed.{AreKeyed}
+use Rattle.machine_laws.specs.Keyed.{AreKeyed}
 use Rattle.flow_session.specs.Histories.{after}
 use Rattle.flow_session.specs.Serving.{Makes, KeepsMade}
 use Rattle.flow_session.specs.declared.serving.Stop.{Stop}

@@ -13,3 +13,5 @@ pub mod Draining
 pub mod Inputs
 pub mod Asking
 pub mod Scripts
+pub mod Sittings
+pub mod Bridge

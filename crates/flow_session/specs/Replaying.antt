@@ -7,7 +7,7 @@ use Rattle.flow_model.specs.declared.transactions.Numbered.{Numbered}
 use Rattle.machine.specs.States.{State, blank}
 use Rattle.machine.specs.Scripts.{StateOf}
 use Rattle.machine_laws.specs.Viewed.{view}
-use Rattle.machine_verdicts.specs.Keyed.{AreKeyed}
+use Rattle.machine_laws.specs.Keyed.{AreKeyed}
 use Rattle.txn_log.specs.Stores.{Counts, store_of}
 use Rattle.txn_log.specs.declared.header.Header.{Header}
 use Rattle.flow_session.specs.Histories.{payloads}

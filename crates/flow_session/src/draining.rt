@@ -13,7 +13,7 @@ ghost use Rattle.flow_session.specs.Stopping.{IsStopCause};
 ghost use Rattle.flow_session.specs.declared.serving.Stop.TheVariants.{NoMemory};
 
 use crate::journal::Journal;
-use crate::serving::{Session, Stop, numbered};
+use crate::serving::{Session, Stop, begun_reply, numbered};
 use flow_core::Verdict;
 use flow_model::Command;
 use flow_text::decimal;
@@ -67,7 +67,7 @@ impl Session {
         }
     }
 
-    /// Takes the message at the front of a queue.
+    /// Takes the message at the front of a queue, without a reply.
     fn turn<J: Journal>(&mut self, journal: &mut J, queue: u64) -> Result<(), Stop>
         requires open { J.tells → J.holds journal.old (summary self.old.core) }
         requires room { self.old.core.number < self.old.core.limit }
@@ -84,8 +84,8 @@ impl Session {
     {
         match self.core.judge(&Command::Turn(queue)) {
             Ok(Verdict::Do(t)) => {
-                let mut out = Vec::new(self.alloc);
-                self.make(journal, t, &mut out)
+                let prepared = self.prepare(journal, t)?;
+                journal.keep(&prepared.payload)
             }
             Ok(Verdict::Same(_)) => unreachable!(),
             Ok(Verdict::Refused(_)) => unreachable!(),
@@ -102,7 +102,8 @@ impl Session {
         if self.core.is_quiet() {
             return numbered(self.alloc, b"ok TURNS ", turns);
         }
-        let mut out = Vec::from_slice(self.alloc, b"no FULL ")?;
+        let mut out = begun_reply(self.alloc)?;
+        out.extend_from_slice(b"no FULL ")?;
         decimal(&mut out, self.core.limit())?;
         out.extend_from_slice(b" TURNS ")?;
         decimal(&mut out, turns)?;

@@ -14,7 +14,8 @@ mod store;
 
 pub use journal::{Journal, NoJournal};
 pub use laws::{
-    answered_is_kept, scripts_are_runs, scripts_keep_right, scripts_make_what_is_asked,
+    answered_is_kept, inputs_are_replies, scripts_are_replies, scripts_are_runs,
+    scripts_have_one_list, scripts_keep_right, scripts_make_what_is_asked,
 };
 pub use opening::{open, reopen};
 pub use serving::{Input, Session, Stop};

@@ -6,8 +6,10 @@ ghost use Rattle.flow_disk.specs.Moments.{LeavesOnly};
 ghost use Rattle.flow_model.specs.declared.commands.Command.TheVariants.{Checkpoint};
 ghost use Rattle.flow_core.specs.declared.applying.Note.{Note as NoteOf};
 ghost use Rattle.worklist_laws.specs.Asking.{AsksOpen};
-ghost use Rattle.machine_verdicts.specs.Keyed.{AreKeyed};
+ghost use Rattle.machine_laws.specs.Keyed.{AreKeyed};
 ghost use Rattle.worklist_laws.specs.Shelved.{IsRightAndListed};
+ghost use Rattle.flow_txn.specs.Ranges.{IsInRange};
+ghost use Rattle.flow_txn.specs.Records.{record_bytes};
 ghost use Rattle.flow_core.specs.Allowing.{IsAllowed, CountsRoot};
 ghost use Rattle.flow_core.specs.Replies.{applied_text, refusal_text};
 ghost use Rattle.flow_core.specs.Summaries.{summary};
@@ -40,6 +42,9 @@ const MOST_TEXT: usize = 1_048_576;
 
 /// The greatest number of bytes in a line.
 const MOST_LINE: usize = 65_536;
+
+/// The number of bytes for which a reply begins with room: with it a usual reply isn't moved while it grows.
+const USUAL_REPLY: usize = 64;
 
 /// One input of a session.
 #[derive(Clone, Copy)]
@@ -92,6 +97,21 @@ pub struct Session {
     gathered: Option<Gathered>,
 }
 
+/// A transaction that is applied, and only has to be kept.
+#[derive(Drop)]
+pub(crate) struct Prepared {
+    pub(crate) payload: Vec<u8>,
+    applied: flow_core::Applied,
+}
+
+/// A reply to be written: empty, with room for a usual one.
+pub(crate) fn begun_reply(alloc: Global) -> Result<Vec<u8>, Stop>
+    ensures empty { IfOk result (λ out. out.items ≡ []) }
+    ensures silent { IfErr result (λ stop. stop ≡ NoMemory) }
+{
+    Ok(Vec::with_capacity(alloc, USUAL_REPLY)?)
+}
+
 /// A reply of words alone.
 fn words(alloc: Global, text: &[u8]) -> Result<Vec<u8>, Stop>
     ensures said { IfOk result (λ out. out.items ≡ text.now) }
@@ -105,7 +125,8 @@ pub(crate) fn numbered(alloc: Global, text: &[u8], number: u64) -> Result<Vec<u8
     ensures said { IfOk result (λ out. out.items ≡ text.now ++ digits_of number ++ 10 ∷ []) }
     ensures silent { IfErr result (λ stop. stop ≡ NoMemory) }
 {
-    let mut out = Vec::from_slice(alloc, text)?;
+    let mut out = begun_reply(alloc)?;
+    out.extend_from_slice(text)?;
     decimal(&mut out, number)?;
     out.push(b'\n')?;
     Ok(out)
@@ -116,7 +137,7 @@ fn refused(alloc: Global, refusal: &Refusal) -> Result<Vec<u8>, Stop>
     ensures said { IfOk result (λ out. out.items ≡ refusal_text refusal.now) }
     ensures silent { IfErr result (λ stop. stop ≡ NoMemory) }
 {
-    let mut out = Vec::new(alloc);
+    let mut out = begun_reply(alloc)?;
     write_refusal(&mut out, refusal)?;
     Ok(out)
 }
@@ -178,9 +199,35 @@ impl Session {
         &self.core
     }
 
+    /// The payload of a transaction under the next number, with the transaction applied. It is kept next: nothing but
+    /// its reply may want memory in between.
+    pub(crate) fn prepare<J: Journal>(
+        &mut self,
+        journal: &J,
+        t: Transaction,
+    ) -> Result<Prepared, Stop>
+        requires room { self.old.core.number < self.old.core.limit }
+        requires allowed { IsAllowed self.old.core t }
+        ensures applied { OnOk result (Applied self.old.core t self.new.core) }
+        ensures counts { OnOk result (CountsRoot self.old.core t self.new.core) }
+        ensures right { AsksOpen self.old.core t → IsRightAndListed self.old.core
+            → OnOk result (IsRightAndListed self.new.core) }
+        ensures gathers { OnOk result (self.new.gathered ≡ self.old.gathered) }
+        ensures number { IfOk result (λ prepared. prepared.applied.number ≡ self.old.core.number + 1) }
+        ensures note { IfOk result (λ prepared. IsNoteOf self.old.core t self.new.core prepared.applied.note) }
+        ensures spelled { IfOk result (λ prepared. J.tells
+            → prepared.payload.items ≡ record_bytes (self.old.core.number + 1) t) }
+        ensures range { J.tells → OnOk result (IsInRange (self.old.core.number + 1) t) }
+        ensures silent { IfErr result (λ stop. stop ≡ NoMemory) }
+    {
+        let payload = journal.payload(self.core.next_number(), &t)?;
+        let applied = self.core.apply(t)?;
+        Ok(Prepared { payload, applied })
+    }
+
     /// Makes a transaction: all that may want memory is done first, and then it is kept, before anything is
     /// answered.
-    pub(crate) fn make<J: Journal>(
+    fn make<J: Journal>(
         &mut self,
         journal: &mut J,
         t: Transaction,
@@ -207,10 +254,9 @@ impl Session {
         ensures fit { J.tells → AreFitNow J.moment J.left_since journal.old → IsFitNext (summary self.old.core) t
             → LeavesOnly J.moment J.left_since journal.old journal.new HasFitRecords }
     {
-        let payload = journal.payload(self.core.next_number(), &t)?;
-        let applied = self.core.apply(t)?;
-        write_applied(out, &applied)?;
-        journal.keep(&payload)
+        let prepared = self.prepare(journal, t)?;
+        write_applied(out, &prepared.applied)?;
+        journal.keep(&prepared.payload)
     }
 
     /// Judges a command, and makes its transaction where it is allowed.
@@ -229,7 +275,7 @@ impl Session {
     {
         match self.core.judge(command) {
             Ok(Verdict::Do(t)) => {
-                let mut out = Vec::new(self.alloc);
+                let mut out = begun_reply(self.alloc)?;
                 self.make(journal, t, &mut out)?;
                 Ok(out)
             }

@@ -7,4 +7,4 @@ mod case;
 mod outcome;
 
 pub use case::Case;
-pub use outcome::{Outcome, Store, answer, run_over};
+pub use outcome::{Outcome, Store, answer, new_store, run_over};

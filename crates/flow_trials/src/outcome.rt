@@ -45,6 +45,11 @@ pub fn answer(alloc: Global, words: &[&str], input: &[u8]) -> Result<Outcome, Al
     run_over(alloc, words, input, (&[], &[]), MemDisk::new(alloc, &[])?)
 }
 
+/// A store that `new` made.
+pub fn new_store(alloc: Global) -> Result<Store, AllocError> {
+    answer(alloc, &["new", "a", "b"], b"")?.store(alloc)
+}
+
 /// The first line in which two texts differ: its number, from 1 on, and what each of them has there.
 fn first_difference<'a>(wanted: &'a str, came: &'a str) -> (usize, &'a str, &'a str) {
     let mut number: usize = 1;

@@ -95,6 +95,11 @@ kind (Terminate root) = 13
 kind (Delete root) = 14
 kind (Clock minutes) = 15
 
+-- a Turn takes a message from a queue
+abbrev pub is_turn : Transaction → Bool
+is_turn (Turn queue message) = true
+is_turn t = false
+
 abbrev pub body : Transaction → List ℕ
 body (Import text) = import_bytes text
 body (Start root process version starter key settings) = u64_bytes root ++ short_bytes process

@@ -12,8 +12,8 @@ mod writing;
 
 pub use faults::RecordFault;
 pub use fitting::fits;
-pub use reading::decode;
-pub use writing::encode;
+pub use reading::{decode, is_turn};
+pub use writing::{encode, encode_into};
 
 #[cfg(test)]
 mod tests;

@@ -1,7 +1,7 @@
 //! The transaction of a record.
 ghost use Rattle.std.specs.Prelude.{◌≡◌, ◌≢◌, ℕ, IfOk, IsErrOf};
 ghost use Rattle.flow_model.specs.declared.transactions.Transaction.{Transaction as Record};
-ghost use Rattle.flow_txn.specs.Records.{record_bytes};
+ghost use Rattle.flow_txn.specs.Records.{is_turn as turn_test, record_bytes};
 ghost use Rattle.flow_txn.specs.Ranges.{IsInRange};
 ghost use Rattle.flow_txn.specs.Reading.{Gives, signal, message_by, who_by, import_text, start, turn, item_name};
 ghost use Rattle.flow_txn.specs.Reading.{transfer, taking, done, force, plain_by, item_by, body_by, numbered, whole};
@@ -13,6 +13,12 @@ use crate::fields::{
 };
 use flow_model::{Bytes, Message, Name, Numbered, Path, Transaction, Who};
 use std::alloc::Global;
+
+/// The place of the byte that says the kind, behind the number.
+const KIND: usize = 8;
+
+/// The kind of a Turn.
+const TURN: u8 = 3;
 
 #[tactic(auto, unfolding(crate::specs::Reading::signal))]
 fn signal_of(alloc: Global, bytes: &[u8]) -> Result<(Message, &[u8]), RecordFault>
@@ -245,6 +251,13 @@ fn whole_of(alloc: Global, payload: &[u8]) -> Result<Numbered, RecordFault>
         number,
         transaction,
     })
+}
+
+/// Whether a record is that of a Turn, which the byte behind the number says.
+pub fn is_turn(payload: &[u8]) -> bool
+    ensures { (number : ℕ) (t : Record) → record_bytes number t ≡ payload.now → result ≡ turn_test t }
+{
+    payload.len() > KIND && payload[KIND] == TURN
 }
 
 /// The transaction whose record the payload is, with its number.

@@ -1,10 +1,13 @@
-//! Two records byte by byte, and one whose number has a shorter form.
-use crate::{RecordFault, decode, encode};
-use flow_model::{List, Name, Setting, Transaction, Value};
+//! Records byte by byte, one whose number has a shorter form, and a buffer for two of them.
+use crate::{RecordFault, decode, encode, encode_into, is_turn};
+use flow_model::{List, Message, Name, Path, Setting, Transaction, Value};
 use std::alloc::Global;
 use std::test::Fail;
 
 const CLOCK: &[u8] = b"\x00\x00\x00\x00\x00\x00\x00\x01\x0f\x00\x00\x00\x00\x00\x00\x00\x05";
+
+const TURN: &[u8] =
+    b"\x00\x00\x00\x00\x00\x00\x00\x03\x03\x02\x03\x00\x00\x00\x00\x00\x00\x00\x01\x00";
 
 const START: &[u8] =
     b"\x00\x00\x00\x00\x00\x00\x00\x02\x02\x00\x00\x00\x00\x00\x00\x00\x01\x01P\x00\x00\x00\x01\x03ann\x00\x00\x01\x00\x00\x03\x00\x00\x00\x01\x00\x00\x00\x00";
@@ -37,5 +40,18 @@ fn records(rt: HostRuntime) -> Result<(), Fail> {
     assert!(rt; encode(alloc, 1, &Transaction::Clock(5))?.as_slice() == CLOCK);
     assert!(rt; is_read_again(alloc, START)? && is_read_again(alloc, CLOCK)?);
     assert!(rt; matches!(is_read_again(alloc, SMALL), Err(RecordFault::BadRecord)));
+    Ok(())
+}
+
+#[test]
+fn a_record_over_another(rt: HostRuntime) -> Result<(), Fail> {
+    let alloc = rt.alloc();
+    let parts = List::new(alloc);
+    let turn = Transaction::Turn(2, Message::End(Path { root: 1, parts }));
+    let mut record = Vec::new(alloc);
+    encode_into(&mut record, 3, &turn)?;
+    assert!(rt; record.as_slice() == TURN && is_turn(&record));
+    encode_into(&mut record, 1, &Transaction::Clock(5))?;
+    assert!(rt; record.as_slice() == CLOCK && !is_turn(&record));
     Ok(())
 }

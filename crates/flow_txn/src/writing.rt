@@ -9,6 +9,9 @@ ghost use Rattle.flow_txn.specs.Ranges.{IsInRange};
 use flow_model::{Message, Name, Part, Path, Setting, Transaction, Value, Who};
 use std::alloc::{AllocError, Global};
 
+/// Room for the bytes of most records.
+const COMMON_ROOM: usize = 64;
+
 /// Appends a number in eight bytes.
 fn put_u64(out: &mut Vec<u8>, number: u64) -> Result<(), AllocError>
     ensures { OnOk result (out.new.items ≡ out.old.items ++ u64_bytes number) }
@@ -244,14 +247,22 @@ fn put_body(out: &mut Vec<u8>, t: &Transaction) -> Result<(), AllocError>
     }
 }
 
+/// Writes the record of a transaction with its number over what a buffer had, into its memory. See [`encode`].
+pub fn encode_into(out: &mut Vec<u8>, number: u64, t: &Transaction) -> Result<(), AllocError>
+    ensures { OnOk result (out.new.items ≡ record_bytes number t.now) }
+{
+    out.clear();
+    put_u64(out, number)?;
+    out.push(kind_of(t))?;
+    put_body(out, t)
+}
+
 /// The bytes of a transaction with its number.
 fn record_of(alloc: Global, number: u64, t: &Transaction) -> Result<Vec<u8>, AllocError>
     ensures { IfOk result (λ payload. payload.items ≡ record_bytes number t.now) }
 {
-    let mut out = Vec::new(alloc);
-    put_u64(&mut out, number)?;
-    out.push(kind_of(t))?;
-    put_body(&mut out, t)?;
+    let mut out = Vec::with_capacity(alloc, COMMON_ROOM)?;
+    encode_into(&mut out, number, t)?;
     Ok(out)
 }
 

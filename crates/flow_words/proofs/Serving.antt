@@ -27,9 +27,9 @@ use Rattle.flow_session.specs.declared.serving.Session.{Session}
 use Rattle.flow_session.proofs.Calls.{makes_nothing, makes_so}
 use Rattle.flow_session.proofs.Queued.{stands_queue}
 use Rattle.flow_session.proofs.Scripts.{make_asked}
-use Rattle.machine_verdicts.specs.Keyed.{AreKeyed}
-use Rattle.machine_verdicts.specs.WholeStates.{IsWhole}
-use Rattle.session_laws.proofs.Scripts.{script_replied}
+use Rattle.machine_laws.specs.Keyed.{AreKeyed}
+use Rattle.machine_laws.specs.WholeStates.{IsWhole}
+use Rattle.flow_session.proofs.RepliedScripts.{script_replied}
 use Rattle.worklist_laws.specs.Shelved.{IsRightAndListed}
 use Rattle.text_words.specs.Gathered.{found_input}
 use Rattle.text_words.specs.Limits.{IsWithinLimit, IsBeyondLimit}

@@ -10,13 +10,12 @@ use Rattle.flow_model.specs.declared.instances.Fate.{Fate}
 use Rattle.flow_model.specs.declared.instances.Fate.TheVariants.{Finished}
 use Rattle.flow_model.specs.declared.instances.FateRow.{FateRow}
 use Rattle.flow_model.specs.declared.transactions.Numbered.{Numbered}
-use Rattle.flow_model.specs.declared.transactions.Transaction.{Transaction}
-use Rattle.flow_model.specs.declared.transactions.Transaction.TheVariants.{Turn}
 use Rattle.flow_disk.specs.declared.disk.Slot.TheVariants.{A}
 use Rattle.flow_session.specs.Inputs.{Given, Line}
 use Rattle.flow_session.specs.Scripts.{ServesAll}
 use Rattle.flow_session.specs.declared.journal.NoJournal.{NoJournal}
 use Rattle.flow_session.specs.declared.serving.Session.{Session}
+use Rattle.live_history.specs.Transactions.{is_turn}
 use Rattle.flow_words.specs.Printed.{Prints}
 use Rattle.flow_words.specs.Scripts.{IsFresh, all_replies}
 use Rattle.flow_words.specs.declared.load.Loading.{Loading}
@@ -107,10 +106,6 @@ ServesInMemory s j inputs replies s' j' = ServesAll ⊥ (λ _ _. ⊥) (λ _. 0) 
     (λ _ _ _. Unit {0}) s j inputs replies s' j'
 
 -- ---- what is counted
-
-abbrev pub is_turn : Transaction → Bool
-is_turn (Turn queue message) = true
-is_turn t = false
 
 -- the messages that were taken: the Turns among the live transactions
 abbrev pub turns_of : List Numbered → ℕ

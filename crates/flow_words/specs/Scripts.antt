@@ -30,8 +30,8 @@ use Rattle.flow_session.specs.declared.journal.NoJournal.{NoJournal}
 use Rattle.machine.specs.States.{blank}
 use Rattle.machine.specs.Scripts.{Replies}
 use Rattle.machine_laws.specs.Viewed.{view}
-use Rattle.machine_verdicts.specs.WholeStates.{IsWhole}
-use Rattle.session_laws.specs.Sittings.{sitting}
+use Rattle.machine_laws.specs.WholeStates.{IsWhole}
+use Rattle.flow_session.specs.Sittings.{sitting}
 use Rattle.flow_words.specs.Crashes.{empty_history}
 use Rattle.flow_words.specs.Endings.{StopsScript, status_of_stop}
 use Rattle.flow_words.specs.Openings.{IsUnserved}

@@ -6,12 +6,12 @@ ghost use Rattle.flow_words.specs.Loading.{next_number as number_behind, amount_
 ghost use Rattle.flow_words.specs.Loading.{drained as drained_lines, force_line as force_of, force_with};
 ghost use Rattle.flow_words.specs.Loading.{start_line as start_of, root_script, roots_script};
 ghost use Rattle.flow_words.specs.Loading.{finishes_b as finishing, AreFinished};
-ghost use Rattle.flow_words.specs.Loading.{import_script, lines as lines_of, is_turn as turn_test, turns_of, load_line};
+ghost use Rattle.flow_words.specs.Loading.{import_script, lines as lines_of, turns_of, load_line};
 ghost use Rattle.flow_words.specs.Loading.{Serves, IsSummary, IsLoaded};
 ghost use Rattle.flow_words.specs.Scripts.{IsFresh};
 
 use flow_core::Core;
-use flow_model::{Fate, FateRow, Numbered, Transaction};
+use flow_model::{Fate, FateRow};
 use flow_session::{Input, NoJournal, Session};
 use flow_text::decimal;
 use live_history::History;
@@ -222,26 +222,11 @@ impl Loading {
     }
 }
 
-/// What a transaction adds to the count of Turns.
-fn turn_of(numbered: &Numbered) -> u64
-    ensures { result ≡ (if turn_test numbered.now.transaction then 1 else 0) }
-{
-    match numbered.transaction {
-        Transaction::Turn(_, _) => 1,
-        _ => 0,
-    }
-}
-
 /// The Turns among the live transactions.
-fn turns(history: &History) -> Result<u64, AllocError>
-    ensures { IfOk result (λ turns. turns ≡ turns_of history.now.items) }
+fn turns(history: &History) -> u64
+    ensures { result ≡ turns_of history.now.items }
 {
-    let mut turns = 0u64;
-    let mut walk = history.walk();
-    while let Some(numbered) = walk.next()? {
-        turns = with_more(turns, turn_of(&numbered))?;
-    }
-    Ok(turns)
+    history.turns() as u64
 }
 
 /// Whether a row says that B is finished, in the scope of the root itself.
@@ -295,7 +280,7 @@ fn summary(load: &Loading, seed: u64, roots: u64) -> Result<Vec<u8>, AllocError>
     ensures { IfOk result (λ text. IsSummary seed roots load.now text.items) }
 {
     let core = load.session.core();
-    let taken = turns(core.live())?;
+    let taken = turns(core.live());
     let finished = finished_roots(load.alloc, core, roots)?;
     let numbers = [
         seed,

@@ -12,7 +12,8 @@ use Rattle.flow_txn.specs.Ranges.{IsInRange}
 use Rattle.flow_txn.specs.Reading.{whole}
 use Rattle.flow_txn.specs.Records.{record_bytes}
 use Rattle.flow_txn.specs.declared.faults.RecordFault.TheVariants.{BadRecord}
-use Rattle.live_history.specs.Rows.{HistoryRow}
+use Rattle.live_history.specs.Rows.{HistoryRow, has_turn}
+use Rattle.live_history.specs.Transactions.{is_turn}
 use Rattle.live_history.specs.Kept.{record_of, bytes_at, row_read, read_from, row_over, shown_rows, IsKept, AreKept, Extends}
 use Rattle.live_history.specs.declared.kept_rows.Row.{Row}
 use Rattle.live_history.specs.declared.kept_rows.Row.TheVariants.{Gone, Record, Whole}
@@ -80,6 +81,14 @@ record_shown records start size bytes b kept are =
     let is = spelled (bytes_at records start size) n.0 (IsBytes-at records start size b) n.1 in
     ap (λ (l : List ℕ). Some l) (are ∙ sym is.0) ∙ sym (ap (λ (row : HistoryRow). option_map record_of row) n.1)
 
+-- they tell whether it shows a Turn
+pub turn_shown : (records : List ℕ) (start size : ℕ) (bytes : List ℕ) (turn : Bool) → IsBytes records → IsKept records (Record start size) → bytes ≡ bytes_at records start size
+    → ((number : ℕ) (t : Transaction) → record_bytes number t ≡ bytes → turn ≡ is_turn t) → turn ≡ has_turn (row_over records (Record start size))
+turn_shown records start size bytes turn b kept are tells =
+    let n = some_there (read_from (bytes_at records start size)) kept.1 in
+    let is = spelled (bytes_at records start size) n.0 (IsBytes-at records start size b) n.1 in
+    tells n.0.number n.0.transaction (is.0 ∙ sym are) ∙ sym (ap (λ (row : HistoryRow). has_turn row) n.1)
+
 -- ---- a longer buffer
 
 pub bytes_extended : (old new : List ℕ) (start size : ℕ) → Extends old new → start + size ≤ length old → bytes_at new start size ≡ bytes_at old start size
@@ -138,35 +147,41 @@ kept_some records added row bytes n is kept read =
     let one : IsKept records row × (row_over records row ≡ read_from bytes) = subst (λ (o : Option Row). IfSome o (λ r. IsKept records r × (row_over records r ≡ read_from bytes))) is kept in
     (one.0, one.1 ∙ read)
 
--- ---- how many rows have a transaction
+-- ---- how many rows pass a test
 
--- how many of these rows have one
-abbrev pub shown_count : List ℕ → List Row → ℕ
-shown_count records rows = length (filter is_some (shown_rows records rows))
+-- how many of these rows pass
+abbrev pub shown_count : (HistoryRow → Bool) → List ℕ → List Row → ℕ
+shown_count test records rows = length (filter test (shown_rows records rows))
 
-cons_count : (row : HistoryRow) (rest : List HistoryRow) (there : Bool) → there ≡ is_some row
-    → length (filter is_some (row ∷ rest)) ≡ (if there then length (filter is_some rest) + 1 else length (filter is_some rest))
-cons_count None rest there is = sym (ap (λ (b : Bool). if b then length (filter is_some rest) + 1 else length (filter is_some rest)) is)
-cons_count (Some n) rest there is =
-    let more : length (filter is_some (Some n ∷ rest)) ≡ length (filter is_some rest) + 1 = omega arith in
-    more ∙ sym (ap (λ (b : Bool). if b then length (filter is_some rest) + 1 else length (filter is_some rest)) is)
+cons_by : (row : HistoryRow) (found : List HistoryRow) (passes : Bool) → length (if passes then row ∷ found else found) ≡ (if passes then length found + 1 else length found)
+cons_by row found true = omega arith
+cons_by row found false = refl
 
-count_by : (there : Bool) (now count rest left all : ℕ) → now ≡ (if there then count + 1 else count) → left ≡ (if there then rest + 1 else rest) → count + left ≡ all → now + rest ≡ all
-count_by true now count rest left all is more so_far = omega arith
-count_by false now count rest left all is more so_far = omega arith
+cons_count : (test : HistoryRow → Bool) (row : HistoryRow) (rest : List HistoryRow) (passes : Bool) → passes ≡ test row
+    → length (filter test (row ∷ rest)) ≡ (if passes then length (filter test rest) + 1 else length (filter test rest))
+cons_count test row rest passes is =
+    cons_by row (filter test rest) (test row) ∙ ap (λ (b : Bool). if b then length (filter test rest) + 1 else length (filter test rest)) (sym is)
+
+count_step : (passes : Bool) (now count rest left all : ℕ) → now ≡ (if passes then count + 1 else count) → left ≡ (if passes then rest + 1 else rest) → count + left ≡ all → now + rest ≡ all
+count_step true now count rest left all is more so_far = omega arith
+count_step false now count rest left all is more so_far = omega arith
+
+-- the row at a place is kept
+kept_at : (records : List ℕ) (rows : List Row) (i : ℕ) (row : Row) → i < length rows → row ≡ get_or rows i row → AreKept records rows → IsKept records row
+kept_at records rows i row less is kept = subst (λ (r : Row). IsKept records r) (sym is) (All-get_or (IsKept records) rows i row less kept)
 
 -- one row more
-pub counted_more : (records : List ℕ) (rows : List Row) (i now count : ℕ) (row : Row) (there : Bool) → i < length rows → row ≡ get_or rows i row → AreKept records rows
-    → (IsKept records row → there ≡ is_some (row_over records row)) → now ≡ (if there then count + 1 else count)
-    → count + shown_count records (drop i rows) ≡ shown_count records rows → now + shown_count records (drop (i + 1) rows) ≡ shown_count records rows
-counted_more records rows i now count row there less is kept tells adds so_far =
-    let one : IsKept records row = subst (λ (r : Row). IsKept records r) (sym is) (All-get_or (IsKept records) rows i row less kept) in
-    let step = at_drop_more (shown_count records) rows i row less ∙ ap (λ (r : Row). shown_count records (r ∷ drop (i + 1) rows)) (sym is) in
-    count_by there now count (shown_count records (drop (i + 1) rows)) (shown_count records (drop i rows)) (shown_count records rows) adds
-    (step ∙ cons_count (row_over records row) (shown_rows records (drop (i + 1) rows)) there (tells one)) so_far
+pub counted_more : (test : HistoryRow → Bool) (records : List ℕ) (rows : List Row) (i now count : ℕ) (row : Row) (passes : Bool) → i < length rows → row ≡ get_or rows i row → AreKept records rows
+    → (IsKept records row → passes ≡ test (row_over records row)) → now ≡ (if passes then count + 1 else count)
+    → count + shown_count test records (drop i rows) ≡ shown_count test records rows → now + shown_count test records (drop (i + 1) rows) ≡ shown_count test records rows
+counted_more test records rows i now count row passes less is kept tells adds so_far =
+    let step = at_drop_more (shown_count test records) rows i row less ∙ ap (λ (r : Row). shown_count test records (r ∷ drop (i + 1) rows)) (sym is) in
+    count_step passes now count (shown_count test records (drop (i + 1) rows)) (shown_count test records (drop i rows)) (shown_count test records rows) adds
+    (step ∙ cons_count test (row_over records row) (shown_rows records (drop (i + 1) rows)) passes (tells (kept_at records rows i row less is kept))) so_far
 
 -- all rows
-pub counted_all : (records : List ℕ) (rows : List Row) (i count : ℕ) → length rows ≤ i → count + shown_count records (drop i rows) ≡ shown_count records rows → count ≡ shown_count records rows
-counted_all records rows i count past so_far =
-    let none : shown_count records (drop i rows) ≡ 0 = ap (shown_count records) (drop_all i rows past) in
+pub counted_all : (test : HistoryRow → Bool) (records : List ℕ) (rows : List Row) (i count : ℕ) → length rows ≤ i → count + shown_count test records (drop i rows) ≡ shown_count test records rows
+    → count ≡ shown_count test records rows
+counted_all test records rows i count past so_far =
+    let none : shown_count test records (drop i rows) ≡ 0 = ap (shown_count test records) (drop_all i rows past) in
     omega arith

@@ -1,6 +1,6 @@
 -- What a row more, and rows that are taken away, change of the live transactions and of the places of each root.
 use Rattle.std.proofs.Common.{◌≡◌, ℕ, suc, ◌+◌, ◌<◌, ◌≤◌, ◌==◌, Bool, true, false, if◌then◌else◌, Option, Some, None, Result, Ok, Err, OnErr, List, [], ◌∷◌, ◌++◌, length, map, drop, get_or, slice_set, option_map, refl, sym, ap, ◌∙◌, arith}
-use Rattle.std.specs.List.{filter, filter_map, cons_option}
+use Rattle.std.specs.List.{filter, filter_map, cons_option, count_by}
 use Rattle.std.specs.Option.{is_some, option_and_then}
 use Rattle.std.specs.Global.{Vec}
 use Rattle.std.proofs.Math.Seq.{set-append_seam, get_or-append_seam}
@@ -8,11 +8,12 @@ use Rattle.std.proofs.lemmas.Bool.Decides.{nat_tests}
 use Rattle.std.proofs.lemmas.Grind.{common_steps}
 use Rattle.std.proofs.lemmas.List.{append_assoc, append-nil, at_drop_more, drop_all, length-append}
 use Rattle.std.proofs.lemmas.List.Elements.{filter_map-append}
+use Rattle.std.proofs.lemmas.List.Sums.{length-filter}
 use Rattle.std.proofs.lemmas.Option.{slice_get-get_or}
 use Rattle.flow_model.specs.declared.transactions.Numbered.{Numbered}
 use Rattle.live_history.specs.Kept.{record_of, records_of}
-use Rattle.live_history.specs.Rows.{HistoryRow, present, is_row_about, places_from, place_if, cleared, transaction_at}
-use Rattle.live_history.specs.Transactions.{root_about, is_root, about, without_root}
+use Rattle.live_history.specs.Rows.{HistoryRow, present, is_row_about, has_turn, places_from, place_if, cleared, transaction_at}
+use Rattle.live_history.specs.Transactions.{root_about, is_root, is_turn, about, without_root}
 
 -- a row behind the others
 pub one_more : (rows : List HistoryRow) (n : Numbered) → present (rows ++ Some n ∷ []) ≡ present rows ++ n ∷ []
@@ -114,6 +115,20 @@ pub length_present : (rows : List HistoryRow) → length (filter is_some rows) �
 length_present [] = refl
 length_present (None ∷ rows) = length_present rows
 length_present (Some n ∷ rows) = ap suc (length_present rows)
+
+-- the number of rows that have a Turn
+turns_step : (n : Numbered) (rows : List HistoryRow) (live : List Numbered) (turn : Bool) → length rows ≡ length live → length (if turn then Some n ∷ rows else rows) ≡ length (if turn then n ∷ live else live)
+turns_step n rows live true same = ap suc same
+turns_step n rows live false same = same
+
+turns_found : (rows : List HistoryRow) → length (filter has_turn rows) ≡ length (filter (λ n. is_turn n.transaction) (present rows))
+turns_found [] = refl
+turns_found (None ∷ rows) = turns_found rows
+turns_found (Some n ∷ rows) =
+    turns_step n (filter has_turn rows) (filter (λ m. is_turn m.transaction) (present rows)) (is_turn n.transaction) (turns_found rows)
+
+pub turns_present : (rows : List HistoryRow) → length (filter has_turn rows) ≡ count_by (λ n. is_turn n.transaction) (present rows)
+turns_present rows = turns_found rows ∙ length-filter (λ n. is_turn n.transaction) (present rows)
 
 -- all places of a root are cleared
 pub cleared_all : (root : ℕ) (rows : List HistoryRow) → cleared (places_from root 0 rows) rows ≡ map (hidden root) rows

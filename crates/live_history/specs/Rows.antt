@@ -8,7 +8,7 @@ use Rattle.std.specs.Global.{Vec}
 use Rattle.std.specs.BTreeMap as tree
 use Rattle.std.specs.BTreeMap.{BTreeMap}
 use Rattle.flow_model.specs.declared.transactions.Numbered.{Numbered}
-use Rattle.live_history.specs.Transactions.{root_about, is_root}
+use Rattle.live_history.specs.Transactions.{root_about, is_root, is_turn}
 
 -- a row: a transaction that is live, or none any more
 abbrev pub HistoryRow : Type 0
@@ -22,6 +22,11 @@ present rows = filter_map (λ row. row) rows
 abbrev pub is_row_about : ℕ → HistoryRow → Bool
 is_row_about root None = false
 is_row_about root (Some n) = is_root root (root_about n.transaction)
+
+-- a row has a Turn
+abbrev pub has_turn : HistoryRow → Bool
+has_turn None = false
+has_turn (Some n) = is_turn n.transaction
 
 -- the places of the rows about a root, where the first row has this place
 abbrev pub places_from : ℕ → ℕ → List HistoryRow → List ℕ

@@ -7,6 +7,7 @@ use Rattle.flow_model.specs.declared.transactions.Transaction.{Transaction}
 use Rattle.flow_model.specs.declared.transactions.Transaction.TheVariants.{Import, Start, Turn, Claim, Release}
 use Rattle.flow_model.specs.declared.transactions.Transaction.TheVariants.{Transfer, Take, Done, Force, Restart}
 use Rattle.flow_model.specs.declared.transactions.Transaction.TheVariants.{Suspend, Resume, Terminate, Delete, Clock}
+pub use Rattle.flow_txn.specs.Records.{is_turn}
 use Rattle.recover_queue.specs.Queues.{root_of as root_of_message}
 
 -- the root that a transaction is about

@@ -1,7 +1,7 @@
 //! The rows of a history, and where those of each root stand.
 ghost use Rattle.std.specs.Prelude.{◌≡◌, ℕ, ◌==◌, [], ◌∷◌, ◌++◌, length, if◌then◌else◌};
-ghost use Rattle.std.specs.Prelude.{IfOk, OnOk, OnErr};
-ghost use Rattle.live_history.specs.Transactions.{about, is_root, without_root};
+ghost use Rattle.std.specs.Prelude.{IfOk, OnOk, OnErr, count_by};
+ghost use Rattle.live_history.specs.Transactions.{about, is_root, is_turn, without_root};
 ghost use Rattle.live_history.specs.Rows.{kept_places, place_if};
 
 use crate::kept_rows::Rows;
@@ -132,6 +132,13 @@ impl History {
         ensures { result ≡ length self.now.items }
     {
         self.rows.count()
+    }
+
+    /// The number of Turns among the transactions. None of them is read whole.
+    pub fn turns(&self) -> usize
+        ensures { result ≡ count_by (λ n. is_turn n.transaction) self.now.items }
+    {
+        self.rows.turns()
     }
 
     /// The transactions about a root, the oldest first.

@@ -3,14 +3,14 @@ ghost use Rattle.std.specs.Prelude.{◌≡◌, ◌++◌, ◌∷◌, [], ℕ, tru
 ghost use Rattle.std.specs.Prelude.{length, option_map, slice_set};
 ghost use Rattle.std.specs.List.{filter};
 ghost use Rattle.std.specs.Option.{is_some};
-ghost use Rattle.live_history.specs.Rows.{cleared, transaction_at};
+ghost use Rattle.live_history.specs.Rows.{cleared, has_turn, transaction_at};
 ghost use Rattle.live_history.specs.declared.kept_rows.Row.TheVariants.{Gone, Record};
 ghost use Rattle.live_history.specs.Kept.{record_of, read_from, row_over, shown_rows, bytes_at};
 ghost use Rattle.live_history.specs.Kept.{IsKept, AreKept, Extends};
 
 use crate::copies::copy_of;
-use flow_model::{Boxed, Numbered};
-use flow_txn::{RecordFault, decode, encode, fits};
+use flow_model::{Boxed, Numbered, Transaction};
+use flow_txn::{RecordFault, decode, encode, encode_into, fits, is_turn};
 use std::alloc::{AllocError, Global};
 use std::marker::Model;
 
@@ -36,6 +36,8 @@ pub(crate) struct Rows {
     places: Vec<Row>,
     /// The records, one behind the other. Those of rows that are gone stay.
     records: Vec<u8>,
+    /// Where the next record is written, before it is put behind the others.
+    draft: Vec<u8>,
 }
 
 impl Model for Rows {
@@ -72,8 +74,13 @@ fn add_record(records: &mut Vec<u8>, bytes: &[u8]) -> Result<Option<Row>, AllocE
     Ok(Some(Row::Record(start as u32, bytes.len() as u32)))
 }
 
-/// Keeps a transaction: in the buffer where it is in range, else whole.
-fn keep(alloc: Global, records: &mut Vec<u8>, numbered: Numbered) -> Result<Row, AllocError>
+/// Keeps a transaction: in the buffer where it is in range, else whole. Its record is first written over the draft.
+fn keep(
+    alloc: Global,
+    records: &mut Vec<u8>,
+    draft: &mut Vec<u8>,
+    numbered: Numbered,
+) -> Result<Row, AllocError>
     ensures kept { IfOk result (λ row. IsKept records.new.items row
         × (row_over records.new.items row ≡ Some numbered)) }
     ensures others { Extends records.old.items records.new.items }
@@ -81,8 +88,8 @@ fn keep(alloc: Global, records: &mut Vec<u8>, numbered: Numbered) -> Result<Row,
     if !fits(numbered.number, &numbered.transaction) {
         return whole_row(alloc, numbered);
     }
-    let bytes = encode(alloc, numbered.number, &numbered.transaction)?;
-    match add_record(records, &bytes)? {
+    encode_into(draft, numbered.number, &numbered.transaction)?;
+    match add_record(records, draft)? {
         Some(row) => Ok(row),
         None => whole_row(alloc, numbered),
     }
@@ -168,6 +175,32 @@ fn count_present(rows: &[Row]) -> usize
     count
 }
 
+/// Whether a row has a Turn. A record tells it by one byte.
+fn is_turn_row(records: &[u8], row: &Row) -> bool
+    requires { IsKept records.now row.now }
+    ensures { result ≡ has_turn (row_over records.now row.now) }
+{
+    match row {
+        Row::Gone => false,
+        Row::Record(start, size) => is_turn(record_at(records, *start, *size)),
+        Row::Whole(numbered) => matches!(numbered.get().transaction, Transaction::Turn(_, _)),
+    }
+}
+
+/// How many rows have a Turn.
+fn count_turns(records: &[u8], rows: &[Row]) -> usize
+    requires { AreKept records.now rows.now }
+    ensures { result ≡ length (filter has_turn (shown_rows records.now rows.now)) }
+{
+    let mut count = 0;
+    for row in rows {
+        if is_turn_row(records, row) {
+            count += 1;
+        }
+    }
+    count
+}
+
 /// Takes the transaction at a place away, if one is there.
 fn clear_row(rows: &mut Vec<Row>, place: usize)
     ensures { rows.new.items ≡ slice_set rows.old.items place Gone }
@@ -186,6 +219,7 @@ impl Rows {
             alloc,
             places: Vec::new(alloc),
             records: Vec::new(alloc),
+            draft: Vec::new(alloc),
         }
     }
 
@@ -201,6 +235,13 @@ impl Rows {
         ensures { result ≡ length (filter is_some self.now) }
     {
         count_present(&self.places)
+    }
+
+    /// How many rows have a Turn.
+    pub(crate) fn turns(&self) -> usize
+        ensures { result ≡ length (filter has_turn self.now) }
+    {
+        count_turns(&self.records, &self.places)
     }
 
     /// The transaction at a place, if one is there.
@@ -234,7 +275,7 @@ impl Rows {
         if place > FURTHEST {
             return Err(AllocError);
         }
-        let row = keep(self.alloc, &mut self.records, numbered)?;
+        let row = keep(self.alloc, &mut self.records, &mut self.draft, numbered)?;
         self.places.push(row)?;
         Ok(place as u32)
     }

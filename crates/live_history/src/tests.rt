@@ -2,7 +2,7 @@
 ghost use Rattle.std.specs.Prelude.{◌≤◌};
 
 use crate::History;
-use flow_model::{Numbered, Transaction};
+use flow_model::{List, Message, Numbered, Path, Transaction};
 use flow_txn::encode;
 use std::alloc::{AllocError, Global};
 use std::test::Fail;
@@ -28,6 +28,15 @@ fn suspensions(alloc: Global, count: u64) -> Result<History, AllocError>
         })?;
     }
     Ok(history)
+}
+
+/// The taking of a message about a root.
+fn turn(alloc: Global, number: u64, root: u64) -> Numbered {
+    let parts = List::new(alloc);
+    Numbered {
+        number,
+        transaction: Transaction::Turn(0, Message::End(Path { root, parts })),
+    }
 }
 
 /// The numbers of the transactions that a walk over a history finds.
@@ -145,5 +154,18 @@ fn a_history_goes_on_after_most_was_deleted(rt: HostRuntime) -> Result<(), Fail>
         numbers(alloc, &history.about(2)?)?.as_slice(),
         [1, 4, 7].as_slice()
     );
+    Ok(())
+}
+
+#[test]
+fn turns_are_counted_in_records_and_whole(rt: HostRuntime) -> Result<(), Fail> {
+    let alloc = rt.alloc();
+    let mut history = suspensions(alloc, 3)?;
+    assert_eq!(rt; history.turns(), 0);
+    history.push(turn(alloc, 4, 1))?;
+    history.push(turn(alloc, 0, 2))?;
+    assert_eq!(rt; history.turns(), 2);
+    history.remove(1);
+    assert_eq!(rt; history.turns(), 1);
     Ok(())
 }

@@ -22,8 +22,8 @@ use Rattle.machine.specs.States.{Root, State}
 use Rattle.machine.specs.Steps.{Runs}
 use Rattle.machine.specs.Verdicts as machine
 use Rattle.machine_laws.specs.Viewed.{view}
-use Rattle.machine_verdicts.proofs.Verdicts.{verdict_seen}
-use Rattle.machine_verdicts.specs.Keyed.{AreKeyed}
+use Rattle.machine_laws.proofs.SeenVerdicts.{verdict_seen}
+use Rattle.machine_laws.specs.Keyed.{AreKeyed}
 use Rattle.reopening_laws.specs.Ranges.{IsWorded}
 use Rattle.reopening_laws.proofs.Admitted.{both_none}
 use Rattle.reopening_laws.proofs.Sessions.{runs_cut, turn_judged}

@@ -13,7 +13,7 @@ use Rattle.flow_session.specs.declared.serving.Session.{Session}
 use Rattle.flow_session.proofs.Calls.{makes_nothing, makes_more, makes_so}
 use Rattle.flow_session.proofs.Leading.{leads_none, leads_more}
 use Rattle.machine_laws.specs.Viewed.{view}
-use Rattle.machine_verdicts.specs.Keyed.{AreKeyed}
+use Rattle.machine_laws.specs.Keyed.{AreKeyed}
 use Rattle.worklist_laws.specs.Shelved.{IsRightAndListed}
 use Rattle.range_laws.specs.Sessions.{MakesInRange, ScriptsMakeInRange}
 use Rattle.range_laws.specs.Standing.{HasNoZero, StaysInBounds}

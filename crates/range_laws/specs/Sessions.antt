@@ -13,7 +13,7 @@ use Rattle.flow_session.specs.Scripts.{ServesAll}
 use Rattle.flow_session.specs.Serving.{Makes}
 use Rattle.flow_session.specs.declared.serving.Session.{Session}
 use Rattle.machine_laws.specs.Viewed.{view}
-use Rattle.machine_verdicts.specs.WholeStates.{IsWhole}
+use Rattle.machine_laws.specs.WholeStates.{IsWhole}
 use Rattle.range_laws.specs.Standing.{HasNoZero, StaysInBounds}
 use Rattle.range_laws.specs.Words.{MadeByWords}
 

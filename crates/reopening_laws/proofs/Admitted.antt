@@ -34,8 +34,8 @@ use Rattle.machine.specs.States as s
 use Rattle.machine.specs.Verdicts as machine
 use Rattle.machine_laws.specs.Viewed.{view, entry_of}
 use Rattle.machine_laws.proofs.Seen.{items}
-use Rattle.machine_verdicts.proofs.Subjects.{seen, modes}
-use Rattle.machine_verdicts.specs.Keyed.{AreKeyed}
+use Rattle.machine_laws.proofs.Subjects.{seen, modes}
+use Rattle.machine_laws.specs.Keyed.{AreKeyed}
 use Rattle.navigator.specs.Items.{Entry}
 use Rattle.worklist_laws.proofs.Spelled.{spells_one}
 use Rattle.reopening_laws.specs.Codes.{ItemsHaveCodes}

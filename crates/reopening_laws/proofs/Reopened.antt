@@ -26,9 +26,9 @@ use Rattle.machine.specs.Verdicts.{IsVerdict}
 use Rattle.machine.proofs.One.{step}
 use Rattle.machine_laws.specs.Viewed.{view}
 use Rattle.machine_laws.proofs.Judging.{rule_one}
-use Rattle.machine_verdicts.specs.Keyed.{AreKeyed}
-use Rattle.machine_verdicts.proofs.Keyed.{blank_keyed}
-use Rattle.machine_verdicts.proofs.Obeyed.{record_adopted}
+use Rattle.machine_laws.specs.Keyed.{AreKeyed}
+use Rattle.machine_laws.proofs.Keyed.{blank_keyed}
+use Rattle.machine_laws.proofs.Obeyed.{record_adopted}
 use Rattle.flow_disk.specs.Images.{Image}
 use Rattle.flow_disk.specs.declared.disk.Slot.{Slot}
 use Rattle.txn_log.specs.Stores.{StoreState, NoStore, ForeignIn, DamagedIn, Counts, store_of}

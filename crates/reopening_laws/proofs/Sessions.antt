@@ -33,8 +33,8 @@ use Rattle.machine.specs.States.{State}
 use Rattle.machine.specs.Steps.{Runs}
 use Rattle.machine.specs.Verdicts as machine
 use Rattle.machine_laws.specs.Viewed.{view}
-use Rattle.machine_verdicts.proofs.Verdicts.{verdict_seen}
-use Rattle.machine_verdicts.specs.Keyed.{AreKeyed}
+use Rattle.machine_laws.proofs.SeenVerdicts.{verdict_seen}
+use Rattle.machine_laws.specs.Keyed.{AreKeyed}
 use Rattle.recover_queue.specs.Queues.{queue as messages_of}
 use Rattle.worklist_laws.specs.Shelved.{IsRightAndListed}
 use Rattle.reopening_laws.specs.Making.{MadeByCommands}

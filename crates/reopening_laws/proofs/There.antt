@@ -10,7 +10,7 @@ use Rattle.flow_model.specs.declared.instances.Path.{Path}
 use Rattle.machine.specs.Verdicts as machine
 use Rattle.machine_laws.specs.Viewed.{view, root_of, entry_of}
 use Rattle.machine_laws.proofs.Seen.{items}
-use Rattle.machine_verdicts.proofs.Subjects.{seen, performers}
+use Rattle.machine_laws.proofs.Subjects.{seen, performers}
 use Rattle.navigator.specs.Items.{Entry}
 use Rattle.navigator.specs.declared.instance.Instance.{Instance}
 

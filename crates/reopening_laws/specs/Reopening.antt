@@ -16,7 +16,7 @@ use Rattle.flow_txn.specs.Ranges.{TransactionFits}
 use Rattle.machine.specs.States as machine
 use Rattle.machine.specs.Verdicts.{IsVerdict}
 use Rattle.machine_laws.specs.Viewed.{view}
-use Rattle.machine_verdicts.specs.Keyed.{AreKeyed}
+use Rattle.machine_laws.specs.Keyed.{AreKeyed}
 use Rattle.txn_log.specs.Stores.{Counts, store_of}
 use Rattle.txn_log.specs.declared.header.Header.{Header}
 use Rattle.txn_log.specs.declared.stops.LogStop.{LogStop}

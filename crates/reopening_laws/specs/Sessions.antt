@@ -9,7 +9,7 @@ use Rattle.flow_session.specs.Scripts.{ServesAll}
 use Rattle.flow_session.specs.Serving.{Makes}
 use Rattle.flow_session.specs.declared.serving.Session.{Session}
 use Rattle.machine_laws.specs.Viewed.{view}
-use Rattle.machine_verdicts.specs.WholeStates.{IsWhole}
+use Rattle.machine_laws.specs.WholeStates.{IsWhole}
 use Rattle.reopening_laws.specs.Making.{MadeByCommands}
 
 -- The transactions that a script makes, of which a crash at any moment leaves a front part, lead from its first state

@@ -15,8 +15,8 @@ use Rattle.flow_session.proofs.Rights.{begun_right}
 use Rattle.flow_txn.specs.Ranges.{IsInRange}
 use Rattle.machine.specs.Verdicts.{IsVerdict}
 use Rattle.machine_laws.specs.Viewed.{view}
-use Rattle.machine_verdicts.specs.Keyed.{AreKeyed}
-use Rattle.machine_verdicts.proofs.Keyed.{blank_keyed}
+use Rattle.machine_laws.specs.Keyed.{AreKeyed}
+use Rattle.machine_laws.proofs.Keyed.{blank_keyed}
 use Rattle.reopening_laws.specs.Making.{MadeByCommands}
 use Rattle.reopening_laws.proofs.Limits.{keeps_within}
 use Rattle.compaction_laws.specs.Compact.{IsMadeAnew}

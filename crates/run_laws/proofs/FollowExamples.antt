@@ -14,7 +14,7 @@ use Rattle.flow_session.proofs.Replaying.{blank_seen}
 use Rattle.flow_words.specs.Following.{PrintsFollowed}
 use Rattle.flow_words.specs.Outside.{Channels, files}
 use Rattle.flow_words.specs.declared.status.Status.TheVariants.{Done}
-use Rattle.machine_verdicts.proofs.Keyed.{blank_keyed}
+use Rattle.machine_laws.proofs.Keyed.{blank_keyed}
 use Rattle.standby.specs.Followed.{IsAtStage}
 use Rattle.standby.specs.Stages.{Here, behind}
 use Rattle.standby.specs.Streams.{front_bytes, end_bytes}

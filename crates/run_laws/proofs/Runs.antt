@@ -31,14 +31,14 @@ use Rattle.flow_words.specs.declared.word.Word.{Word}
 use Rattle.machine.specs.Scripts.{Replies}
 use Rattle.machine.specs.States.{State}
 use Rattle.machine_laws.specs.Viewed.{view}
-use Rattle.machine_verdicts.specs.Keyed.{AreKeyed}
+use Rattle.machine_laws.specs.Keyed.{AreKeyed}
 use Rattle.reopening_laws.specs.Making.{MadeByCommands}
 use Rattle.reopening_laws.proofs.Sessions.{made_by_commands}
 use Rattle.compaction_laws.specs.Compact.{IsMadeAnew}
 use Rattle.compaction_laws.specs.OwnStores.{IsOwn, IsOwnAfterSome, AreOwnNow}
 use Rattle.compaction_laws.proofs.Compact.{history_anew}
 use Rattle.compaction_laws.proofs.OwnStores.{own_reopens, own_stay, own_go_on}
-use Rattle.machine_verdicts.specs.WholeStates.{IsWhole}
+use Rattle.machine_laws.specs.WholeStates.{IsWhole}
 use Rattle.run_laws.specs.Runs.{IsAnswered, RunKeepsOwn, IsReopenedAfterSome, RunsKeepOwn, RunsReopen}
 use Rattle.run_laws.specs.Runs.{CorrectRunsKeepOwn}
 use Rattle.run_laws.proofs.Fronts.{own_front, own_past, some_reopened}

@@ -15,8 +15,8 @@ use Rattle.machine.specs.States.{State}
 use Rattle.machine.specs.Verdicts.{IsVerdict}
 use Rattle.meaning_laws.proofs.Verdicts.{verdict_steps}
 use Rattle.machine_laws.specs.Viewed.{view}
-use Rattle.machine_verdicts.proofs.Verdicts.{verdict_seen}
-use Rattle.machine_verdicts.specs.Keyed.{AreKeyed}
+use Rattle.machine_laws.proofs.SeenVerdicts.{verdict_seen}
+use Rattle.machine_laws.specs.Keyed.{AreKeyed}
 use Rattle.reopening_laws.specs.Making.{MadeByCommands}
 use Rattle.reopening_laws.proofs.Sessions.{made_more, turn_judged, turns_made}
 

@@ -15,7 +15,7 @@ use Rattle.flow_words.specs.declared.status.Status.{Status}
 use Rattle.flow_words.specs.declared.word.Word.TheVariants.{Follow}
 use Rattle.machine.specs.States.{State}
 use Rattle.machine_laws.specs.Viewed.{view}
-use Rattle.machine_verdicts.specs.Keyed.{AreKeyed}
+use Rattle.machine_laws.specs.Keyed.{AreKeyed}
 use Rattle.reopening_laws.specs.Making.{MadeByCommands}
 use Rattle.compaction_laws.specs.Compact.{IsMadeAnew}
 use Rattle.compaction_laws.specs.OwnStores.{IsOwn, IsOwnAfterSome}

@@ -1,8 +1,7 @@
 //! Certificates of a store: as `explain` gives them, with each line left out, repeated, exchanged or changed, and of
 //! what is not there.
-use crate::stores::new_store;
 use flow_disk::MemDisk;
-use flow_trials::{Outcome, run_over};
+use flow_trials::{Outcome, new_store, run_over};
 use flow_words::Status;
 use std::alloc::Global;
 use std::test::Fail;

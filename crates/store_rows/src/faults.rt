@@ -1,7 +1,6 @@
 //! What faults leave of a store: of the disk, of the source and of the sink, at each call in turn.
-use crate::stores::new_store;
 use flow_disk::MemDisk;
-use flow_trials::{Outcome, Store, run_over};
+use flow_trials::{Outcome, Store, new_store, run_over};
 use flow_words::Status;
 use std::alloc::Global;
 use std::test::Fail;

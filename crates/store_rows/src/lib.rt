@@ -1,4 +1,4 @@
-//! Stores and streams to the byte, faults of source, sink and disk, and certificates, as tests over a disk in memory.
+//! Stores to the byte, faults of source, sink and disk, and certificates, as tests over a disk in memory.
 //!
 //! A library without code of its own.
 #![tactic(auto)]
@@ -6,10 +6,6 @@
 #[cfg(test)]
 mod audits;
 #[cfg(test)]
-mod batches;
-#[cfg(test)]
 mod faults;
 #[cfg(test)]
 mod stores;
-#[cfg(test)]
-mod streams;

@@ -1,6 +1,6 @@
 //! Stores to the byte: what is made, and what is printed of one that is cut or altered.
 use flow_disk::{MemDisk, Slot};
-use flow_trials::{Outcome, Store, answer, run_over};
+use flow_trials::{Outcome, new_store, run_over};
 use flow_words::Status;
 use std::alloc::Global;
 use std::test::Fail;
@@ -41,11 +41,6 @@ const ALTERED: [(usize, u8, &str); 11] = [
     (55, 16, "no STORE DAMAGED A 42\n"),
     (63, 6, "no CLOCK 6\n"),
 ];
-
-/// A new store.
-pub(crate) fn new_store(alloc: Global) -> Result<Store, Fail> {
-    Ok(answer(alloc, &["new", "a", "b"], b"")?.store(alloc)?)
-}
 
 /// Runs `run` over a store with these bytes in slot A and none in slot B.
 fn ran(alloc: Global, a: &[u8], script: &[u8]) -> Result<Outcome, Fail> {

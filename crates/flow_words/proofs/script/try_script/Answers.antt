@@ -1,5 +1,5 @@
 use Rattle.std.proofs.Common.{inr}
-use Rattle.machine_verdicts.specs.WholeStates.{IsWhole}
+use Rattle.machine_laws.specs.WholeStates.{IsWhole}
 use Rattle.flow_words.proofs.script.try_script.Goals as goal
 
 pub returns-in-Ok-clause-tries : goal.returns-in-Ok-clause-tries

@@ -8,12 +8,12 @@ returns-then-not-fits-clause-kept c = c.whole_row.ensures c.args.records.now.ite
 
 pub add_record-requires : goal.add_record-requires
 add_record-requires c =
-    there_again c.deref.result.now c.args.numbered (c.fits.ensures.0 c.if-not-fits.false) (c.deref.ensures.value ∙ c.in_ok-bytes.ensures.bytes)
+    there_again c.deref.result.now c.args.numbered (c.fits.ensures.0 c.if-not-fits.false) (c.deref.ensures.value ∙ c.in_ok-encode_into.ensures)
 
 pub returns-in-Some-clause-kept : goal.returns-in-Some-clause-kept
 returns-in-Some-clause-kept c =
     kept_some c.add_record.new.records.items c.in_ok-row.field-0 c.in-Some.row c.deref.result.now c.args.numbered c.in-Some.is c.in_ok-row.ensures.kept
-    (ap read_from (c.deref.ensures.value ∙ c.in_ok-bytes.ensures.bytes) ∙ read_again c.args.numbered (c.fits.ensures.0 c.if-not-fits.false))
+    (ap read_from (c.deref.ensures.value ∙ c.in_ok-encode_into.ensures) ∙ read_again c.args.numbered (c.fits.ensures.0 c.if-not-fits.false))
 
 pub returns-in-None-clause-kept : goal.returns-in-None-clause-kept
 returns-in-None-clause-kept c = c.whole_row-in-None.ensures c.add_record.new.records.items

@@ -1,4 +1,4 @@
-use Rattle.machine_verdicts.proofs.Keyed.{blank_keyed}
+use Rattle.machine_laws.proofs.Keyed.{blank_keyed}
 use Rattle.flow_session.proofs.Replaying.{blank_seen}
 use Rattle.flow_session.proofs.Rights.{begun_right}
 use Rattle.flow_session.proofs.serving.Session.fresh.Goals as goal

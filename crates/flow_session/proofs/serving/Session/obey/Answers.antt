@@ -1,15 +1,22 @@
 use Rattle.std.proofs.Common.{rules}
 use Rattle.std.proofs.lemmas.Result.{err_from_is_err_and}
 use Rattle.flow_session.specs.Asking.{NoneAsked, JudgedSo}
-use Rattle.flow_session.proofs.Asked.{asked_nothing, asked_one, one_stopped}
+use Rattle.flow_session.proofs.Asked.{asked_nothing, asked_one, one_stopped, stopped_first}
 use Rattle.flow_session.proofs.Leading.{leads_by}
 use Rattle.flow_session.proofs.Stopping.{silent}
 use Rattle.flow_session.proofs.Rights.{asks_open}
 use Rattle.flow_session.proofs.serving.Session.obey.Goals as goal
 
+pub returns-in_err-out-in-Ok-Do-clause-makes : goal.returns-in_err-out-in-Ok-Do-clause-makes
+returns-in_err-out-in-Ok-Do-clause-makes g c =
+    let p = err_from_is_err_and c.from_residual.result c.from_residual.ensures.1 in
+    rw (p.1, p.2) (stopped_first g.J.Journal.tells g.J.Journal.holds g.J.Journal.moment g.J.Journal.left_since
+    g.met.J.Journal.at_rest _ c.in_err-out-in-Ok-Do.field-0.0 c.args.journal.now c.args.self.now.core c.args.self.now.core
+    _ c.requires c.in_err-out-in-Ok-Do.ensures.silent NoneAsked)
+
 pub returns-in_err-make-in-Ok-Do-clause-makes : goal.returns-in_err-make-in-Ok-Do-clause-makes
 returns-in_err-make-in-Ok-Do-clause-makes g c =
-    let p = err_from_is_err_and c.from_residual.result c.from_residual.ensures.1 in
+    let p = err_from_is_err_and c.from_residual-in_err-make-in-Ok-Do.result c.from_residual-in_err-make-in-Ok-Do.ensures.1 in
     rw (p.1, p.2) (one_stopped g.J.Journal.tells g.J.Journal.holds g.J.Journal.moment g.J.Journal.left_since
     g.met.J.Journal.at_rest g.met.J.Journal.counts_now _ c.in_err-make-in-Ok-Do.field-0.0 c.args.journal.now
     c.make.new.journal c.args.self.now.core c.make.new.self.core c.in-Ok-Do.t _ c.requires

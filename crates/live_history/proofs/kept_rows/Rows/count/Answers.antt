@@ -11,4 +11,4 @@ pub returns : goal.returns
 returns c =
     let records = c.self.inside.records.items in
     c.count_present.ensures records (subst (λ (rows : List Row). AreKept records rows) (sym c.deref.ensures.value) c.self.invariant)
-    ∙ ap (shown_count records) c.deref.ensures.value ∙ ap (λ (rows : List HistoryRow). length (filter is_some rows)) c.self.view_is
+    ∙ ap (shown_count is_some records) c.deref.ensures.value ∙ ap (λ (rows : List HistoryRow). length (filter is_some rows)) c.self.view_is

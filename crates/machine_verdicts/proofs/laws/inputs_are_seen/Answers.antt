@@ -1,5 +1,0 @@
-use Rattle.machine_verdicts.proofs.Answers.{input_seen}
-use Rattle.machine_verdicts.proofs.laws.inputs_are_seen.Goals as goal
-
-pub returns : goal.returns
-returns c = λ a runs token text right is. input_seen a runs right token text is

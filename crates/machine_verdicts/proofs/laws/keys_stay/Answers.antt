@@ -1,5 +1,0 @@
-use Rattle.machine_verdicts.proofs.Keyed.{applied_keyed}
-use Rattle.machine_verdicts.proofs.laws.keys_stay.Goals as goal
-
-pub returns : goal.returns
-returns c = λ a b t runs right is good free keyed applied. applied_keyed a b t runs right is good free keyed applied

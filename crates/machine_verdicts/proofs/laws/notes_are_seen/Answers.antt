@@ -1,5 +1,0 @@
-use Rattle.machine_verdicts.proofs.Verdicts.{note_seen}
-use Rattle.machine_verdicts.proofs.laws.notes_are_seen.Goals as goal
-
-pub returns : goal.returns
-returns c = λ a b t n is names. note_seen a b t n is names

@@ -1,5 +1,0 @@
-use Rattle.machine_verdicts.proofs.Answers.{output_seen}
-use Rattle.machine_verdicts.proofs.laws.outputs_are_seen.Goals as goal
-
-pub returns : goal.returns
-returns c = λ a runs root text right is. output_seen a runs root text right is

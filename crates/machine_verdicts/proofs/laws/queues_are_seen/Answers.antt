@@ -1,4 +1,0 @@
-use Rattle.machine_verdicts.proofs.laws.queues_are_seen.Goals as goal
-
-pub returns : goal.returns
-returns c = λ a number text is. is

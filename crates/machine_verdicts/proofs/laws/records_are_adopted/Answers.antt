@@ -1,6 +1,0 @@
-use Rattle.machine_verdicts.proofs.Obeyed.{record_adopted}
-use Rattle.machine_verdicts.proofs.laws.records_are_adopted.Goals as goal
-
-pub returns : goal.returns
-returns c = λ a b number t runs right keyed is admitted adopted. record_adopted a b number t runs right keyed is
-    admitted adopted

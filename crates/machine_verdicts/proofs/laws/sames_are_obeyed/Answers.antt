@@ -1,5 +1,0 @@
-use Rattle.machine_verdicts.proofs.Obeyed.{same_obeyed}
-use Rattle.machine_verdicts.proofs.laws.sames_are_obeyed.Goals as goal
-
-pub returns : goal.returns
-returns c = λ a command root order keyed is. same_obeyed a command root order keyed is

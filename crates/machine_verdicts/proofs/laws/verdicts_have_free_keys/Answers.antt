@@ -1,5 +1,0 @@
-use Rattle.machine_verdicts.proofs.Keyed.{verdict_free}
-use Rattle.machine_verdicts.proofs.laws.verdicts_have_free_keys.Goals as goal
-
-pub returns : goal.returns
-returns c = λ a command t is. verdict_free a command t is

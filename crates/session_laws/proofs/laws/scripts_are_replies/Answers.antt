@@ -1,6 +1,0 @@
-use Rattle.session_laws.proofs.Scripts.{script_replied}
-use Rattle.session_laws.proofs.laws.scripts_are_replies.Goals as goal
-
-pub returns : goal.returns
-returns g c = script_replied g.J.Journal.tells g.J.Journal.holds g.J.Journal.moment g.J.Journal.left_since
-    g.J.Journal.place g.J.Journal.moved
