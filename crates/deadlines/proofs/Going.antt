@@ -1,26 +1,46 @@
 -- What is open and what is overdue go by the clock, the live roots and the library alone.
-use Rattle.std.proofs.Common.{◌≡◌, ℕ, Bool, true, false, List, [], ◌∷◌, sym, ap, subst, ◌∙◌, map}
-use Rattle.std.specs.List.{filter_map}
+use Rattle.std.proofs.Common.{◌≡◌, ℕ, Bool, true, false, Option, option_map, List, [], ◌∷◌, sym, ap, subst, ◌∙◌, map}
+use Rattle.std.specs.BTreeMap as tree
 use Rattle.std.specs.BTreeMap.{BTreeMap}
+use Rattle.std.specs.List.{filter_map}
+use Rattle.std.specs.Option.{option_and_then}
+use Rattle.std.specs.Ordering.{nat_cmp}
 use Rattle.flow_model.specs.declared.graphs.Library.{Library}
+use Rattle.flow_model.specs.declared.graphs.Template.{Template}
 use Rattle.flow_model.specs.declared.instances.FateRow.{FateRow}
+use Rattle.flow_model.specs.declared.instances.Path.{Path}
 use Rattle.flow_core.specs.Allowing.{mode_in}
 use Rattle.flow_core.specs.Answers.{AreRowsOf}
-use Rattle.flow_core.specs.OpenItems.{Open, told_of, open_in, AreOpenIf, AreOpenIn}
+use Rattle.flow_core.specs.Driving.{program_in, program_entry, entry_in}
+use Rattle.flow_core.specs.OpenItems.{Open, told_of, open_in, open_by, attempt_left, attempt_of, AreOpenIf, AreOpenIn}
 use Rattle.flow_core.specs.Refusals.{is_going}
 use Rattle.flow_core.specs.declared.state.Core.{Core}
 use Rattle.flow_core.specs.declared.state.Root.{Root}
 use Rattle.deadlines.specs.Lateness.{AreDeclared, late_of, GoesByTheState}
 
--- a state with these live roots and this library
-abbrev with_these : Core → BTreeMap ℕ Root → Library → Core
-with_these c roots library = record c { live_roots = roots; store = record c.store { catalog = record c.store.catalog { library = library } } }
+-- the root of a number among these live ones
+abbrev root_among : BTreeMap ℕ Root → ℕ → Option Root
+root_among roots root = tree.get_by (nat_cmp root) roots
+
+-- what is open at a path, by the templates and the live roots: as `open_at` says it of a state that has them
+abbrev open_among : List Template → BTreeMap ℕ Root → Path → Option Open
+open_among templates roots path =
+    option_and_then (λ e. option_and_then (λ p. option_map (open_by path e p)
+    (option_map (λ i. i.starter) (option_map (λ r. r.instance) (root_among roots path.root))))
+    (program_in e.activity.work))
+    (program_entry (option_and_then (entry_in templates path)
+    (option_map (λ r. r.instance) (root_among roots path.root))))
+
+-- what a row leaves open, by the same
+abbrev left_among : List Template → BTreeMap ℕ Root → FateRow → Option Open
+left_among templates roots row =
+    option_and_then (λ j. open_among templates roots (attempt_of row j)) (attempt_left row.fate)
 
 module _ (c c' : Core) (roots : c'.live_roots ≡ c.live_roots) (library : c'.store.catalog.library ≡ c.store.catalog.library) where
   same_rows : (rows : List FateRow) → filter_map (open_in c) rows ≡ filter_map (open_in c') rows
   same_rows rows =
-      ap (λ rs. filter_map (open_in (with_these c rs c.store.catalog.library)) rows) (sym roots)
-      ∙ ap (λ l. filter_map (open_in (with_these c c'.live_roots l)) rows) (sym library)
+      ap (λ rs. filter_map (left_among c.store.catalog.library.templates rs) rows) (sym roots)
+      ∙ ap (λ (l : Library). filter_map (left_among l.templates c'.live_roots) rows) (sym library)
 
   in_root : (r : Root) (going : Bool) (opens : List Open) → AreOpenIf c r.instance going opens → AreOpenIf c' r.instance going opens
   in_root r false opens is = is

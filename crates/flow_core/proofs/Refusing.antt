@@ -174,3 +174,7 @@ pub found_there : (c : Core) (token : List ℕ) (path : Path) (o : Option Found)
 found_there c token path None spells none same known = inr (path, spells, none)
 found_there c token path (Some f) spells none same known =
     (subst (λ (p : Path). Spells (between token) p) (sym same) spells, subst (λ (p : Path). IsKnown c p f.known) (sym same) known)
+
+-- each state is in order, as its catalog is
+pub in_order : (c : Core) → IsInOrder c
+in_order c = (c.store.catalog.templates_indexed, c.store.catalog.people_indexed)

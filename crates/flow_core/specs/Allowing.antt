@@ -4,6 +4,7 @@ use Rattle.std.specs.Prelude.{option_map, IfSome, IsTrue}
 use Rattle.activity_states.specs.States.{fate_of}
 use Rattle.flow_model.specs.declared.graphs.DoneBy.{DoneBy}
 use Rattle.flow_model.specs.declared.graphs.DoneBy.TheVariants as by
+use Rattle.flow_model.specs.declared.graphs.Library.{Library}
 use Rattle.flow_model.specs.declared.graphs.Program.{Program as ProgramOf}
 use Rattle.flow_model.specs.declared.instances.Mode.{Mode}
 use Rattle.flow_model.specs.declared.instances.Mode.TheVariants.{Active, Suspended}
@@ -11,7 +12,7 @@ use Rattle.flow_model.specs.declared.instances.Path.{Path}
 use Rattle.flow_model.specs.declared.instances.Phase.TheVariants.{Ended}
 use Rattle.flow_model.specs.declared.names.Name.{Name}
 use Rattle.flow_model.specs.declared.transactions.Transaction.{Transaction}
-use Rattle.flow_model.specs.declared.transactions.Transaction.TheVariants.{Turn, Done, Force}
+use Rattle.flow_model.specs.declared.transactions.Transaction.TheVariants.{Import, Turn, Done, Force}
 use Rattle.navigator.specs.Instances.{mode_of}
 use Rattle.navigator.specs.Items.{Entry, entry_of, phase_of, performer_at}
 use Rattle.navigator.specs.declared.instance.Instance.{Instance}
@@ -20,6 +21,7 @@ use Rattle.navigator.specs.declared.scopes.ScopeState.{out-ScopeState}
 use Rattle.recover_queue.specs.Queues.{is_quiet}
 use Rattle.process_rules.specs.Imports.{IsIndexed}
 use Rattle.staff_worklists.specs.Standing.{item_in}
+use Rattle.template_check.specs.Judged.{IsFaultless}
 use Rattle.flow_core.specs.Answers.{instance_of}
 use Rattle.flow_core.specs.Driving.{templates, item_of, program_in, IsFront}
 use Rattle.flow_core.specs.Summaries.{started}
@@ -113,8 +115,15 @@ pub record CountsRoot (c : Core) (t : Transaction) (c' : Core) : Type 0 where
 
 -- ---- transactions
 
--- a Turn takes the front of its queue, and a completion is of an item that is open
+-- an Import has a text that breaks no rule behind this library
+abbrev pub IsFaultlessImport : Library → Transaction → Type 0
+IsFaultlessImport library (Import text) = IsFaultless library text
+IsFaultlessImport library t = Unit {0}
+
+-- an Import has a text that breaks no rule, a Turn takes the front of its queue, and a completion is of an item that is
+-- open
 abbrev pub IsAsked : Core → Transaction → Type 0
+IsAsked c (Import text) = IsFaultlessImport c.store.catalog.library (Import text)
 IsAsked c (Turn queue message) = IsFront c queue message
 IsAsked c (Done item who settings) = IsOpen c item
 IsAsked c (Force item settings) = IsOpen c item

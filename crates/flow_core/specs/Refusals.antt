@@ -55,7 +55,7 @@ unless passes refusal = if passes then None else Some refusal
 
 -- ---- what the answers are exact for
 
--- a state is in order where names lead to the newest templates and the latest people; so is each state that is right
+-- a state is in order where names lead to the newest templates and the latest people; so is each state, as its catalog is
 abbrev pub IsInOrder : Core → Type 0
 IsInOrder c = IsIndexed c.store.catalog
 

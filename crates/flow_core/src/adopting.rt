@@ -16,6 +16,7 @@ ghost use Rattle.flow_core.specs.Keys.{KeysAfter};
 ghost use Rattle.flow_core.specs.Summaries.{summary, taken_up, counted, last_kept, last_number, Follows, deleted};
 ghost use Rattle.flow_core.specs.Summaries.{started, roots_after};
 ghost use Rattle.flow_core.specs.Verdicts.{IsFront};
+ghost use Rattle.template_check.specs.Judged.{IsFaultless};
 ghost use Rattle.flow_core.specs.declared.adopting.AdoptFault.TheVariants.{NoMemory, NotAllowed};
 
 use crate::items::{Known, settings_fit};
@@ -63,7 +64,9 @@ fn passes(test: Result<(), Stop>) -> Result<bool, AllocError>
 
 impl Core {
     fn allows_import(&self, text: &[u8]) -> Result<bool, AllocError>
-        ensures { IsInOrder self.now → IfOk result (λ allowed. (rule : Option RefusalOf)
+        ensures asked { IfOk result (λ allowed. IsTrue allowed
+            → IsFaultless self.now.store.catalog.library text.now) }
+        ensures told { IsInOrder self.now → IfOk result (λ allowed. (rule : Option RefusalOf)
             × IsRuleOf self.now text.now rule × (allowed ≡ is_none rule)) }
     {
         match self.store.check(self.alloc, text) {

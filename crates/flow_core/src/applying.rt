@@ -5,11 +5,12 @@ ghost use Rattle.flow_model.specs.declared.instances.Message.{Message as Message
 ghost use Rattle.flow_model.specs.declared.instances.Mode.TheVariants as modes;
 ghost use Rattle.flow_core.specs.Verdicts.{fate_now, IsNoteOf, IsFront};
 ghost use Rattle.process_rules.specs.Imports.{IsIndexed};
+ghost use Rattle.template_check.specs.Judged.{IsFaultless};
 ghost use Rattle.flow_core.specs.declared.applying.Note.TheVariants as notes;
 ghost use Rattle.containers.specs.Settings.{filled};
 ghost use Rattle.flow_model.specs.Containers.{fresh as fresh_of};
 ghost use Rattle.flow_model.specs.declared.transactions.Transaction.TheVariants as made;
-ghost use Rattle.flow_core.specs.Allowing.{CountsRoot};
+ghost use Rattle.flow_core.specs.Allowing.{CountsRoot, IsAsked, IsFaultlessImport};
 ghost use Rattle.flow_core.specs.Driving.{templates, IsVersionAt, IfNewest, RunsAt, IsVersionPlace, IsMade};
 ghost use Rattle.flow_core.specs.Driving.{IsSuspended, IsTerminated, IfLive, ChangesRoot, LibraryAfter, StoreAfter};
 ghost use Rattle.flow_core.specs.Driving.{clock_after, Drives, IsFrontOf, HoldsItem, CompletesItem, item_of, put_in};
@@ -206,7 +207,9 @@ impl Core {
         Ok(())
     }
 
+    /// Adds a text to the library.
     fn import(&mut self, text: &Bytes) -> Result<Note, AllocError>
+        requires { IsFaultless self.old.store.catalog.library text.now }
         ensures kept { noted self.new ≡ noted self.old }
         ensures rest { self.new ≡ record self.old { store = self.new.store } }
         ensures library { OnOk result (LibraryAfter (made.Import text.now) (templates self.old) (templates self.new)) }
@@ -219,9 +222,7 @@ impl Core {
     {
         match self.store.import(self.alloc, text.as_slice()) {
             Ok(count) => Ok(Note::Imported(count)),
-            // `judge` admits only a text that breaks no rule, so this doesn't happen; an answer of success
-            // would say that the text was added.
-            Err(ImportFault::Rule(_)) => Err(AllocError),
+            Err(ImportFault::Rule(_)) => unreachable!(),
             Err(ImportFault::NoMemory) => Err(AllocError),
         }
     }
@@ -692,6 +693,7 @@ impl Core {
     }
 
     fn change_by(&mut self, t: &Transaction) -> Result<Note, AllocError>
+        requires { IsFaultlessImport self.old.store.catalog.library t.now }
         ensures kept { noted self.new ≡ noted self.old }
         ensures note { IfOk result (IsNoteOf self.old t.now self.new) }
         ensures drives { IsFrontOf self.old t.now → OnOk result (Drives self.old t.now self.new) }
@@ -775,6 +777,7 @@ impl Core {
 
     /// Applies a transaction under a number, and keeps it where it is live.
     pub(crate) fn apply_as(&mut self, number: u64, t: Transaction) -> Result<Applied, AllocError>
+        requires { IsFaultlessImport self.old.store.catalog.library t }
         ensures numbered { IfOk result (λ applied. applied.number ≡ number) }
         ensures note { IfOk result (λ applied. IsNoteOf self.old t self.new applied.note) }
         ensures applied { OnOk result (noted self.new
@@ -800,17 +803,18 @@ impl Core {
 
     /// The state after a transaction that `judge` gave. After want of memory the state isn't used.
     pub fn apply(&mut self, t: Transaction) -> Result<Applied, AllocError>
-        requires { self.old.number < self.old.limit }
+        requires room { self.old.number < self.old.limit }
+        requires asked { IsAsked self.old t }
         ensures next { OnOk result (summary self.new ≡ next t (summary self.old)) }
         ensures number { IfOk result (λ applied. applied.number ≡ self.old.number + 1) }
         ensures note { IfOk result (λ applied. IsNoteOf self.old t self.new applied.note) }
-        ensures drives { IsFrontOf self.old t → OnOk result (Drives self.old t self.new) }
-        ensures shelves { IsFrontOf self.old t → OnOk result (Shelves self.old t self.new) }
+        ensures drives { OnOk result (Drives self.old t self.new) }
+        ensures shelves { OnOk result (Shelves self.old t self.new) }
         ensures counts { OnOk result (CountsRoot self.old t self.new) }
         ensures clock { OnOk result (self.new.clock ≡ clock_after t self.old.clock) }
         ensures store { OnOk result (StoreAfter t self.old.store.catalog self.new.store.catalog) }
         ensures keys { OnOk result (KeysAfter self.old t self.new) }
-        ensures exact { IsFrontOf self.old t → OnOk result (IsExact self.old t self.new) }
+        ensures exact { OnOk result (IsExact self.old t self.new) }
     {
         self.number += 1;
         self.apply_as(self.number, t)

@@ -46,7 +46,7 @@ module _ (c : Core) (n : ℕ) where
   }
 
   asked_then : (t : Transaction) → IsAsked c t → IsAsked (renumbered n c) t
-  asked_then (Import text) is = tt
+  asked_then (Import text) is = is
   asked_then (Start root process version starter key settings) is = tt
   asked_then (Turn queue message) is = is
   asked_then (Claim item who) is = tt

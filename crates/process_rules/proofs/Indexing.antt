@@ -1,5 +1,5 @@
 -- An index stays right where an element and its place are added.
-use Rattle.std.proofs.Common.{◌≡◌, ℕ, ◌+◌, List, [], ◌∷◌, ◌++◌, Bool, true, false, cond, Option, Some, None, length, refl, sym, ap, subst, ◌∙◌, ⊎_elim, add-one, min, ◌^◌, ◌-◌, ◌<◌, arith}
+use Rattle.std.proofs.Common.{◌≡◌, ℕ, ◌+◌, List, [], ◌∷◌, ◌++◌, Bool, true, false, cond, Result, Ok, Err, OnOk, IsOk, Option, Some, None, length, refl, sym, ap, subst, ◌∙◌, ⊎_elim, add-one}
 use Rattle.std.specs.Option.{option_or, option_map}
 use Rattle.std.specs.Cmp.Lexicographic.{bytes_decides, nat_list_eq_equiv}
 use Rattle.std.specs.Str.{bytes_eq}
@@ -8,7 +8,7 @@ use Rattle.std.specs.HashMap as hash
 use Rattle.std.specs.HashMap.{HashMap}
 use Rattle.std.specs.Map.{lookup, IsKeyTest, AreApart, KeepsOthers}
 use Rattle.std.proofs.lemmas.Bool.{cases_Bool, cond-true, cond-false}
-use Rattle.process_rules.specs.Imports.{last_place, AreIndexed}
+use Rattle.process_rules.specs.Indexes.{last_place, AreIndexed}
 
 apart : (bs cs ks : List ℕ) → bytes_eq bs cs ≡ false → bytes_eq bs ks ≡ true → bytes_eq cs ks ≡ false
 apart bs cs ks n y = nat_list_eq_equiv.symm cs ks ∙ sym (nat_list_eq_equiv.congr bs ks cs y) ∙ n
@@ -48,6 +48,15 @@ pushed name_of items x bs place m n indexed named placed h key =
     ∙ ap (λ p. cond (bytes_eq (name_of x) key) (Some p) (last_place (λ x. bytes_eq (name_of x) key) items)) placed
     ∙ sym (last_pushed (λ x. bytes_eq (name_of x) key) items x)
 
--- the place of the next element is the length, below 2 ^ 32
-pub place_is : (place len n : ℕ) → place ≡ min len (2 ^ 32 - 1) → len ≡ n → n < 2 ^ 32 → place ≡ n
-place_is place len n p e short = omega arith
+-- where a call went well, what is so then is so
+pub went_well : {T E : Type 0} (r : Result T E) (P : Type 0) → IsOk r → OnOk r P → P
+went_well (Ok x) P is on = on
+went_well (Err e) P is on = absurd (untrue is)
+  where
+    untrue : false ≡ true → ⊥
+    untrue h = cc
+
+-- an index stays right where its entries stay
+pub still_indexed : {X S : Type 0} (name_of : X → List ℕ) (items : List X) (m n : HashMap (Vec ℕ) ℕ S)
+    → AreIndexed name_of items m → hash.IsUnchanged m n → AreIndexed name_of items n
+still_indexed name_of items m n indexed same key = ap (λ es. lookup (λ k. bytes_eq key k.items) es) same ∙ indexed key

@@ -1,20 +1,13 @@
 -- The library of the imports so far, and where the newest of each name stands in it.
-use Rattle.std.specs.Prelude.{◌≡◌, ℕ, ◌+◌, ◌-◌, ◌^◌, min, Bool, if◌then◌else◌, Option, Some, None, option_map, List, []}
-use Rattle.std.specs.Prelude.{◌∷◌, bytes_eq, slice_get}
-use Rattle.std.specs.Option.{option_or, option_and_then}
+use Rattle.std.specs.Prelude.{ℕ, ◌+◌, ◌-◌, ◌^◌, min, Option, Some, None, List}
+use Rattle.std.specs.Prelude.{bytes_eq, slice_get}
+use Rattle.std.specs.Option.{option_and_then}
 use Rattle.std.specs.HashMap as hash
-use Rattle.std.specs.HashMap.{HashMap}
-use Rattle.std.specs.Global.{Vec}
 use Rattle.flow_model.specs.declared.graphs.Library.{Library}
 use Rattle.flow_model.specs.declared.graphs.PersonDef.{PersonDef}
 use Rattle.flow_model.specs.declared.graphs.Template.{Template}
 use Rattle.process_rules.specs.declared.catalog.Catalog.{Catalog}
-
--- the place of the last element that passes
-abbrev pub last_place : {X : Type 0} → (X → Bool) → List X → Option ℕ
-last_place test [] = None
-last_place test (x ∷ xs) = option_or (option_map (λ place. place + 1) (last_place test xs))
-    (if test x then Some 0 else None)
+pub use Rattle.process_rules.specs.Indexes.{last_place, AreIndexed}
 
 -- the place of the newest template of a name
 abbrev pub newest_place : Library → List ℕ → Option ℕ
@@ -37,11 +30,6 @@ latest_place library name = last_place (λ q. bytes_eq q.name name) library.peop
 -- the latest declaration of a person
 abbrev pub latest_person : Library → List ℕ → Option PersonDef
 latest_person library name = option_and_then (λ place. slice_get library.people place) (latest_place library name)
-
--- an index has, for each name, the place of the last element of that name
-abbrev pub AreIndexed : {X S : Type 0} → (X → List ℕ) → List X → HashMap (Vec ℕ) ℕ S → Type 0
-AreIndexed name_of items index = (key : List ℕ)
-    → hash.get_by (λ k. bytes_eq key k.items) index ≡ last_place (λ x. bytes_eq (name_of x) key) items
 
 -- the names of a catalog lead to the newest templates and the latest people
 abbrev pub IsIndexed : Catalog → Type 0

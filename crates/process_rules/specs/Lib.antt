@@ -1,3 +1,4 @@
+pub mod Indexes
 pub mod Imports
 pub mod Calling
 pub mod Knowing

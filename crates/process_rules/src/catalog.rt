@@ -1,8 +1,6 @@
 //! The library of the imports so far, with its names.
-ghost use Rattle.std.specs.Prelude.{◌≡◌, ◌≤◌, ◌<◌, ◌-◌, ◌^◌, ◌++◌, ◌∷◌, [], min, length, slice_get, option_copied};
-ghost use Rattle.std.specs.Prelude.{OnOk};
-ghost use Rattle.process_rules.specs.Imports.{IsIndexed, newest_place, next_version, newest_listed, latest_place};
-ghost use Rattle.process_rules.specs.Imports.{latest_person};
+ghost use Rattle.std.specs.Prelude.{◌≡◌, ◌≤◌, ◌<◌, ◌^◌, ◌++◌, ◌∷◌, [], length, slice_get, option_copied, IfOk, OnOk};
+ghost use Rattle.process_rules.specs.Indexes.{AreIndexed};
 
 use flow_model::{Library, List, Name, PersonDef, Template};
 use indexmap::IndexMap;
@@ -14,16 +12,24 @@ pub struct Catalog {
     library: Library,
     templates: IndexMap<Vec<u8>, u32>,
     people: IndexMap<Vec<u8>, u32>,
+    pub ghost templates_indexed: { AreIndexed (λ t. t.name) library.templates templates },
+    pub ghost people_indexed: { AreIndexed (λ q. q.name) library.people people },
 }
 
-/// The place of the next element of a list.
-fn next_place(len: usize) -> u32
-    ensures { result ≡ min len (2 ^ 32 - 1) }
+/// The place of the next element of a list; there is no memory for more than 2^32 elements.
+fn next_place(len: usize) -> Result<u32, AllocError>
+    ensures { IfOk result (λ place. place ≡ len) }
 {
-    u32::try_from(len).unwrap_or(u32::MAX)
+    match u32::try_from(len) {
+        Ok(place) => Ok(place),
+        Err(_) => Err(AllocError),
+    }
 }
 
 impl Catalog {
+    ghost use Rattle.process_rules.specs.Imports.{IsIndexed, newest_place, next_version, newest_listed, latest_place};
+    ghost use Rattle.process_rules.specs.Imports.{latest_person};
+
     /// An empty library.
     pub fn new(alloc: Global) -> Catalog
         ensures indexed { IsIndexed result }
@@ -98,8 +104,7 @@ impl Catalog {
         self.library.people.as_slice().get(place as usize)
     }
 
-    /// Adds a template, which is the newest of its name from now on. Without memory it may have been added with
-    /// no name that leads to it.
+    /// Adds a template, which is the newest of its name from now on. Without memory nothing is added.
     pub fn add_template(&mut self, alloc: Global, template: Template) -> Result<(), AllocError>
         ensures added { OnOk result (self.new.library ≡ record {
           templates = self.old.library.templates
@@ -109,15 +114,17 @@ impl Catalog {
         ensures indexed { OnOk result (length self.old.library.templates < 2 ^ 32 → IsIndexed self.old
             → IsIndexed self.new) }
     {
-        let place = next_place(self.library.templates.len());
+        let place = next_place(self.library.templates.len())?;
         let name = Vec::from_slice(alloc, template.name.as_slice())?;
+        self.templates.reserve(1)?;
         self.library.templates.push(template)?;
-        self.templates.insert(name, place)?;
-        Ok(())
+        match self.templates.insert(name, place) {
+            Ok(_) => Ok(()),
+            Err(_) => unreachable!(),
+        }
     }
 
-    /// Adds a person, whose roles count from now on. Without memory it may have been added with no name that
-    /// leads to it.
+    /// Adds a person, whose roles count from now on. Without memory nothing is added.
     pub fn add_person(&mut self, alloc: Global, person: PersonDef) -> Result<(), AllocError>
         ensures added { OnOk result (self.new.library ≡ record {
           templates = self.old.library.templates;
@@ -127,10 +134,13 @@ impl Catalog {
         ensures indexed { OnOk result (length self.old.library.people < 2 ^ 32 → IsIndexed self.old
             → IsIndexed self.new) }
     {
-        let place = next_place(self.library.people.len());
+        let place = next_place(self.library.people.len())?;
         let name = Vec::from_slice(alloc, person.name.as_slice())?;
+        self.people.reserve(1)?;
         self.library.people.push(person)?;
-        self.people.insert(name, place)?;
-        Ok(())
+        match self.people.insert(name, place) {
+            Ok(_) => Ok(()),
+            Err(_) => unreachable!(),
+        }
     }
 }

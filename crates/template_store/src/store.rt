@@ -45,7 +45,7 @@ impl TemplateStore {
 
     /// Adds the processes and people of a text; answers the number of processes. A refusal changes nothing.
     /// Without memory, or where the library gets more elements than 32 bits tell apart, a part of them may have
-    /// been added, the last one with no name that leads to it.
+    /// been added.
     pub fn import(&mut self, alloc: Global, text: &[u8]) -> Result<u32, ImportFault>
         ensures added { IfOk result (λ count. (added : Added) × (count ≡ min (length added.templates) (2 ^ 32 - 1))
             × (self.new.catalog.library ≡ with_compiled self.old.catalog.library added)) }

@@ -1,4 +1,4 @@
-use Rattle.std.proofs.Common.{◌∙◌, ap, inl, inr, rules}
+use Rattle.std.proofs.Common.{◌∙◌, ap, inl, inr}
 use Rattle.std.proofs.lemmas.Result.{err_from_is_err_and}
 use Rattle.flow_core.specs.Summaries.{summary}
 use Rattle.flow_session.proofs.Runs.{opened}
@@ -20,7 +20,9 @@ returns-in_ok-text-in-Ok-clause-prints g c = inr (record {
 })
 
 pub returns-in_err-text-in-Ok-clause-prints : goal.returns-in_err-text-in-Ok-clause-prints
-returns-in_err-text-in-Ok-clause-prints g c = inl (no_memory (files g.D.Disk c.args.disk.now c.args.disk.now) (g.K.Sink.held c.args.out.now) (status_of_word c.from_residual.result) (search rules))
+returns-in_err-text-in-Ok-clause-prints g c =
+    let p = err_from_is_err_and c.from_residual.result c.from_residual.ensures.1 in
+    inl (no_memory (files g.D.Disk c.args.disk.now c.args.disk.now) (g.K.Sink.held c.args.out.now) (status_of_word c.from_residual.result) (ap status_of_word p.1 ∙ p.2))
 
 pub returns-in-Err-clause-cause : goal.returns-in-Err-clause-cause
 returns-in-Err-clause-cause g c read read' = c.refuse.ensures.cause read read' (g.D.Disk.faults c.args.disk.now) (g.D.Disk.faults c.reopen.new.disk) c.in-Err.ensures.cause

@@ -1,13 +1,25 @@
-use Rattle.std.proofs.Common.{Some, None, Err, refl, ap, subst}
+use Rattle.std.proofs.Common.{◌≡◌, true, false, Some, None, Err, refl, ap, subst}
 use Rattle.template_check.specs.Judged.{IsJudged}
 use Rattle.template_check.specs.declared.compiling.Compiled.{Compiled}
 use Rattle.template_check.specs.declared.faults.ImportFault.{ImportFault}
 use Rattle.flow_core.specs.declared.refusals.Refusal.TheVariants as refused
+use Rattle.flow_core.proofs.Refusing.{in_order}
 use Rattle.flow_core.proofs.state.Core.allows_import.Goals as goal
 use Rattle.flow_core.proofs.state.Core.allows_import.Goals.{in-Ok, in-Err-Rule, in-Err-NoMemory}
 
-pub returns : goal.returns
-returns c = λ order.
+untrue : false ≡ true → ⊥
+untrue h = cc
+
+pub returns-clause-asked : goal.returns-clause-asked
+returns-clause-asked c =
+    elim c.match-check.branch [
+      | in-Ok w ↦ rw w.result-is (λ yes. w.in-Ok.ensures.judged (in_order c.args.self.now))
+      | in-Err-Rule w ↦ rw w.result-is (λ no. absurd (untrue no))
+      | in-Err-NoMemory w ↦ rw w.result-is tt
+    ]
+
+pub returns-clause-told : goal.returns-clause-told
+returns-clause-told c = λ order.
     elim c.match-check.branch [
       | in-Ok w ↦ rw w.result-is (None, w.in-Ok.ensures.judged order, refl)
       | in-Err-Rule w ↦

@@ -1,32 +1,29 @@
 use Rattle.std.proofs.Common.{◌∙◌, ◌+◌, ℕ, ap, subst}
 use Rattle.flow_txn.specs.Ranges.{IsInRange}
 use Rattle.flow_txn.specs.Records.{record_bytes}
-use Rattle.flow_core.proofs.Moved.{front_of}
 use Rattle.flow_core.specs.Summaries.{Summary}
 use Rattle.worklist_laws.proofs.Transactions.{listed_stays}
 use Rattle.flow_session.proofs.serving.Session.prepare.Goals as goal
 
 pub returns-clause-applied : goal.returns-clause-applied
 returns-clause-applied g c =
-    let front = front_of c.args.self.now.core c.args.t c.requires.allowed.asked in
     record {
-      drives = c.in_ok-applied.ensures.drives front;
+      drives = c.in_ok-applied.ensures.drives;
       came = c.in_ok-applied.ensures.next;
       clock = c.in_ok-applied.ensures.clock;
       store = c.in_ok-applied.ensures.store;
       keys = c.in_ok-applied.ensures.keys;
-      exact = c.in_ok-applied.ensures.exact front;
+      exact = c.in_ok-applied.ensures.exact;
     }
 
 pub returns-clause-right : goal.returns-clause-right
 returns-clause-right g c = λ asks was.
-    let front = front_of c.args.self.now.core c.args.t c.requires.allowed.asked in
     listed_stays c.args.self.now.core c.apply.new.self c.args.t (record {
       allowed = c.requires.allowed;
-      drives = c.in_ok-applied.ensures.drives front;
+      drives = c.in_ok-applied.ensures.drives;
       counts = c.in_ok-applied.ensures.counts;
       lives = (c.args.self.now.core.number + 1, ap (λ (s : Summary). s.live) c.in_ok-applied.ensures.next);
-    }) (c.in_ok-applied.ensures.shelves front) asks was
+    }) (c.in_ok-applied.ensures.shelves) asks was
 
 pub returns-clause-spelled : goal.returns-clause-spelled
 returns-clause-spelled g c told =
