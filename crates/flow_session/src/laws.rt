@@ -1,5 +1,5 @@
-//! Laws of a script: what is answered is kept, the state stays right, what is made is a run of the machine and was asked
-//! for, and what is replied is what the machine replies.
+//! Laws of a script: what is answered is kept, the state stays right, what is made is a run of the machine and was
+//! asked for, and what is replied is what the machine replies.
 //!
 //! Each function here takes nothing and does nothing; its `ensures` is a statement about the definitions,
 //! which is proved.
