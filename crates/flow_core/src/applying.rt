@@ -801,7 +801,8 @@ impl Core {
         Ok(Applied { number, note })
     }
 
-    /// The state after a transaction that `judge` gave. After want of memory the state isn't used.
+    /// The state after the next transaction, as `judge` gives it: what it asks for is there (`asked`). An error is want
+    /// of memory alone; after it the state isn't used.
     pub fn apply(&mut self, t: Transaction) -> Result<Applied, AllocError>
         requires room { self.old.number < self.old.limit }
         requires asked { IsAsked self.old t }

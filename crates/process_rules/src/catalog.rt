@@ -1,5 +1,6 @@
 //! The library of the imports so far, with its names.
 ghost use Rattle.std.specs.Prelude.{◌≡◌, ◌≤◌, ◌<◌, ◌^◌, ◌++◌, ◌∷◌, [], length, slice_get, option_copied, IfOk, OnOk};
+ghost use Rattle.std.specs.Prelude.{OnErr};
 ghost use Rattle.process_rules.specs.Indexes.{AreIndexed};
 
 use flow_model::{Library, List, Name, PersonDef, Template};
@@ -104,7 +105,7 @@ impl Catalog {
         self.library.people.as_slice().get(place as usize)
     }
 
-    /// Adds a template, which is the newest of its name from now on. Without memory nothing is added.
+    /// Adds a template, which is the newest of its name from now on. An error is want of memory; then nothing is added.
     pub fn add_template(&mut self, alloc: Global, template: Template) -> Result<(), AllocError>
         ensures added { OnOk result (self.new.library ≡ record {
           templates = self.old.library.templates
@@ -113,6 +114,7 @@ impl Catalog {
         }) }
         ensures indexed { OnOk result (length self.old.library.templates < 2 ^ 32 → IsIndexed self.old
             → IsIndexed self.new) }
+        ensures unchanged { OnErr result (self.new.library ≡ self.old.library) }
     {
         let place = next_place(self.library.templates.len())?;
         let name = Vec::from_slice(alloc, template.name.as_slice())?;
@@ -124,7 +126,7 @@ impl Catalog {
         }
     }
 
-    /// Adds a person, whose roles count from now on. Without memory nothing is added.
+    /// Adds a person, whose roles count from now on. An error is want of memory; then nothing is added.
     pub fn add_person(&mut self, alloc: Global, person: PersonDef) -> Result<(), AllocError>
         ensures added { OnOk result (self.new.library ≡ record {
           templates = self.old.library.templates;
@@ -133,6 +135,7 @@ impl Catalog {
         }) }
         ensures indexed { OnOk result (length self.old.library.people < 2 ^ 32 → IsIndexed self.old
             → IsIndexed self.new) }
+        ensures unchanged { OnErr result (self.new.library ≡ self.old.library) }
     {
         let place = next_place(self.library.people.len())?;
         let name = Vec::from_slice(alloc, person.name.as_slice())?;
