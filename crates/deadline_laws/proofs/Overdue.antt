@@ -20,7 +20,7 @@ use Rattle.deadlines.specs.declared.late.Late.{Late}
 use Rattle.flow_core.specs.Allowing.{mode_in}
 use Rattle.flow_core.specs.Answers.{instance_of, AreRowsOf}
 use Rattle.flow_core.specs.Driving.{item_of, program_in, templates}
-use Rattle.flow_core.specs.OpenItems.{Open, told_of, open_by, open_at, attempt_left, attempt_of, open_in}
+use Rattle.flow_core.specs.OpenItems.{HasRisingRoots, Open, told_of, open_by, open_at, attempt_left, attempt_of, open_in}
 use Rattle.flow_core.specs.OpenItems.{AreOpenIf, AreOpenOf, AreOpenIn}
 use Rattle.flow_core.specs.Refusals.{is_going}
 use Rattle.flow_core.specs.declared.open_items.OpenItem.{OpenItem}
@@ -49,7 +49,7 @@ use Rattle.navigator.specs.Serving.{Served}
 use Rattle.navigator.specs.declared.instance.Instance.{Instance}
 use Rattle.staff_worklists.specs.Rights.{is_eligible}
 use Rattle.view_laws.specs.Runs.{Event, seen, running}
-use Rattle.deadline_laws.specs.Overdue.{HasRisingRoots, OverdueIsOne}
+use Rattle.deadline_laws.specs.Overdue.{OverdueIsOne}
 use Rattle.deadline_laws.proofs.Entries.{Stands, seen_at, AreAlike, found, alike, same_entries}
 
 -- ---- what is said of an open item goes by what is told of it
@@ -249,29 +249,29 @@ module _ (c c' : Core) (runs runs' : ℕ → List Event) (right : IsRightState c
         (found nat_cmp nat_cmp_total exact_unsigned root_seen c'.live_roots.entries rising' e at))
         opens opens' is is'
 
-    by_name : (people : People) (k : List ℕ)
-        → seen_at (slice_cmp nat_cmp) nat_list_cmp_total exact_bytes (λ x. x) k people
-        ≡ option_map (λ x. x) (lookup (bytes_eq k) people)
-    by_name people k = ap (λ t. option_map (λ x. x) (lookup t people)) (fun_ext (is_eq-slice_cmp k))
+  by_name : (people : People) (k : List ℕ)
+      → seen_at (slice_cmp nat_cmp) nat_list_cmp_total exact_bytes (λ x. x) k people
+      ≡ option_map (λ x. x) (lookup (bytes_eq k) people)
+  by_name people k = ap (λ t. option_map (λ x. x) (lookup t people)) (fun_ext (is_eq-slice_cmp k))
 
-    people_one : (people people' : People) → AreDeclared c.store.catalog.library people
-        → AreDeclared c'.store.catalog.library people' → people ≡ people'
-    people_one people people' are are' =
-        same_entries (slice_cmp nat_cmp) nat_list_cmp_total exact_bytes people people'
-        (alike (slice_cmp nat_cmp) nat_list_cmp_total exact_bytes (λ x. x) people people' are.0 are'.0
-        (λ k. by_name people k
-        ∙ ap (option_map (λ x. x)) (are.1 k ∙ ap (λ x. latest x.library.people k) (sym same) ∙ sym (are'.1 k))
-        ∙ sym (by_name people' k)))
+  people_one : (people people' : People) → AreDeclared c.store.catalog.library people
+      → AreDeclared c'.store.catalog.library people' → people ≡ people'
+  people_one people people' are are' =
+      same_entries (slice_cmp nat_cmp) nat_list_cmp_total exact_bytes people people'
+      (alike (slice_cmp nat_cmp) nat_list_cmp_total exact_bytes (λ x. x) people people' are.0 are'.0
+      (λ k. by_name people k
+      ∙ ap (option_map (λ x. x)) (are.1 k ∙ ap (λ x. latest x.library.people k) (sym same) ∙ sym (are'.1 k))
+      ∙ sym (by_name people' k)))
 
-    lates_one : (lates lates' : List Late) → AreOverdue c lates → AreOverdue c' lates' → lates ≡ lates'
-    lates_one lates lates' is is' =
-        is.4 ∙ late_told c.clock is.0 is.2
-        ∙ ap₂ (λ people opens. filter_map (told_late c.clock people) opens) (people_one is.0 is'.0 is.1 is'.1)
-        (opens_one (map told_of is.2) (map told_of is'.2) is.3 is'.3)
-        ∙ ap (λ x. filter_map (told_late x.clock is'.0) (map told_of is'.2)) (sym same)
-        ∙ sym (late_told c'.clock is'.0 is'.2) ∙ sym is'.4
+  lates_one : (lates lates' : List Late) → AreOverdue c lates → AreOverdue c' lates' → lates ≡ lates'
+  lates_one lates lates' is is' =
+      is.4 ∙ late_told c.clock is.0 is.2
+      ∙ ap₂ (λ people opens. filter_map (told_late c.clock people) opens) (people_one is.0 is'.0 is.1 is'.1)
+      (opens_one is.3.0 is'.3.0 (map told_of is.2) (map told_of is'.2) is.3.1 is'.3.1)
+      ∙ ap (λ x. filter_map (told_late x.clock is'.0) (map told_of is'.2)) (sym same)
+      ∙ sym (late_told c'.clock is'.0 is'.2) ∙ sym is'.4
 
 pub overdue_is_one : OverdueIsOne
-overdue_is_one c c' text text' right right' rising rising' same is is' =
-    is'.2 ∙ ap overdue_lines (sym (lates_one c c' right.0 right'.0 right.1 right'.1 same rising rising' is.0 is'.0
+overdue_is_one c c' text text' right right' same is is' =
+    is'.2 ∙ ap overdue_lines (sym (lates_one c c' right.0 right'.0 right.1 right'.1 same is.0 is'.0
     is.1 is'.1)) ∙ sym is.2

@@ -1,10 +1,11 @@
 -- What is open and what is overdue go by the clock, the live roots and the library alone.
 use Rattle.std.proofs.Common.{◌≡◌, ℕ, Bool, true, false, Option, option_map, List, [], ◌∷◌, sym, ap, subst, ◌∙◌, map}
-use Rattle.std.specs.BTreeMap as tree
-use Rattle.std.specs.BTreeMap.{BTreeMap}
+use Rattle.number_map.specs.Entries.{NumberMap, value_under}
+use Rattle.std.specs.List.Sorted.{IsStrictlySortedBy}
+use Rattle.std.specs.Map.{keys_of}
+use Rattle.std.specs.Ordering.{nat_cmp}
 use Rattle.std.specs.List.{filter_map}
 use Rattle.std.specs.Option.{option_and_then}
-use Rattle.std.specs.Ordering.{nat_cmp}
 use Rattle.flow_model.specs.declared.graphs.Library.{Library}
 use Rattle.flow_model.specs.declared.graphs.Template.{Template}
 use Rattle.flow_model.specs.declared.instances.FateRow.{FateRow}
@@ -19,11 +20,11 @@ use Rattle.flow_core.specs.declared.state.Root.{Root}
 use Rattle.deadlines.specs.Lateness.{AreDeclared, late_of, GoesByTheState}
 
 -- the root of a number among these live ones
-abbrev root_among : BTreeMap ℕ Root → ℕ → Option Root
-root_among roots root = tree.get_by (nat_cmp root) roots
+abbrev root_among : NumberMap Root → ℕ → Option Root
+root_among roots root = value_under root roots
 
 -- what is open at a path, by the templates and the live roots: as `open_at` says it of a state that has them
-abbrev open_among : List Template → BTreeMap ℕ Root → Path → Option Open
+abbrev open_among : List Template → NumberMap Root → Path → Option Open
 open_among templates roots path =
     option_and_then (λ e. option_and_then (λ p. option_map (open_by path e p)
     (option_map (λ i. i.starter) (option_map (λ r. r.instance) (root_among roots path.root))))
@@ -32,7 +33,7 @@ open_among templates roots path =
     (option_map (λ r. r.instance) (root_among roots path.root))))
 
 -- what a row leaves open, by the same
-abbrev left_among : List Template → BTreeMap ℕ Root → FateRow → Option Open
+abbrev left_among : List Template → NumberMap Root → FateRow → Option Open
 left_among templates roots row =
     option_and_then (λ j. open_among templates roots (attempt_of row j)) (attempt_left row.fate)
 
@@ -55,6 +56,9 @@ goes_by_the_state c c' lates clock roots library is = (
   is.0,
   subst (λ l. AreDeclared l is.0) (sym library) is.1,
   is.2,
-  in_roots c c' roots library c'.live_roots.entries (map told_of is.2) (subst (λ (m : BTreeMap ℕ Root). AreOpenIn c m.entries (map told_of is.2)) (sym roots) is.3),
+  (
+    subst (λ (m : NumberMap Root). IsStrictlySortedBy nat_cmp (keys_of m.entries)) (sym roots) is.3.0,
+    in_roots c c' roots library c'.live_roots.entries (map told_of is.2) (subst (λ (m : NumberMap Root). AreOpenIn c m.entries (map told_of is.2)) (sym roots) is.3.1),
+  ),
   is.4 ∙ ap (λ t. filter_map (late_of t is.0) is.2) (sym clock),
 )

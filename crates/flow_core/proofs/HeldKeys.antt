@@ -6,9 +6,8 @@ use Rattle.std.specs.Global.{Vec}
 use Rattle.std.specs.HashMap.{HashMap, UpdatesBy, get_by}
 use Rattle.std.specs.Map.{lookup, IsKeyTest, AreApart, KeepsOthers}
 use Rattle.std.proofs.lemmas.Bool.{cases_Bool}
-use Rattle.std.specs.BTreeMap as tree
+use Rattle.number_map.specs.Entries.{value_under}
 use Rattle.std.specs.Option.{option_and_then}
-use Rattle.std.specs.Ordering.{nat_cmp}
 use Rattle.flow_core.specs.Driving.{IsNewestVersion}
 use Rattle.flow_core.specs.Keys.{holder, key_of, is_key, HasKeys, KeepsKeys, StartsKey, FreesKey, KeysAfter}
 use Rattle.flow_core.specs.declared.state.Core.{Core}
@@ -61,10 +60,10 @@ module _ (a b c d : Core) (keys : b.keys ≡ a.keys) (roots : b.live_roots ≡ a
   held' key = ap (λ ks. get_by (λ k. bytes_eq key k.items) ks) keys'
 
   named : (root : ℕ) → key_of b root ≡ key_of a root
-  named root = ap (λ rs. option_and_then (λ r. r.key) (tree.get_by (nat_cmp root) rs)) roots
+  named root = ap (λ rs. option_and_then (λ r. r.key) (value_under root rs)) roots
 
   named' : (root : ℕ) → key_of d root ≡ key_of c root
-  named' root = ap (λ rs. option_and_then (λ r. r.key) (tree.get_by (nat_cmp root) rs)) roots'
+  named' root = ap (λ rs. option_and_then (λ r. r.key) (value_under root rs)) roots'
 
   has_keys : (f g : Name → Option ℕ) (h k : ℕ → Option Name) → ((key : Name) → f key ≡ g key)
       → ((root : ℕ) → h root ≡ k root) → HasKeys f h c → HasKeys g k d

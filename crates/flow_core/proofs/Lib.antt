@@ -5,6 +5,7 @@ pub mod Listed
 pub mod Shelved
 pub mod Putting
 pub mod Moved
+pub mod Written
 pub mod Counting
 pub mod OpenItems
 pub mod OpenRows

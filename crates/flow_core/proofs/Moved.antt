@@ -1,8 +1,7 @@
 -- What each transaction drives, from what its steps do.
 use Rattle.std.proofs.Common.{◌≡◌, ℕ, List, [], ◌∷◌, length, Option, Some, None, refl, sym, ap, subst, ◌∙◌, inl, inr, option_map, Result, Ok, Err, IfOk, OnOk}
 use Rattle.std.proofs.lemmas.Option.{none-some}
-use Rattle.std.specs.Ordering.{nat_cmp}
-use Rattle.std.specs.BTreeMap as tree
+use Rattle.number_map.specs.Entries.{value_under}
 use Rattle.flow_model.specs.Containers.{fresh}
 use Rattle.flow_model.specs.ScopeContainers.{graph_of}
 use Rattle.flow_model.specs.declared.graphs.Container.{Container}
@@ -33,7 +32,7 @@ use Rattle.flow_core.proofs.Putting.{put_length, same_queue}
 
 -- a state with the same roots has the same instances
 pub same_roots : (b c : Core) → c.live_roots ≡ b.live_roots → (root : ℕ) → instance_of c root ≡ instance_of b root
-same_roots b c same root = ap (λ roots. option_map (λ r. r.instance) (tree.get_by (nat_cmp root) roots)) same
+same_roots b c same root = ap (λ roots. option_map (λ r. r.instance) (value_under root roots)) same
 
 -- a change of a root goes from any state with the roots of the one before to any with the roots of the one after
 pub changes_between : (root : ℕ) (becomes : Option Instance → Option Instance → Type 0) (a b c d : Core) → b.live_roots ≡ a.live_roots → ChangesRoot root becomes b c

@@ -1,8 +1,7 @@
 -- Messages are put in turn, and the number of queues stays.
 use Rattle.std.proofs.Common.{◌≡◌, ℕ, zero, suc, ◌-◌, true, List, [], ◌∷◌, ◌++◌, length, refl, sym, ap, ◌∙◌}
 use Rattle.std.proofs.lemmas.List.{length-set}
-use Rattle.std.specs.BTreeMap as tree
-use Rattle.std.specs.Ordering.{nat_cmp}
+use Rattle.number_map.specs.Entries.{value_under}
 use Rattle.std.specs.Prelude.{replicate, option_and_then, option_map}
 use Rattle.flow_model.specs.ScopeContainers.{graph_of}
 use Rattle.flow_model.specs.declared.instances.Message.{Message}
@@ -24,7 +23,7 @@ put_length f (x ∷ xs) qs = put_length f xs (with_queue qs (f x) (queue qs (f x
 pub same_queue : (b c : Core) → b.live_roots ≡ c.live_roots → b.store ≡ c.store → length b.queues ≡ length c.queues → queue_now b ≡ queue_now c
 same_queue b c roots store many =
     ap (λ (s : TemplateStore). λ m. queue_in s.catalog.library.templates (length b.queues) (option_and_then (λ i. graph_of s.catalog.library.templates i.template) (instance_of b (root_of m))) m) store
-    ∙ ap (λ roots. λ m. queue_in (templates c) (length b.queues) (option_and_then (λ i. graph_of (templates c) i.template) (option_map (λ r. r.instance) (tree.get_by (nat_cmp (root_of m)) roots))) m) roots
+    ∙ ap (λ roots. λ m. queue_in (templates c) (length b.queues) (option_and_then (λ i. graph_of (templates c) i.template) (option_map (λ r. r.instance) (value_under (root_of m) roots))) m) roots
     ∙ ap (λ (n : ℕ). λ m. queue_in (templates c) n (graph_now c (root_of m)) m) many
 
 -- what is put after something was put is put by the state before

@@ -4,8 +4,7 @@ use Rattle.std.specs.Prelude.{◌≡◌, ℕ, ℤ, pos, ◌==◌, ◌&&◌, nat_
 use Rattle.std.specs.Prelude.{Option, Some, None, is_some, option_map, List, [], ◌∷◌, ◌++◌, length, slice_get, codes}
 use Rattle.std.specs.List.{flat_map, list_any}
 use Rattle.std.specs.Fmt.{decimal}
-use Rattle.std.specs.Ordering.{nat_cmp}
-use Rattle.std.specs.BTreeMap as tree
+use Rattle.number_map.specs.Entries.{value_under}
 use Rattle.flow_model.specs.Fates.{is_waiting}
 use Rattle.flow_model.specs.ScopeContainers.{graph_of}
 use Rattle.flow_model.specs.Scopes.{Known}
@@ -41,6 +40,7 @@ use Rattle.flow_core.specs.Replies.{refusal_text}
 pub use Rattle.live_history.specs.Transactions.{about}
 use Rattle.flow_core.specs.declared.refusals.Refusal.TheVariants as refused
 use Rattle.flow_core.specs.declared.state.Core.{Core}
+use Rattle.flow_core.specs.declared.state.Root.{Root}
 
 -- SHOW: the root, its mode and the number of rows, then each row
 abbrev pub view_text : ℕ → Mode → List FateRow → List ℕ
@@ -122,9 +122,13 @@ audited_text root entries =
 abbrev pub audit_text : ℕ → List Numbered → List ℕ
 audit_text root live = audited_text root (about root live)
 
+-- a live root
+abbrev pub root_at : Core → ℕ → Option Root
+root_at c root = value_under root c.live_roots
+
 -- the instance of a live root
 abbrev pub instance_of : Core → ℕ → Option Instance
-instance_of c root = option_map (λ r. r.instance) (tree.get_by (nat_cmp root) c.live_roots)
+instance_of c root = option_map (λ r. r.instance) (root_at c root)
 
 -- the mode of a root
 abbrev pub mode_now : Instance → Mode

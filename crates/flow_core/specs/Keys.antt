@@ -1,7 +1,5 @@
 -- The keys of the live roots, and what a transaction makes of them.
 use Rattle.std.specs.Prelude.{◌≡◌, ℕ, ◌==◌, Bool, false, if◌then◌else◌, Option, Some, None, option_and_then, bytes_eq}
-use Rattle.std.specs.Ordering.{nat_cmp}
-use Rattle.std.specs.BTreeMap as tree
 use Rattle.std.specs.Option.{option_map_or}
 use Rattle.flow_model.specs.declared.names.Name.{Name}
 use Rattle.flow_model.specs.declared.transactions.Transaction.{Transaction}
@@ -9,12 +7,13 @@ use Rattle.flow_model.specs.declared.transactions.Transaction.TheVariants.{Impor
 use Rattle.flow_model.specs.declared.transactions.Transaction.TheVariants.{Transfer, Take, Done, Force, Restart}
 use Rattle.flow_model.specs.declared.transactions.Transaction.TheVariants.{Suspend, Resume, Terminate, Delete, Clock}
 use Rattle.flow_core.specs.Admitting.{root_with}
+use Rattle.flow_core.specs.Answers.{root_at}
 use Rattle.flow_core.specs.Driving.{IfNewest}
 use Rattle.flow_core.specs.declared.state.Core.{Core}
 
 -- the key of a live root, if it has one
 abbrev pub key_of : Core → ℕ → Option Name
-key_of c root = option_and_then (λ r. r.key) (tree.get_by (nat_cmp root) c.live_roots)
+key_of c root = option_and_then (λ r. r.key) (root_at c root)
 
 -- the live root that has a key
 abbrev pub holder : Core → Name → Option ℕ

@@ -3,6 +3,9 @@
 use Rattle.std.specs.Prelude.{◌≡◌, ℕ, Bool, true, false, Option, Some, None, option_map, option_and_then, List, [], ◌∷◌}
 use Rattle.std.specs.Prelude.{◌++◌}
 use Rattle.std.specs.List.{filter_map}
+use Rattle.std.specs.List.Sorted.{IsStrictlySortedBy}
+use Rattle.std.specs.Map.{keys_of}
+use Rattle.std.specs.Ordering.{nat_cmp}
 use Rattle.activity_states.specs.States.{hold_of, since_of}
 use Rattle.flow_model.specs.declared.graphs.Program.{Program as ProgramOf}
 use Rattle.flow_model.specs.declared.instances.Fate.{Fate}
@@ -105,9 +108,13 @@ AreOpenIn c (r ∷ roots) opens =
     (here : List Open) × (behind : List Open) × AreOpenOf c r.1.instance here × AreOpenIn c roots behind
     × (opens ≡ here ++ behind)
 
--- what is open of all live roots, by their numbers
+-- the numbers of the live roots rise
+abbrev pub HasRisingRoots : Core → Type 0
+HasRisingRoots c = IsStrictlySortedBy nat_cmp (keys_of c.live_roots.entries)
+
+-- what is open of all live roots, by their numbers, which rise
 abbrev pub AreOpen : Core → List Open → Type 0
-AreOpen c opens = AreOpenIn c c.live_roots.entries opens
+AreOpen c opens = HasRisingRoots c × AreOpenIn c c.live_roots.entries opens
 
 -- what is open of a root is put behind what there was
 abbrev pub AddsOpen : Core → Instance → List Open → List Open → Type 0

@@ -380,7 +380,7 @@ impl Core {
             WhereLive (TakesGiving (templates self.old) self.old.clock message.now given.0 given.1.items)
             (instance_of self.old (root_of_message message.now)) (instance_of self.new (root_of_message message.now))) }
     {
-        match self.live_roots.get_mut(&root_of(message)) {
+        match self.live_roots.get_mut(root_of(message)) {
             None => Ok((List::new(self.alloc), Vec::new(self.alloc))),
             Some(root) => {
                 root.take_message(self.alloc, self.store.library(), self.clock, message)
@@ -445,7 +445,7 @@ impl Core {
             (record { output = output; performer = performer }) given.0 given.1.items)
             (instance_of self.old item.now.root) (instance_of self.new item.now.root)) }
     {
-        match self.live_roots.get_mut(&item.root) {
+        match self.live_roots.get_mut(item.root) {
             None => Ok((List::new(self.alloc), Vec::new(self.alloc))),
             Some(root) => root.complete_item(
                 self.alloc,
@@ -501,7 +501,7 @@ impl Core {
         ensures roots { ChangesRoot item.now.root
             (IfLive (HoldsIn (templates self.old) item.now change) []) self.old self.new }
     {
-        if let Some(root) = self.live_roots.get_mut(&item.root) {
+        if let Some(root) = self.live_roots.get_mut(item.root) {
             root.change_hold(self.store.library(), item, change);
         }
     }
@@ -564,7 +564,7 @@ impl Core {
         ensures keys { KeepsKeys self.old self.new }
         ensures roots { ChangesRoot root (IfLive (IsSuspended suspended) []) self.old self.new }
     {
-        if let Some(found) = self.live_roots.get_mut(&root) {
+        if let Some(found) = self.live_roots.get_mut(root) {
             if suspended {
                 found.instance.suspend();
             } else {
@@ -579,7 +579,7 @@ impl Core {
         ensures keys { KeepsKeys self.old self.new }
         ensures roots { ChangesRoot root (IfLive IsTerminated []) self.old self.new }
     {
-        if let Some(found) = self.live_roots.get_mut(&root) {
+        if let Some(found) = self.live_roots.get_mut(root) {
             found.instance.terminate();
         }
     }
@@ -641,7 +641,7 @@ impl Core {
         ensures roots { ChangesRoot root (λ _ after. after ≡ None) self.old self.new }
         ensures keys { FreesKey root self.old self.new }
     {
-        if let Some(found) = self.live_roots.remove(&root) {
+        if let Some(found) = self.live_roots.remove(root) {
             self.free_key(found.key.as_ref());
         }
     }

@@ -10,10 +10,10 @@ use flow_model::{Graph, Library, Mode, Name};
 use indexmap::IndexMap;
 use live_history::History;
 use navigator::Instance;
+use number_map::NumberMap;
 use recover_queue::Queues;
 use staff_worklists::Worklists;
 use std::alloc::{AllocError, Global};
-use std::collections::BTreeMap;
 use template_store::TemplateStore;
 
 /// A live root with its key, if it has one.
@@ -35,7 +35,7 @@ pub struct Core {
     pub(crate) clock: u64,
     pub(crate) queues: Queues,
     pub(crate) store: TemplateStore,
-    pub(crate) live_roots: BTreeMap<u64, Root>,
+    pub(crate) live_roots: NumberMap<Root>,
     pub(crate) keys: IndexMap<Vec<u8>, u64>,
     pub(crate) worklists: Worklists,
     pub(crate) live: History,
@@ -75,7 +75,7 @@ impl Core {
             clock: 0,
             queues: Queues::new(alloc, queues)?,
             store: TemplateStore::new(alloc),
-            live_roots: BTreeMap::new(alloc),
+            live_roots: NumberMap::new(alloc),
             keys: IndexMap::new(alloc),
             worklists: Worklists::new(alloc),
             live: History::new(alloc),
@@ -168,7 +168,7 @@ impl Core {
     pub(crate) fn instance(&self, root: u64) -> Option<&Instance>
         ensures { option_copied result ≡ instance_of self.now root }
     {
-        match self.live_roots.get(&root) {
+        match self.live_roots.get(root) {
             None => None,
             Some(found) => Some(&found.instance),
         }

@@ -37,6 +37,9 @@ const TEXT: [&[u8]; 14] = [
 
 const QUEUES: u8 = 4;
 
+/// Room for the bytes of a line of the script.
+const LINE_ROOM: usize = 64;
+
 const LIMIT: u64 = 10_000_000;
 
 /// A load while it is served: its session, and the bytes of the replies so far.
@@ -90,8 +93,8 @@ fn with_more(count: u64, more: u64) -> Result<u64, AllocError>
 fn start_line(alloc: Global, amount: u64) -> Result<Vec<u8>, AllocError>
     ensures { IfOk result (λ line. line.items ≡ start_of amount) }
 {
-    let start = b"START 'P' BY 'ann' WITH 'Amount' = ";
-    let mut line = Vec::from_slice(alloc, start)?;
+    let mut line = Vec::with_capacity(alloc, LINE_ROOM)?;
+    line.extend_from_slice(b"START 'P' BY 'ann' WITH 'Amount' = ")?;
     decimal(&mut line, amount)?;
     Ok(line)
 }
@@ -100,7 +103,8 @@ fn start_line(alloc: Global, amount: u64) -> Result<Vec<u8>, AllocError>
 fn force_line(alloc: Global, root: u64, activity: u8) -> Result<Vec<u8>, AllocError>
     ensures { IfOk result (λ line. line.items ≡ force_of root activity) }
 {
-    let mut line = Vec::from_slice(alloc, b"FORCE '")?;
+    let mut line = Vec::with_capacity(alloc, LINE_ROOM)?;
+    line.extend_from_slice(b"FORCE '")?;
     decimal(&mut line, root)?;
     line.push(b'/')?;
     line.push(activity)?;

@@ -3,12 +3,10 @@ use Rattle.std.specs.Prelude.{◌≡◌, ℕ, ◌+◌, Bool, false, if◌then◌
 use Rattle.std.specs.Prelude.{slice_set}
 use Rattle.std.specs.List.{filter_map}
 use Rattle.std.specs.Option.{option_and_then}
-use Rattle.std.specs.Ordering.{nat_cmp}
 use Rattle.std.specs.Global.{Vec}
-use Rattle.std.specs.BTreeMap as tree
-use Rattle.std.specs.BTreeMap.{BTreeMap}
 use Rattle.flow_model.specs.declared.transactions.Numbered.{Numbered}
 use Rattle.live_history.specs.Transactions.{root_about, is_root, is_turn}
+use Rattle.number_map.specs.Entries.{NumberMap, value_under}
 
 -- a row: a transaction that is live, or none any more
 abbrev pub HistoryRow : Type 0
@@ -44,11 +42,11 @@ abbrev pub place_if : Bool → ℕ → List ℕ
 place_if there place = if there then place ∷ [] else []
 
 -- the places that a map keeps for a root
-abbrev pub kept_places : BTreeMap ℕ (Vec ℕ) → ℕ → List ℕ
-kept_places map root = places_under (tree.get nat_cmp map root)
+abbrev pub kept_places : NumberMap (Vec ℕ) → ℕ → List ℕ
+kept_places map root = places_under (value_under root map)
 
 -- the map keeps the places of each root's rows
-abbrev pub HasPlaces : List HistoryRow → BTreeMap ℕ (Vec ℕ) → Type 0
+abbrev pub HasPlaces : List HistoryRow → NumberMap (Vec ℕ) → Type 0
 HasPlaces rows map = (root : ℕ) → kept_places map root ≡ places_from root 0 rows
 
 -- the rows without the transactions at these places

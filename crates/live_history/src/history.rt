@@ -8,8 +8,8 @@ use crate::kept_rows::Rows;
 use crate::transactions::transaction_root;
 use crate::walk::Walk;
 use flow_model::Numbered;
+use number_map::NumberMap;
 use std::alloc::{AllocError, Global};
-use std::collections::BTreeMap;
 use std::marker::Model;
 
 /// The live transactions in order. Those of one root are found, and taken away, in a time that goes with their number,
@@ -20,7 +20,7 @@ pub struct History {
     /// The transactions, each at its place.
     rows: Rows,
     /// For each root the places of the rows about it.
-    places: BTreeMap<u64, Vec<u32>>,
+    places: NumberMap<Vec<u32>>,
     /// How many rows were taken away.
     gone: usize,
 }
@@ -36,6 +36,9 @@ impl Model for History {
     ghost invariant = { λ h. HasPlaces h.rows h.places };
 }
 
+/// How many places a root first has room for: a case of four activities has nine transactions.
+const FIRST_ROOM: usize = 10;
+
 /// Makes room for one place more: a root has few, so they grow by about a quarter at a time.
 fn make_room(kept: &mut Vec<u32>) -> Result<(), AllocError>
     ensures { kept.new.items ≡ kept.old.items }
@@ -48,7 +51,7 @@ fn make_room(kept: &mut Vec<u32>) -> Result<(), AllocError>
 
 /// Adds a place to those of a root; without memory all stay as they were.
 fn add_place(
-    places: &mut BTreeMap<u64, Vec<u32>>,
+    places: &mut NumberMap<Vec<u32>>,
     alloc: Global,
     root: u64,
     place: u32,
@@ -57,12 +60,12 @@ fn add_place(
         ≡ (if root == other then kept_places places.old other ++ place ∷ [] else kept_places places.old other)) }
     ensures err { OnErr result ((other : ℕ) → kept_places places.new other ≡ kept_places places.old other) }
 {
-    if let Some(kept) = places.get_mut(&root) {
+    if let Some(kept) = places.get_mut(root) {
         make_room(kept)?;
         kept.push(place)?;
         return Ok(());
     }
-    let mut first = Vec::with_capacity(alloc, 2)?;
+    let mut first = Vec::with_capacity(alloc, FIRST_ROOM)?;
     first.push(place)?;
     places.insert(root, first)?;
     Ok(())
@@ -70,7 +73,7 @@ fn add_place(
 
 /// Adds a place to those of the root that a row is about, if it is about one; without memory all stay as they were.
 fn index_row(
-    places: &mut BTreeMap<u64, Vec<u32>>,
+    places: &mut NumberMap<Vec<u32>>,
     alloc: Global,
     about: Option<u64>,
     place: u32,
@@ -86,22 +89,22 @@ fn index_row(
 }
 
 /// Takes the places of a root out of the map.
-fn take_places(places: &mut BTreeMap<u64, Vec<u32>>, alloc: Global, root: u64) -> Vec<u32>
+fn take_places(places: &mut NumberMap<Vec<u32>>, alloc: Global, root: u64) -> Vec<u32>
     ensures taken { result.items ≡ kept_places places.old root }
     ensures others { (other : ℕ) → kept_places places.new other
         ≡ (if root == other then [] else kept_places places.old other) }
 {
-    match places.remove(&root) {
+    match places.remove(root) {
         Some(kept) => kept,
         None => Vec::new(alloc),
     }
 }
 
 /// The places of a root.
-fn places_of(places: &BTreeMap<u64, Vec<u32>>, root: u64) -> &[u32]
+fn places_of(places: &NumberMap<Vec<u32>>, root: u64) -> &[u32]
     ensures { result.now ≡ kept_places places.now root }
 {
-    match places.get(&root) {
+    match places.get(root) {
         Some(kept) => kept.as_slice(),
         None => &[],
     }
@@ -115,7 +118,7 @@ impl History {
         History {
             alloc,
             rows: Rows::new(alloc),
-            places: BTreeMap::new(alloc),
+            places: NumberMap::new(alloc),
             gone: 0,
         }
     }

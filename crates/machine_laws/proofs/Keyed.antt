@@ -1,8 +1,6 @@
 -- The engine's table of keys says what the live transactions say: before any transaction, and after each one more.
 use Rattle.std.proofs.Common.{◌≡◌, ℕ, ◌+◌, ◌==◌, Bool, true, false, ◌||◌, if◌then◌else◌, List, [], ◌∷◌, ◌++◌, Option}
 use Rattle.std.proofs.Common.{Some, None, All, refl, sym, ap, subst, ◌∙◌, inl, inr, bytes_eq}
-use Rattle.std.specs.BTreeMap as tree
-use Rattle.std.specs.Ordering.{nat_cmp}
 use Rattle.std.specs.Option.{option_or, option_map, option_and_then}
 use Rattle.std.proofs.lemmas.Bool.Decides.{eqb_tells}
 use Rattle.std.proofs.lemmas.List.Elements.{All-nil, All-cons, All-head, All-tail, All-push, All-weaker}
@@ -10,6 +8,7 @@ use Rattle.std.proofs.lemmas.Option.{none-some}
 use Rattle.std.proofs.lemmas.Slice.Eq.{bytes_eq-Decides}
 use Rattle.core_laws.specs.RightStates.{IsRightState, has_start}
 use Rattle.flow_core.specs.Admitting.{root_with, IsAdmitted}
+use Rattle.flow_core.specs.Answers.{root_at}
 use Rattle.flow_core.specs.Allowing.{IsAllowed, IsBlank, IsFree}
 use Rattle.flow_core.specs.Judgements.{IsVerdict}
 use Rattle.flow_core.specs.Keys.{holder, key_of, is_key, KeepsKeys, StartsKey, FreesKey, KeysAfter}
@@ -441,7 +440,7 @@ blank_keyed c blank = record {
     unheld key = rw blank.keys refl
 
     unnamed : (root : ℕ) → key_of c root ≡ None
-    unnamed root = go (tree.get_by (nat_cmp root) c.live_roots) (blank.roots root)
+    unnamed root = go (root_at c root) (blank.roots root)
       where
         go : (o : Option Root) → option_map (λ r. r.instance) o ≡ None → option_and_then (λ r. r.key) o ≡ None
         go None is = refl

@@ -1,4 +1,7 @@
-use Rattle.std.proofs.Common.{ap, refl, rules, ◌∙◌}
+use Rattle.std.proofs.Common.{ap, refl, option_map, ◌∙◌}
+use Rattle.std.specs.BTreeMap.{is_at}
+use Rattle.std.specs.Map.{lookup}
+use Rattle.std.specs.Ordering.{nat_cmp}
 use Rattle.flow_model.specs.declared.graphs.Library.{Library}
 use Rattle.recover_queue.specs.Queues.{is_quiet}
 use Rattle.flow_core.proofs.Putting.{none_quiet}
@@ -6,7 +9,7 @@ use Rattle.flow_core.proofs.state.Core.resume.Goals as goal
 
 pub returns-clause-blank : goal.returns-clause-blank
 returns-clause-blank c = record {
-  roots = λ root. search rules;
+  roots = λ root. ap (λ es. option_map (λ r. r.instance) (lookup (is_at (nat_cmp root)) es)) c.new-3.ensures;
   queues = ap is_quiet c.in_ok-new.ensures ∙ none_quiet c.args.queues;
   library = ap (λ (l : Library). l.templates) c.new-2.ensures.empty;
   people = ap (λ (l : Library). l.people) c.new-2.ensures.empty;
