@@ -19,7 +19,7 @@ use Rattle.recover_queue.specs.Queues.{root_of}
 use Rattle.staff_worklists.specs.declared.worklists.Listed.{Listed}
 use Rattle.flow_core.specs.Answers.{instance_of}
 use Rattle.flow_core.specs.Driving.{templates, item_of}
-use Rattle.flow_core.specs.Shelving.{Standing, SameStanding, stands, line_now, rank_now, listed_if, listed, all_listed, unlisted, MakesReady, CompletesReady, IfRootLive, TurnShelves, CompletionShelves, CompletesShelves, HoldShelves, performer_named, Shelves}
+use Rattle.flow_core.specs.Shelving.{Standing, SameStanding, stands, line_now, rank_now, with_line, listed_if, listed, all_listed, unlisted, MakesReady, CompletesReady, IfRootLive, TurnShelves, CompletionShelves, CompletesShelves, HoldShelves, performer_named, Shelves}
 use Rattle.flow_core.specs.declared.state.Core.{Core}
 
 -- ---- shelves that are the same
@@ -59,6 +59,19 @@ list_next c b d done path rest standing rest' standing' = (
       (subst (SameStanding (stands d)) (ap (λ (k : Core). listed k (stands b) path) rest) standing')
       (listed_same c path (stands b) (all_listed c done (stands c)) standing)),
 )
+
+-- an item that is there is listed as its line says
+pub listed_here : (c : Core) (path : Path) (line : ItemLine) (own : List ℕ) (w : Standing) → line_now c path ≡ Some line → rank_now c path ≡ Some own
+    → SameStanding w (with_line path line own (stands c)) → SameStanding w (listed c (stands c) path)
+listed_here c path line own w lined ranked same =
+    subst (SameStanding w)
+    (sym (ap (λ (o : Option ItemLine). listed_if path o (rank_now c path) (stands c)) lined
+    ∙ ap (λ (o : Option (List ℕ)). listed_if path (Some line) o (stands c)) ranked)) same
+
+-- what is listed behind messages that were put is listed as it stood before
+pub follow_shelves : (c b d : Core) (items : List Path) → b ≡ record c { queues = b.queues } → SameStanding (stands d) (all_listed b items (stands b))
+    → SameStanding (stands d) (all_listed c items (stands c))
+follow_shelves c b d items before h = subst (λ (k : Core). SameStanding (stands d) (all_listed k items (stands k))) before h
 
 -- ---- one transaction
 

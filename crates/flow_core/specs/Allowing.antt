@@ -21,6 +21,7 @@ use Rattle.navigator.specs.declared.scopes.ScopeState.{out-ScopeState}
 use Rattle.recover_queue.specs.Queues.{is_quiet}
 use Rattle.process_rules.specs.Imports.{IsIndexed}
 use Rattle.staff_worklists.specs.Standing.{item_in}
+use Rattle.staff_worklists.specs.declared.worklists.Shelf.{Shelf}
 use Rattle.template_check.specs.Judged.{IsFaultless}
 use Rattle.flow_core.specs.Answers.{instance_of}
 use Rattle.flow_core.specs.Driving.{templates, item_of, program_in, IsFront}
@@ -153,4 +154,4 @@ pub record IsBlank (c : Core) : Type 0 where
   pub keys : c.keys.entries ≡ []
   pub indexed : IsIndexed c.store.catalog
   pub live : c.live.items ≡ []
-  pub unlisted : (name rank : List ℕ) → item_in c.worklists.shelves name rank ≡ None
+  pub unlisted : (shelf : Shelf) (rank : List ℕ) → item_in c.worklists.shelves shelf rank ≡ None

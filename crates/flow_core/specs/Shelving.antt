@@ -31,6 +31,7 @@ use Rattle.recover_queue.specs.Queues.{root_of}
 use Rattle.staff_worklists.specs.Shelves.{shelf_for, is_held}
 use Rattle.staff_worklists.specs.Standing.{item_in, listed_at, begins_with}
 use Rattle.staff_worklists.specs.declared.worklists.Listed.{Listed}
+use Rattle.staff_worklists.specs.declared.worklists.Shelf.{Shelf}
 use Rattle.flow_core.specs.Allowing.{performer_for}
 use Rattle.flow_core.specs.Answers.{instance_of}
 use Rattle.flow_core.specs.Driving.{templates, graph_now, item_of, program_in, ChangesRoot, IfLive, put_in, queue_now}
@@ -76,27 +77,27 @@ rank_now c path = option_map (λ g. path.root ∷ rank_on (templates c) path.par
 
 -- what stands on each shelf at each rank
 abbrev pub Standing : Type 0
-Standing = List ℕ → List ℕ → Option Listed
+Standing = Shelf → List ℕ → Option Listed
 
 abbrev pub stands : Core → Standing
-stands c name rank = item_in c.worklists.shelves name rank
+stands c shelf rank = item_in c.worklists.shelves shelf rank
 
 abbrev pub SameStanding : Standing → Standing → Type 0
-SameStanding v w = (name rank : List ℕ) → v name rank ≡ w name rank
+SameStanding v w = (shelf : Shelf) (rank : List ℕ) → v shelf rank ≡ w shelf rank
 
 -- a line of this rank stands on the shelf that it asks for, and on no other
 abbrev pub with_line : Path → ItemLine → List ℕ → Standing → Standing
-with_line path line own w name rank =
-    if bytes_eq own rank then listed_at (shelf_for line) name
-    (record { item = path; held = is_held line.hold }) else w name rank
+with_line path line own w shelf rank =
+    if bytes_eq own rank then listed_at (shelf_for line) shelf
+    (record { item = path; held = is_held line.hold }) else w shelf rank
 
 -- nothing of this rank stands on any shelf
 abbrev pub without_rank : List ℕ → Standing → Standing
-without_rank own w name rank = if bytes_eq own rank then None else w name rank
+without_rank own w shelf rank = if bytes_eq own rank then None else w shelf rank
 
 -- nothing of this root stands on any shelf
 abbrev pub without_items : ℕ → Standing → Standing
-without_items root w name rank = if begins_with root rank then None else w name rank
+without_items root w shelf rank = if begins_with root rank then None else w shelf rank
 
 -- a manual item that is there is listed as it stands; one that isn't changes nothing
 abbrev pub listed_if : Path → Option ItemLine → Option (List ℕ) → Standing → Standing

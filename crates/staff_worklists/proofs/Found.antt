@@ -20,6 +20,7 @@ use Rattle.std.specs.HashMap.{HashMap}
 use Rattle.flow_model.specs.declared.graphs.PersonDef.{PersonDef}
 use Rattle.flow_model.specs.declared.instances.WorkLine.{WorkLine}
 use Rattle.staff_worklists.specs.declared.worklists.Listed.{Listed}
+use Rattle.staff_worklists.specs.declared.worklists.Shelf.{Shelf}
 use Rattle.staff_worklists.specs.Shelves.{shelves_of}
 use Rattle.staff_worklists.specs.Listing.{found_at, line_of, seen_on, IsWorklist}
 use Rattle.staff_worklists.proofs.Lookups.{tree_updates}
@@ -97,7 +98,7 @@ read_lines [] = refl
 read_lines (e ∷ es) = ap (λ (l : List WorkLine). line_of e.1.now ∷ l) (read_lines es)
 
 -- the lines of what was found are the worklist
-pub listing : {S E : Type 0} (shelves : HashMap (Vec ℕ) (BTreeMap (Vec ℕ) Listed) S) (person : PersonDef) (found : BTreeMap (Bor (List ℕ)) (Bor Listed)) (result : Result (List WorkLine) E)
+pub listing : {S E : Type 0} (shelves : HashMap Shelf (BTreeMap (Vec ℕ) Listed) S) (person : PersonDef) (found : BTreeMap (Bor (List ℕ)) (Bor Listed)) (result : Result (List WorkLine) E)
     → ((rank : List ℕ) → found_at found rank ≡ seen_on shelves (shelves_of person) None rank)
     → IfOk result (λ lines. (lines ≡ map (λ e. line_of e.1.now) found.entries) × tree.IsOrdered (λ k l. slice_cmp nat_cmp k.now l.now) found)
     → IfOk result (IsWorklist shelves person)

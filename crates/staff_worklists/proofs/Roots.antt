@@ -18,8 +18,9 @@ use Rattle.std.proofs.lemmas.Map.Keys.{sorted_head}
 use Rattle.std.proofs.lemmas.Map.Text.{is_eq-slice_cmp}
 use Rattle.std.proofs.lemmas.List.Folds.{list_any-append}
 use Rattle.staff_worklists.specs.Standing.{begins_with, is_among}
+use Rattle.staff_worklists.specs.declared.worklists.Shelf.{Shelf}
 
-abbrev pub placed_at : List ℕ → List (Vec ℕ × Vec ℕ) → Option (Vec ℕ)
+abbrev pub placed_at : List ℕ → List (Vec ℕ × Shelf) → Option Shelf
 placed_at rank entries = lookup (λ k. is_eq (slice_cmp nat_cmp rank k.items)) entries
 
 same : (a b : ℕ) → b ≡ a → (a == b) ≡ true
@@ -50,7 +51,7 @@ differs : (root : ℕ) (k r : List ℕ) → begins_with root k ≡ false → beg
 differs root k r no_root begins =
     is_eq-slice_cmp r k ∙ ⊎_elim (λ y. absurd (false≢true (sym no_root ∙ ap (begins_with root) (sym ((bytes_decides r k).0 y)) ∙ begins))) (λ n. n) (cases_Bool (bytes_eq r k))
 
-none_behind : (root : ℕ) (k r : List ℕ) (entries : List (Vec ℕ × Vec ℕ)) → begins_with root k ≡ false → is_le (slice_cmp nat_cmp (root ∷ []) k) ≡ true → begins_with root r ≡ true
+none_behind : (root : ℕ) (k r : List ℕ) (entries : List (Vec ℕ × Shelf)) → begins_with root k ≡ false → is_le (slice_cmp nat_cmp (root ∷ []) k) ≡ true → begins_with root r ≡ true
     → AllByRecursion (λ y. slice_cmp nat_cmp k y.items ≡ Less) (keys_of entries) → placed_at r entries ≡ None
 none_behind root k r [] no_root le begins above = refl
 none_behind root k r (e ∷ entries) no_root le begins above =
@@ -60,7 +61,7 @@ none_behind root k r (e ∷ entries) no_root le begins above =
     (cases_Bool (is_eq (slice_cmp nat_cmp r e.0.items)))
 
 -- the first that doesn't begin with the root is behind all that do
-pub no_more : (root : ℕ) (k : Vec ℕ) (v : Vec ℕ) (entries : List (Vec ℕ × Vec ℕ)) (r : List ℕ) → begins_with root k.items ≡ false → is_le (slice_cmp nat_cmp (root ∷ []) k.items) ≡ true
+pub no_more : (root : ℕ) (k : Vec ℕ) (v : Shelf) (entries : List (Vec ℕ × Shelf)) (r : List ℕ) → begins_with root k.items ≡ false → is_le (slice_cmp nat_cmp (root ∷ []) k.items) ≡ true
     → IsStrictlySortedBy (λ x y. slice_cmp nat_cmp x.items y.items) (keys_of ((k, v) ∷ entries)) → begins_with root r ≡ true → placed_at r ((k, v) ∷ entries) ≡ None
 no_more root k v entries r no_root le rising begins =
     cond-false (is_eq (slice_cmp nat_cmp r k.items)) (Some v) (placed_at r entries) (differs root k.items r no_root begins)
@@ -84,11 +85,11 @@ at_least root (x ∷ s) begins =
 pub kept_from : (root : ℕ) (r : List ℕ) → begins_with root r ≡ true → (k : Vec ℕ) → is_eq (slice_cmp nat_cmp r k.items) ≡ true → from_first root k ≡ true
 kept_from root r begins k e = subst (λ (l : List ℕ). is_le (slice_cmp nat_cmp (root ∷ []) l) ≡ true) ((bytes_decides r k.items).0 (sym (is_eq-slice_cmp r k.items) ∙ e)) (at_least root r begins)
 
-keys_kept : (p : Vec ℕ → Bool) (entries : List (Vec ℕ × Vec ℕ)) → keys_of (filter (λ e. p e.0) entries) ≡ filter p (keys_of entries)
+keys_kept : (p : Vec ℕ → Bool) (entries : List (Vec ℕ × Shelf)) → keys_of (filter (λ e. p e.0) entries) ≡ filter p (keys_of entries)
 keys_kept p [] = refl
 keys_kept p (e ∷ entries) = kept_by (p e.0) e.0 e (filter (λ e. p e.0) entries) (filter p (keys_of entries)) refl (keys_kept p entries)
   where
-    kept_by : (b : Bool) (k : Vec ℕ) (e : Vec ℕ × Vec ℕ) (es : List (Vec ℕ × Vec ℕ)) (ks : List (Vec ℕ)) → k ≡ e.0 → keys_of es ≡ ks → keys_of (cond b (e ∷ es) es) ≡ cond b (k ∷ ks) ks
+    kept_by : (b : Bool) (k : Vec ℕ) (e : Vec ℕ × Shelf) (es : List (Vec ℕ × Shelf)) (ks : List (Vec ℕ)) → k ≡ e.0 → keys_of es ≡ ks → keys_of (cond b (e ∷ es) es) ≡ cond b (k ∷ ks) ks
     kept_by true k e es ks same rest = ap (λ (l : List (Vec ℕ)). e.0 ∷ l) rest ∙ ap (λ (x : Vec ℕ). x ∷ ks) (sym same)
     kept_by false k e es ks same rest = rest
 
@@ -107,7 +108,7 @@ abbrev in_range : Vec ℕ → Vec ℕ → Bool
 in_range from k = is_le (slice_cmp nat_cmp from.items k.items) && not false
 
 -- the range from the first rank of a root: it rises, and has each rank of the root
-pub started : (root : ℕ) (from : Vec ℕ) (entries range : List (Vec ℕ × Vec ℕ)) → from.items ≡ root ∷ []
+pub started : (root : ℕ) (from : Vec ℕ) (entries range : List (Vec ℕ × Shelf)) → from.items ≡ root ∷ []
     → range ≡ filter (λ e. is_le (slice_cmp nat_cmp from.items e.0.items) && not false) entries
     → IsStrictlySortedBy (λ x y. slice_cmp nat_cmp x.items y.items) (keys_of entries)
     → IsStrictlySortedBy (λ x y. slice_cmp nat_cmp x.items y.items) (keys_of range) × AllByRecursion (λ k. from_first root k ≡ true) (keys_of range)
@@ -119,32 +120,32 @@ started root from entries range first is rising = (
 )
   where
     keys : keys_of range ≡ filter (in_range from) (keys_of entries)
-    keys = ap (λ (l : List (Vec ℕ × Vec ℕ)). keys_of l) is ∙ keys_kept (in_range from) entries
+    keys = ap (λ (l : List (Vec ℕ × Shelf)). keys_of l) is ∙ keys_kept (in_range from) entries
 
     is_from : (k : Vec ℕ) → in_range from k ≡ from_first root k
     is_from k = and_true (is_le (slice_cmp nat_cmp from.items k.items)) ∙ ap (λ (l : List ℕ). is_le (slice_cmp nat_cmp l k.items)) first
 
 -- where the first that is left isn't of the root, all of the root are among the ranks
-pub all_found : (root : ℕ) (k v : Vec ℕ) (left entries : List (Vec ℕ × Vec ℕ)) (r : List ℕ) (among : Type 0) → left ≡ (k, v) ∷ entries → begins_with root k.items ≡ false
+pub all_found : (root : ℕ) (k : Vec ℕ) (v : Shelf) (left entries : List (Vec ℕ × Shelf)) (r : List ℕ) (among : Type 0) → left ≡ (k, v) ∷ entries → begins_with root k.items ≡ false
     → IsStrictlySortedBy (λ x y. slice_cmp nat_cmp x.items y.items) (keys_of left) → AllByRecursion (λ k. from_first root k ≡ true) (keys_of left) → begins_with root r ≡ true
     → among ⊎ IsSome (placed_at r left) → among
 all_found root k v left entries r among is no_root rising from begins found =
     ⊎_elim (λ a. a)
-    (λ some. let e = ap (placed_at r) is ∙ no_more root k v entries r no_root (subst (λ (l : List (Vec ℕ × Vec ℕ)). AllByRecursion (λ k. from_first root k ≡ true) (keys_of l)) is from).0 (subst (λ (l : List (Vec ℕ × Vec ℕ)). IsStrictlySortedBy (λ x y. slice_cmp nat_cmp x.items y.items) (keys_of l)) is rising) begins in absurd (is_none (subst (λ (o : Option (Vec ℕ)). IsSome o) e some)))
+    (λ some. let e = ap (placed_at r) is ∙ no_more root k v entries r no_root (subst (λ (l : List (Vec ℕ × Shelf)). AllByRecursion (λ k. from_first root k ≡ true) (keys_of l)) is from).0 (subst (λ (l : List (Vec ℕ × Shelf)). IsStrictlySortedBy (λ x y. slice_cmp nat_cmp x.items y.items) (keys_of l)) is rising) begins in absurd (is_none (subst (λ (o : Option Shelf). IsSome o) e some)))
     found
   where
-    is_none : IsSome {T = Vec ℕ} None → ⊥
+    is_none : IsSome {T = Shelf} None → ⊥
     is_none h = cc
 
 -- one more rank of the root
-pub one_more_found : (root : ℕ) (k v copy : Vec ℕ) (ranks after : List (Vec ℕ)) (left entries : List (Vec ℕ × Vec ℕ)) (r : List ℕ) → left ≡ (k, v) ∷ entries → copy.items ≡ k.items → after ≡ ranks ++ copy ∷ []
+pub one_more_found : (root : ℕ) (k : Vec ℕ) (v : Shelf) (copy : Vec ℕ) (ranks after : List (Vec ℕ)) (left entries : List (Vec ℕ × Shelf)) (r : List ℕ) → left ≡ (k, v) ∷ entries → copy.items ≡ k.items → after ≡ ranks ++ copy ∷ []
     → (is_among ranks r ≡ true) ⊎ IsSome (placed_at r left) → (is_among after r ≡ true) ⊎ IsSome (placed_at r entries)
 one_more_found root k v copy ranks after left entries r is copied pushed found =
     ⊎_elim
     (λ a. inl (ap (λ (l : List (Vec ℕ)). is_among l r) pushed ∙ list_any-append (λ x. bytes_eq x.items r) ranks (copy ∷ []) ∙ ap (λ (b : Bool). b || (bytes_eq copy.items r || false)) a))
     (λ some. ⊎_elim
     (λ y. inl (ap (λ (l : List (Vec ℕ)). is_among l r) pushed ∙ list_any-append (λ x. bytes_eq x.items r) ranks (copy ∷ []) ∙ ap (λ (b : Bool). is_among ranks r || (b || false)) (ap (λ (l : List ℕ). bytes_eq l r) copied ∙ nat_list_eq_equiv.symm k.items r ∙ sym (is_eq-slice_cmp r k.items) ∙ y) ∙ or_true (is_among ranks r)))
-    (λ n. inr (subst (λ (o : Option (Vec ℕ)). IsSome o) (ap (placed_at r) is ∙ cond-false (is_eq (slice_cmp nat_cmp r k.items)) (Some v) (placed_at r entries) n) some))
+    (λ n. inr (subst (λ (o : Option Shelf). IsSome o) (ap (placed_at r) is ∙ cond-false (is_eq (slice_cmp nat_cmp r k.items)) (Some v) (placed_at r entries) n) some))
     (cases_Bool (is_eq (slice_cmp nat_cmp r k.items))))
     found
   where

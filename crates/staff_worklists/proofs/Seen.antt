@@ -11,25 +11,27 @@ use Rattle.flow_model.specs.declared.instances.Hold.{Hold}
 use Rattle.flow_model.specs.declared.instances.Hold.TheVariants as held
 use Rattle.flow_model.specs.declared.instances.ItemLine.{ItemLine}
 use Rattle.staff_worklists.specs.Rights.{is_meant, is_eligible, holds_it}
+use Rattle.staff_worklists.specs.SameShelf.{shelf_eq}
+use Rattle.staff_worklists.specs.declared.worklists.Shelf.TheVariants.{Role, Person, Holder}
 use Rattle.staff_worklists.specs.Shelves.{claim_shelf, shelf_by, sees, is_free, IsSeenWhereAllowed}
 
 or_false : (b : Bool) → (b || false) ≡ b
 or_false true = refl
 or_false false = refl
 
-no_person_shelf : (n : List ℕ) (roles : List (List ℕ)) → list_any (λ s. bytes_eq s (80 ∷ n)) (map (λ role. 82 ∷ role) roles) ≡ false
+no_person_shelf : (n : List ℕ) (roles : List (List ℕ)) → list_any (λ s. shelf_eq s (Person n)) (map (λ role. Role role) roles) ≡ false
 no_person_shelf n [] = refl
 no_person_shelf n (role ∷ roles) = no_person_shelf n roles
 
-no_holder_shelf : (n : List ℕ) (roles : List (List ℕ)) → list_any (λ s. bytes_eq s (72 ∷ n)) (map (λ role. 82 ∷ role) roles) ≡ false
+no_holder_shelf : (n : List ℕ) (roles : List (List ℕ)) → list_any (λ s. shelf_eq s (Holder n)) (map (λ role. Role role) roles) ≡ false
 no_holder_shelf n [] = refl
 no_holder_shelf n (role ∷ roles) = no_holder_shelf n roles
 
-role_shelf : (role : List ℕ) (roles : List (List ℕ)) → list_any (λ s. bytes_eq s (82 ∷ role)) (map (λ own. 82 ∷ own) roles) ≡ list_any (λ own. bytes_eq own role) roles
+role_shelf : (role : List ℕ) (roles : List (List ℕ)) → list_any (λ s. shelf_eq s (Role role)) (map (λ own. Role own) roles) ≡ list_any (λ own. bytes_eq own role) roles
 role_shelf role [] = refl
 role_shelf role (own ∷ roles) = ap (λ b. bytes_eq own role || b) (role_shelf role roles)
 
-person_shelf : (person : PersonDef) (n : List ℕ) → sees person (Some (80 ∷ n)) ≡ bytes_eq person.name n
+person_shelf : (person : PersonDef) (n : List ℕ) → sees person (Some (Person n)) ≡ bytes_eq person.name n
 person_shelf person n = ap (λ b. bytes_eq person.name n || b) (no_person_shelf n person.roles) ∙ or_false (bytes_eq person.name n)
 
 free_seen : (person : PersonDef) (manual : Bool) (d : DoneBy) (starter : List ℕ) (performer : Option (List ℕ))

@@ -13,48 +13,50 @@ use Rattle.std.specs.BTreeMap.{BTreeMap}
 use Rattle.std.specs.HashMap as hash
 use Rattle.std.specs.HashMap.{HashMap}
 use Rattle.std.proofs.lemmas.Bool.{cases_Bool, false≢true}
+use Rattle.staff_worklists.specs.SameShelf.{shelf_eq, shelf_decides}
 use Rattle.staff_worklists.specs.declared.worklists.Listed.{Listed}
+use Rattle.staff_worklists.specs.declared.worklists.Shelf.{Shelf}
 use Rattle.staff_worklists.specs.Standing.{shelf_at, at_rank, on_shelf, item_in, ArePlaced, begins_with, is_among}
-use Rattle.std.specs.Option.{IsSome, option_map}
+use Rattle.std.specs.Option.{IsSome}
 use Rattle.std.proofs.Common.{Result, Ok, Err, OnOk, OnErr}
-use Rattle.staff_worklists.proofs.Lookups.{tree_updates, hash_updates}
+use Rattle.staff_worklists.proofs.Lookups.{tree_updates, shelf_updates}
 
-module _ {S : Type 0} (old new : HashMap (Vec ℕ) (BTreeMap (Vec ℕ) Listed) S) (name rank : List ℕ) (w : Option Listed) where
+module _ {S : Type 0} (old new : HashMap Shelf (BTreeMap (Vec ℕ) Listed) S) (shelf : Shelf) (rank : List ℕ) (w : Option Listed) where
   -- a shelf that is there is written at one rank
-  pub changed : (items after : BTreeMap (Vec ℕ) Listed) → Some items ≡ shelf_at old name
-      → hash.UpdatesBy (λ x y. bytes_eq x.items y.items) (λ k. bytes_eq name k.items) old new (Some after)
+  pub changed : (items after : BTreeMap (Vec ℕ) Listed) → Some items ≡ shelf_at old shelf
+      → hash.UpdatesBy shelf_eq (shelf_eq shelf) old new (Some after)
       → tree.UpdatesBy (λ x y. slice_cmp nat_cmp x.items y.items) (λ k. slice_cmp nat_cmp rank k.items) items after w
-      → (q r : List ℕ) → item_in new q r ≡ (if bytes_eq name q && bytes_eq rank r then w else item_in old q r)
+      → (q : Shelf) (r : List ℕ) → item_in new q r ≡ (if shelf_eq shelf q && bytes_eq rank r then w else item_in old q r)
   changed items after found outer inner q r =
-      ap (λ o. on_shelf o r) (hash_updates (λ k. k.items) name old new (Some after) outer q)
+      ap (λ o. on_shelf o r) (shelf_updates shelf old new (Some after) outer q)
       ∙ ⊎_elim
-      (λ y. rw y (tree_updates (λ k. k.items) rank items after w inner r ∙ ap (λ o. cond (bytes_eq rank r) w (on_shelf o r)) (found ∙ ap (λ l. shelf_at old l) ((bytes_decides name q).0 y))))
+      (λ y. rw y (tree_updates (λ k. k.items) rank items after w inner r ∙ ap (λ o. cond (bytes_eq rank r) w (on_shelf o r)) (found ∙ ap (λ l. shelf_at old l) ((shelf_decides shelf q).0 y))))
       (λ n. rw n refl)
-      (cases_Bool (bytes_eq name q))
+      (cases_Bool (shelf_eq shelf q))
 
   -- a new shelf with one item
-  pub begun : (none items : BTreeMap (Vec ℕ) Listed) → none.entries ≡ [] → shelf_at old name ≡ None
-      → hash.UpdatesBy (λ x y. bytes_eq x.items y.items) (λ k. bytes_eq name k.items) old new (Some items)
+  pub begun : (none items : BTreeMap (Vec ℕ) Listed) → none.entries ≡ [] → shelf_at old shelf ≡ None
+      → hash.UpdatesBy shelf_eq (shelf_eq shelf) old new (Some items)
       → tree.UpdatesBy (λ x y. slice_cmp nat_cmp x.items y.items) (λ k. slice_cmp nat_cmp rank k.items) none items w
-      → (q r : List ℕ) → item_in new q r ≡ (if bytes_eq name q && bytes_eq rank r then w else item_in old q r)
+      → (q : Shelf) (r : List ℕ) → item_in new q r ≡ (if shelf_eq shelf q && bytes_eq rank r then w else item_in old q r)
   begun none items empty free outer inner q r =
-      ap (λ o. on_shelf o r) (hash_updates (λ k. k.items) name old new (Some items) outer q)
+      ap (λ o. on_shelf o r) (shelf_updates shelf old new (Some items) outer q)
       ∙ ⊎_elim
-      (λ y. rw y (tree_updates (λ k. k.items) rank none items w inner r ∙ ap (λ es. cond (bytes_eq rank r) w (lookup (λ k. is_eq (slice_cmp nat_cmp r k.items)) es)) empty ∙ ap (λ o. cond (bytes_eq rank r) w (on_shelf o r)) (sym free ∙ ap (λ l. shelf_at old l) ((bytes_decides name q).0 y))))
+      (λ y. rw y (tree_updates (λ k. k.items) rank none items w inner r ∙ ap (λ es. cond (bytes_eq rank r) w (lookup (λ k. is_eq (slice_cmp nat_cmp r k.items)) es)) empty ∙ ap (λ o. cond (bytes_eq rank r) w (on_shelf o r)) (sym free ∙ ap (λ l. shelf_at old l) ((shelf_decides shelf q).0 y))))
       (λ n. rw n refl)
-      (cases_Bool (bytes_eq name q))
+      (cases_Bool (shelf_eq shelf q))
 
 -- a shelf that is lent and not written stays
-pub unwritten : {S : Type 0} (old new : HashMap (Vec ℕ) (BTreeMap (Vec ℕ) Listed) S) (name : List ℕ) (items after : BTreeMap (Vec ℕ) Listed)
-    → Some items ≡ shelf_at old name → after.entries ≡ items.entries
-    → hash.UpdatesBy (λ x y. bytes_eq x.items y.items) (λ k. bytes_eq name k.items) old new (Some after)
-    → (q r : List ℕ) → item_in new q r ≡ item_in old q r
-unwritten old new name items after found same outer q r =
-    ap (λ o. on_shelf o r) (hash_updates (λ k. k.items) name old new (Some after) outer q)
+pub unwritten : {S : Type 0} (old new : HashMap Shelf (BTreeMap (Vec ℕ) Listed) S) (shelf : Shelf) (items after : BTreeMap (Vec ℕ) Listed)
+    → Some items ≡ shelf_at old shelf → after.entries ≡ items.entries
+    → hash.UpdatesBy shelf_eq (shelf_eq shelf) old new (Some after)
+    → (q : Shelf) (r : List ℕ) → item_in new q r ≡ item_in old q r
+unwritten old new shelf items after found same outer q r =
+    ap (λ o. on_shelf o r) (shelf_updates shelf old new (Some after) outer q)
     ∙ ⊎_elim
-    (λ y. rw y (ap (λ es. lookup (λ k. is_eq (slice_cmp nat_cmp r k.items)) es) same ∙ ap (λ o. on_shelf o r) (found ∙ ap (λ l. shelf_at old l) ((bytes_decides name q).0 y))))
+    (λ y. rw y (ap (λ es. lookup (λ k. is_eq (slice_cmp nat_cmp r k.items)) es) same ∙ ap (λ o. on_shelf o r) (found ∙ ap (λ l. shelf_at old l) ((shelf_decides shelf q).0 y))))
     (λ n. rw n refl)
-    (cases_Bool (bytes_eq name q))
+    (cases_Bool (shelf_eq shelf q))
 
 -- ---- places
 
@@ -77,41 +79,41 @@ off_one false true old new e f = e ∙ f refl refl
 off_one false false old new e f = e
 
 -- an item doesn't stand on a shelf that its place doesn't name
-stands_not : {S : Type 0} (shelves : HashMap (Vec ℕ) (BTreeMap (Vec ℕ) Listed) S) (places : BTreeMap (Vec ℕ) (Vec ℕ)) (shelf : Vec ℕ) (q r : List ℕ)
-    → ArePlaced shelves places → Some shelf ≡ at_rank places r → bytes_eq shelf.items q ≡ false → item_in shelves q r ≡ None
+stands_not : {S : Type 0} (shelves : HashMap Shelf (BTreeMap (Vec ℕ) Listed) S) (places : BTreeMap (Vec ℕ) Shelf) (shelf q : Shelf) (r : List ℕ)
+    → ArePlaced shelves places → Some shelf ≡ at_rank places r → shelf_eq shelf q ≡ false → item_in shelves q r ≡ None
 stands_not shelves places shelf q r placed here apart =
-    nothing (item_in shelves q r) (λ some. let e = ap (option_map (λ s. s.items)) here ∙ placed q r some in false≢true (sym apart ∙ (bytes_decides shelf.items q).1 (some_same e)))
+    nothing (item_in shelves q r) (λ some. let e = here ∙ placed q r some in false≢true (sym apart ∙ (shelf_decides shelf q).1 (some_same e)))
   where
-    some_same : Some shelf.items ≡ Some q → shelf.items ≡ q
+    some_same : Some shelf ≡ Some q → shelf ≡ q
     some_same e = cc
 
 -- the item of a rank is taken off the shelf that its place names, and so stands nowhere
-pub dropped : {S : Type 0} (old new : HashMap (Vec ℕ) (BTreeMap (Vec ℕ) Listed) S) (places : BTreeMap (Vec ℕ) (Vec ℕ)) (shelf : Vec ℕ) (rank : List ℕ)
+pub dropped : {S : Type 0} (old new : HashMap Shelf (BTreeMap (Vec ℕ) Listed) S) (places : BTreeMap (Vec ℕ) Shelf) (shelf : Shelf) (rank : List ℕ)
     → ArePlaced old places → Some shelf ≡ at_rank places rank
-    → ((q r : List ℕ) → item_in new q r ≡ (if bytes_eq shelf.items q && bytes_eq rank r then None else item_in old q r))
-    → (q r : List ℕ) → item_in new q r ≡ (if bytes_eq rank r then None else item_in old q r)
+    → ((q : Shelf) (r : List ℕ) → item_in new q r ≡ (if shelf_eq shelf q && bytes_eq rank r then None else item_in old q r))
+    → (q : Shelf) (r : List ℕ) → item_in new q r ≡ (if bytes_eq rank r then None else item_in old q r)
 dropped old new places shelf rank placed here taken q r =
-    off_one (bytes_eq shelf.items q) (bytes_eq rank r) (item_in old q r) (item_in new q r) (taken q r)
+    off_one (shelf_eq shelf q) (bytes_eq rank r) (item_in old q r) (item_in new q r) (taken q r)
     (λ y off. stands_not old places shelf q r placed (here ∙ ap (λ l. at_rank places l) ((bytes_decides rank r).0 y)) off)
 
 -- the places stay right where one rank's place and item change together
-pub placed_after : {S : Type 0} (old new : HashMap (Vec ℕ) (BTreeMap (Vec ℕ) Listed) S) (places after : BTreeMap (Vec ℕ) (Vec ℕ)) (rank : List ℕ) (p : Option (Vec ℕ))
+pub placed_after : {S : Type 0} (old new : HashMap Shelf (BTreeMap (Vec ℕ) Listed) S) (places after : BTreeMap (Vec ℕ) Shelf) (rank : List ℕ) (p : Option Shelf)
     → ArePlaced old places
     → ((r : List ℕ) → at_rank after r ≡ cond (bytes_eq rank r) p (at_rank places r))
-    → ((q r : List ℕ) → bytes_eq rank r ≡ false → item_in new q r ≡ item_in old q r)
-    → ((q r : List ℕ) → bytes_eq rank r ≡ true → IsSome (item_in new q r) → option_map (λ s. s.items) p ≡ Some q)
+    → ((q : Shelf) (r : List ℕ) → bytes_eq rank r ≡ false → item_in new q r ≡ item_in old q r)
+    → ((q : Shelf) (r : List ℕ) → bytes_eq rank r ≡ true → IsSome (item_in new q r) → p ≡ Some q)
     → ArePlaced new after
 placed_after old new places after rank p placed updated same given q r some =
-    ap (option_map (λ s. s.items)) (updated r) ∙ ⊎_elim
+    updated r ∙ ⊎_elim
     (λ y. rw y (given q r y some))
     (λ n. rw n (placed q r (subst (λ o. IsSome o) (same q r n) some)))
     (cases_Bool (bytes_eq rank r))
 
 -- nothing stands at the rank, and its place is forgotten
-pub placed_dropped : {S : Type 0} (old new : HashMap (Vec ℕ) (BTreeMap (Vec ℕ) Listed) S) (places after : BTreeMap (Vec ℕ) (Vec ℕ)) (rank : List ℕ)
+pub placed_dropped : {S : Type 0} (old new : HashMap Shelf (BTreeMap (Vec ℕ) Listed) S) (places after : BTreeMap (Vec ℕ) Shelf) (rank : List ℕ)
     → ArePlaced old places
     → ((r : List ℕ) → at_rank after r ≡ cond (bytes_eq rank r) None (at_rank places r))
-    → ((q r : List ℕ) → item_in new q r ≡ (if bytes_eq rank r then None else item_in old q r))
+    → ((q : Shelf) (r : List ℕ) → item_in new q r ≡ (if bytes_eq rank r then None else item_in old q r))
     → ArePlaced new after
 placed_dropped old new places after rank placed updated gone =
     placed_after old new places after rank None placed updated
@@ -119,26 +121,26 @@ placed_dropped old new places after rank placed updated gone =
     (λ q r y some. let e : item_in new q r ≡ None = gone q r ∙ rw y refl in absurd (none_is_none (subst (λ o. IsSome o) e some)))
 
 -- an item that stood nowhere stands on the shelf that its place names
-pub placed_put : {S : Type 0} (old new : HashMap (Vec ℕ) (BTreeMap (Vec ℕ) Listed) S) (places after : BTreeMap (Vec ℕ) (Vec ℕ)) (rank name : List ℕ) (p : Vec ℕ) (w : Option Listed)
-    → ArePlaced old places → p.items ≡ name
-    → ((q : List ℕ) → item_in old q rank ≡ None)
+pub placed_put : {S : Type 0} (old new : HashMap Shelf (BTreeMap (Vec ℕ) Listed) S) (places after : BTreeMap (Vec ℕ) Shelf) (rank : List ℕ) (shelf p : Shelf) (w : Option Listed)
+    → ArePlaced old places → p ≡ shelf
+    → ((q : Shelf) → item_in old q rank ≡ None)
     → ((r : List ℕ) → at_rank after r ≡ cond (bytes_eq rank r) (Some p) (at_rank places r))
-    → ((q r : List ℕ) → item_in new q r ≡ (if bytes_eq name q && bytes_eq rank r then w else item_in old q r))
+    → ((q : Shelf) (r : List ℕ) → item_in new q r ≡ (if shelf_eq shelf q && bytes_eq rank r then w else item_in old q r))
     → ArePlaced new after
-placed_put old new places after rank name p w placed named free updated put =
+placed_put old new places after rank shelf p w placed named free updated put =
     placed_after old new places after rank (Some p) placed updated
-    (λ q r n. put q r ∙ rw (n, and_false (bytes_eq name q)) refl)
+    (λ q r n. put q r ∙ rw (n, and_false (shelf_eq shelf q)) refl)
     (λ q r y some. ⊎_elim
-    (λ on. ap (λ l. Some l) (named ∙ (bytes_decides name q).0 on))
+    (λ on. ap (λ l. Some l) (named ∙ (shelf_decides shelf q).0 on))
     (λ off. let e : item_in new q r ≡ None = put q r ∙ rw off (ap (λ l. item_in old q l) (sym ((bytes_decides rank r).0 y)) ∙ free q) in absurd (none_is_none (subst (λ o. IsSome o) e some)))
-    (cases_Bool (bytes_eq name q)))
+    (cases_Bool (shelf_eq shelf q)))
 
 -- nothing was put, and nothing stands at the rank
-pub placed_kept : {S : Type 0} (old new : HashMap (Vec ℕ) (BTreeMap (Vec ℕ) Listed) S) (places after : BTreeMap (Vec ℕ) (Vec ℕ)) (rank : List ℕ) (p : Option (Vec ℕ))
+pub placed_kept : {S : Type 0} (old new : HashMap Shelf (BTreeMap (Vec ℕ) Listed) S) (places after : BTreeMap (Vec ℕ) Shelf) (rank : List ℕ) (p : Option Shelf)
     → ArePlaced old places
-    → ((q : List ℕ) → item_in old q rank ≡ None)
+    → ((q : Shelf) → item_in old q rank ≡ None)
     → ((r : List ℕ) → at_rank after r ≡ cond (bytes_eq rank r) p (at_rank places r))
-    → ((q r : List ℕ) → item_in new q r ≡ item_in old q r)
+    → ((q : Shelf) (r : List ℕ) → item_in new q r ≡ item_in old q r)
     → ArePlaced new after
 placed_kept old new places after rank p placed free updated same =
     placed_after old new places after rank p placed updated
@@ -151,15 +153,15 @@ on_err (Ok x) p = tt
 on_err (Err e) p = p
 
 -- the places stay right however putting the item ends
-pub placed_tried : {S : Type 0} (old new : HashMap (Vec ℕ) (BTreeMap (Vec ℕ) Listed) S) (places after : BTreeMap (Vec ℕ) (Vec ℕ)) (rank name : List ℕ) (p : Vec ℕ) (w : Option Listed) {T E : Type 0} (r : Result T E)
-    → ArePlaced old places → p.items ≡ name
-    → ((q : List ℕ) → item_in old q rank ≡ None)
+pub placed_tried : {S : Type 0} (old new : HashMap Shelf (BTreeMap (Vec ℕ) Listed) S) (places after : BTreeMap (Vec ℕ) Shelf) (rank : List ℕ) (shelf p : Shelf) (w : Option Listed) {T E : Type 0} (r : Result T E)
+    → ArePlaced old places → p ≡ shelf
+    → ((q : Shelf) → item_in old q rank ≡ None)
     → ((r : List ℕ) → at_rank after r ≡ cond (bytes_eq rank r) (Some p) (at_rank places r))
-    → OnOk r ((q r : List ℕ) → item_in new q r ≡ (if bytes_eq name q && bytes_eq rank r then w else item_in old q r))
-    → OnErr r ((q r : List ℕ) → item_in new q r ≡ item_in old q r)
+    → OnOk r ((q : Shelf) (r : List ℕ) → item_in new q r ≡ (if shelf_eq shelf q && bytes_eq rank r then w else item_in old q r))
+    → OnErr r ((q : Shelf) (r : List ℕ) → item_in new q r ≡ item_in old q r)
     → ArePlaced new after
-placed_tried old new places after rank name p w (Ok x) placed named free updated put same = placed_put old new places after rank name p w placed named free updated put
-placed_tried old new places after rank name p w (Err e) placed named free updated put same = placed_kept old new places after rank (Some p) placed free updated same
+placed_tried old new places after rank shelf p w (Ok x) placed named free updated put same = placed_put old new places after rank shelf p w placed named free updated put
+placed_tried old new places after rank shelf p w (Err e) placed named free updated put same = placed_kept old new places after rank (Some p) placed free updated same
 
 dropped_more : {X : Type 0} (b rest : Bool) (old new : Option X) → new ≡ (if b then None else old) → (if rest then None else new) ≡ (if b || rest then None else old)
 dropped_more true true old new e = refl
@@ -168,10 +170,10 @@ dropped_more false true old new e = refl
 dropped_more false false old new e = e
 
 -- one more item is taken off
-pub one_dropped : {S : Type 0} (first old new : HashMap (Vec ℕ) (BTreeMap (Vec ℕ) Listed) S) (ranks : List (Vec ℕ)) (i : ℕ) (x : Vec ℕ) → i < length ranks → x ≡ get_or ranks i x
-    → ((q r : List ℕ) → (if is_among (drop i ranks) r then None else item_in old q r) ≡ (if is_among ranks r then None else item_in first q r))
-    → ((q r : List ℕ) → item_in new q r ≡ (if bytes_eq x.items r then None else item_in old q r))
-    → (q r : List ℕ) → (if is_among (drop (i + 1) ranks) r then None else item_in new q r) ≡ (if is_among ranks r then None else item_in first q r)
+pub one_dropped : {S : Type 0} (first old new : HashMap Shelf (BTreeMap (Vec ℕ) Listed) S) (ranks : List (Vec ℕ)) (i : ℕ) (x : Vec ℕ) → i < length ranks → x ≡ get_or ranks i x
+    → ((q : Shelf) (r : List ℕ) → (if is_among (drop i ranks) r then None else item_in old q r) ≡ (if is_among ranks r then None else item_in first q r))
+    → ((q : Shelf) (r : List ℕ) → item_in new q r ≡ (if bytes_eq x.items r then None else item_in old q r))
+    → (q : Shelf) (r : List ℕ) → (if is_among (drop (i + 1) ranks) r then None else item_in new q r) ≡ (if is_among ranks r then None else item_in first q r)
 one_dropped first old new ranks i x lt is left taken q r =
     dropped_more (bytes_eq x.items r) (is_among (drop (i + 1) ranks) r) (item_in old q r) (item_in new q r) (taken q r)
     ∙ ap (λ (b : Bool). if b then None else item_in old q r) (sym step) ∙ left q r

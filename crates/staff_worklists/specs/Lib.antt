@@ -1,4 +1,5 @@
 pub mod Rights
+pub mod SameShelf
 pub mod Shelves
 pub mod Standing
 pub mod Listing

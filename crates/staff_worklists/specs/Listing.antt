@@ -13,14 +13,15 @@ use Rattle.std.specs.HashMap.{HashMap}
 use Rattle.flow_model.specs.declared.graphs.PersonDef.{PersonDef}
 use Rattle.flow_model.specs.declared.instances.WorkLine.{WorkLine}
 use Rattle.staff_worklists.specs.declared.worklists.Listed.{Listed}
+use Rattle.staff_worklists.specs.declared.worklists.Shelf.{Shelf}
 use Rattle.staff_worklists.specs.Shelves.{shelves_of}
 use Rattle.staff_worklists.specs.Standing.{item_in}
 
 -- the item of this rank on one of these shelves, else what was found so far
-abbrev pub seen_on : {S : Type 0} → HashMap (Vec ℕ) (BTreeMap (Vec ℕ) Listed) S → List (List ℕ) → Option Listed → List ℕ
+abbrev pub seen_on : {S : Type 0} → HashMap Shelf (BTreeMap (Vec ℕ) Listed) S → List Shelf → Option Listed → List ℕ
     → Option Listed
 seen_on shelves [] so_far rank = so_far
-seen_on shelves (name ∷ names) so_far rank = seen_on shelves names (option_or (item_in shelves name rank) so_far) rank
+seen_on shelves (shelf ∷ rest) so_far rank = seen_on shelves rest (option_or (item_in shelves shelf rank) so_far) rank
 
 -- a listed item as a line
 abbrev pub line_of : Listed → WorkLine
@@ -31,7 +32,7 @@ abbrev pub found_at : BTreeMap (Bor (List ℕ)) (Bor Listed) → List ℕ → Op
 found_at found rank = option_map (λ listed. listed.now) (tree.get_by (λ k. slice_cmp nat_cmp rank k.now) found)
 
 -- the lines are the items on the shelves that the person sees, by rising rank
-abbrev pub IsWorklist : {S : Type 0} → HashMap (Vec ℕ) (BTreeMap (Vec ℕ) Listed) S → PersonDef → List WorkLine → Type 0
+abbrev pub IsWorklist : {S : Type 0} → HashMap Shelf (BTreeMap (Vec ℕ) Listed) S → PersonDef → List WorkLine → Type 0
 IsWorklist shelves person lines =
     (ranked : List (List ℕ × Listed)) × IsStrictlySortedBy (slice_cmp nat_cmp) (keys_of ranked)
     × ((rank : List ℕ) → lookup (bytes_eq rank) ranked ≡ seen_on shelves (shelves_of person) None rank)

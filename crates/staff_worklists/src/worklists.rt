@@ -1,6 +1,8 @@
 //! The open manual items of all roots, and the worklists over them.
 ghost use Rattle.std.specs.Prelude.{◌≡◌, ℕ, ◌∷◌, ◌&&◌, List as Seq, false, true, None, Some, IfOk, OnOk, OnErr};
-ghost use Rattle.std.specs.Prelude.{option_map, option_copied, if◌then◌else◌, bytes_eq};
+ghost use Rattle.std.specs.Prelude.{option_copied, if◌then◌else◌, bytes_eq};
+ghost use Rattle.staff_worklists.specs.SameShelf.{shelf_eq, shelf_name, shelf_writes};
+ghost use Rattle.staff_worklists.specs.SameShelf.{shelf_equiv, shelf_partial_equiv, same_writes};
 ghost use Rattle.staff_worklists.specs.Shelves.{claim_shelf as claim_shelf_of, is_held as is_held_test};
 ghost use Rattle.staff_worklists.specs.Shelves.{shelf_for as shelf_of_line, shelves_of};
 ghost use Rattle.std.specs.Prelude.{map};
@@ -16,6 +18,7 @@ use flow_model::{DoneBy, Hold, ItemLine, List, Name, Path, PersonDef, WorkLine};
 use indexmap::IndexMap;
 use std::alloc::{AllocError, Global};
 use std::collections::BTreeMap;
+use std::hash::{Hash, Hasher};
 
 /// Where an item stands in show order: its root, then the place and the attempt of each part.
 pub type Rank = Vec<u64>;
@@ -27,58 +30,110 @@ struct Listed {
     held: bool,
 }
 
+/// A shelf, by whom it is for.
+#[derive(Drop)]
+enum Shelf {
+    /// For those with a role.
+    Role(Name),
+    /// For a person who may claim.
+    Person(Name),
+    /// For the person who holds it.
+    Holder(Name),
+}
+
+impl Shelf {
+    /// The role or the person for whom the shelf is.
+    fn name(&self) -> &Name
+        ensures { result.now ≡ shelf_name self.now }
+    {
+        match self {
+            Shelf::Role(name) => name,
+            Shelf::Person(name) => name,
+            Shelf::Holder(name) => name,
+        }
+    }
+
+    /// An equal shelf.
+    fn copy(&self, alloc: Global) -> Result<Shelf, AllocError>
+        ensures { IfOk result (λ shelf. shelf ≡ self.now) }
+    {
+        match self {
+            Shelf::Role(name) => Ok(Shelf::Role(name.copy(alloc)?)),
+            Shelf::Person(name) => Ok(Shelf::Person(name.copy(alloc)?)),
+            Shelf::Holder(name) => Ok(Shelf::Holder(name.copy(alloc)?)),
+        }
+    }
+}
+
+impl PartialEq for Shelf {
+    ghost eq = { shelf_eq };
+
+    ghost laws = { shelf_partial_equiv };
+
+    fn eq(&self, other: &Shelf) -> bool {
+        match (self, other) {
+            (Shelf::Role(own), Shelf::Role(name)) => own.as_slice() == name.as_slice(),
+            (Shelf::Person(own), Shelf::Person(name)) => own.as_slice() == name.as_slice(),
+            (Shelf::Holder(own), Shelf::Holder(name)) => own.as_slice() == name.as_slice(),
+            _ => false,
+        }
+    }
+}
+
+impl Eq for Shelf {
+    ghost laws = { shelf_equiv };
+}
+
+/// The name alone is hashed: at most three shelves have the same one.
+impl Hash for Shelf {
+    ghost hash_input = { shelf_writes };
+
+    ghost respects_eq = { same_writes };
+
+    fn hash<H: Hasher>(&self, state: &mut H) {
+        state.write(self.name().as_slice());
+    }
+}
+
 /// The items of one shelf, in show order.
-type Shelf = BTreeMap<Rank, Listed>;
+type Items = BTreeMap<Rank, Listed>;
+
+/// The shelves and what stands on each.
+type Shelves = IndexMap<Shelf, Items>;
 
 /// The open items by who may see them. Each item stands on one shelf: that of the person who holds it,
 /// or that of the role or the person who may claim it.
 #[derive(Drop)]
 pub struct Worklists {
     alloc: Global,
-    shelves: IndexMap<Vec<u8>, Shelf>,
+    shelves: Shelves,
     /// For each item the shelf on which it stands.
-    places: BTreeMap<Rank, Vec<u8>>,
+    places: BTreeMap<Rank, Shelf>,
     ghost placed: { ArePlaced shelves places },
 }
 
-/// The shelf of a role or a person: a letter for which it is, then the name.
-fn shelf_of(alloc: Global, letter: u8, name: &Name) -> Result<Vec<u8>, AllocError>
-    ensures { IfOk result (λ shelf. shelf.items ≡ letter ∷ name.now) }
-{
-    let mut shelf = Vec::new(alloc);
-    shelf.push(letter)?;
-    shelf.extend_from_slice(name.as_slice())?;
-    Ok(shelf)
-}
-
-const ROLE: u8 = b'R';
-
-const PERSON: u8 = b'P';
-
-const HOLDER: u8 = b'H';
-
 /// The shelf of those who may claim an item.
-fn claim_shelf(alloc: Global, line: &ItemLine) -> Result<Vec<u8>, AllocError>
-    ensures { IfOk result (λ shelf. shelf.items ≡ claim_shelf_of line.now.program.by line.now.starter
+fn claim_shelf(alloc: Global, line: &ItemLine) -> Result<Shelf, AllocError>
+    ensures { IfOk result (λ shelf. shelf ≡ claim_shelf_of line.now.program.by line.now.starter
         line.now.performer) }
 {
     match &line.program.by {
-        DoneBy::Role(role) => shelf_of(alloc, ROLE, role),
-        DoneBy::Person(name) => shelf_of(alloc, PERSON, name),
-        DoneBy::Starter => shelf_of(alloc, PERSON, &line.starter),
+        DoneBy::Role(role) => Ok(Shelf::Role(role.copy(alloc)?)),
+        DoneBy::Person(name) => Ok(Shelf::Person(name.copy(alloc)?)),
+        DoneBy::Starter => Ok(Shelf::Person(line.starter.copy(alloc)?)),
         DoneBy::PerformerOf(_) => {
             let performer = line.performer.as_ref().unwrap_or(&line.starter);
-            shelf_of(alloc, PERSON, performer)
+            Ok(Shelf::Person(performer.copy(alloc)?))
         }
     }
 }
 
 /// The shelf on which an item stands; None where nobody may see it.
-fn shelf_for(alloc: Global, line: &ItemLine) -> Result<Option<Vec<u8>>, AllocError>
-    ensures { IfOk result (λ shelf. option_map (λ s. s.items) shelf ≡ shelf_of_line line.now) }
+fn shelf_for(alloc: Global, line: &ItemLine) -> Result<Option<Shelf>, AllocError>
+    ensures { IfOk result (λ shelf. shelf ≡ shelf_of_line line.now) }
 {
     match &line.hold {
-        Hold::Person(holder) => Ok(Some(shelf_of(alloc, HOLDER, holder)?)),
+        Hold::Person(holder) => Ok(Some(Shelf::Holder(holder.copy(alloc)?))),
         Hold::Agent(_) => Ok(None),
         Hold::Nobody => {
             if !line.program.manual {
@@ -90,53 +145,53 @@ fn shelf_for(alloc: Global, line: &ItemLine) -> Result<Option<Vec<u8>>, AllocErr
 }
 
 /// Takes the item of a rank off a shelf.
-fn take_off(shelves: &mut IndexMap<Vec<u8>, Shelf>, name: &[u8], rank: &Rank)
-    ensures { (q : Seq ℕ) → (r : Seq ℕ) → item_in shelves.new q r
-        ≡ (if bytes_eq name.now q && bytes_eq rank.now.items r then None else item_in shelves.old q r) }
+fn take_off(shelves: &mut Shelves, shelf: &Shelf, rank: &Rank)
+    ensures { (q : Shelf) → (r : Seq ℕ) → item_in shelves.new q r
+        ≡ (if shelf_eq shelf.now q && bytes_eq rank.now.items r then None else item_in shelves.old q r) }
 {
-    if let Some(items) = shelves.get_mut(name) {
+    if let Some(items) = shelves.get_mut(shelf) {
         let _ = items.remove(rank);
     }
 }
 
 /// Puts an item at a rank of a shelf that isn't there yet.
 fn put_first(
-    shelves: &mut IndexMap<Vec<u8>, Shelf>,
+    shelves: &mut Shelves,
     alloc: Global,
-    name: Vec<u8>,
+    shelf: Shelf,
     rank: Rank,
     listed: Listed,
 ) -> Result<(), AllocError>
-    requires { shelf_at shelves.old name.items ≡ None }
-    ensures ok { OnOk result ((q : Seq ℕ) → (r : Seq ℕ)
-        → item_in shelves.new q r ≡ (if bytes_eq name.items q
+    requires { shelf_at shelves.old shelf ≡ None }
+    ensures ok { OnOk result ((q : Shelf) → (r : Seq ℕ)
+        → item_in shelves.new q r ≡ (if shelf_eq shelf q
         && bytes_eq rank.items r then Some listed else item_in shelves.old q r)) }
     ensures err { OnErr result (shelves.new.entries ≡ shelves.old.entries) }
 {
     let mut items = BTreeMap::new(alloc);
     items.insert(rank, listed)?;
-    shelves.insert(name, items)?;
+    shelves.insert(shelf, items)?;
     Ok(())
 }
 
 /// Puts an item at a rank of a shelf.
 fn put_on(
-    shelves: &mut IndexMap<Vec<u8>, Shelf>,
+    shelves: &mut Shelves,
     alloc: Global,
-    name: Vec<u8>,
+    shelf: Shelf,
     rank: Rank,
     listed: Listed,
 ) -> Result<(), AllocError>
-    ensures ok { OnOk result ((q : Seq ℕ) → (r : Seq ℕ)
-        → item_in shelves.new q r ≡ (if bytes_eq name.items q
+    ensures ok { OnOk result ((q : Shelf) → (r : Seq ℕ)
+        → item_in shelves.new q r ≡ (if shelf_eq shelf q
         && bytes_eq rank.items r then Some listed else item_in shelves.old q r)) }
-    ensures err { OnErr result ((q : Seq ℕ) → (r : Seq ℕ) → item_in shelves.new q r ≡ item_in shelves.old q r) }
+    ensures err { OnErr result ((q : Shelf) → (r : Seq ℕ) → item_in shelves.new q r ≡ item_in shelves.old q r) }
 {
-    if let Some(items) = shelves.get_mut(name.as_slice()) {
+    if let Some(items) = shelves.get_mut(&shelf) {
         items.insert(rank, listed)?;
         return Ok(());
     }
-    put_first(shelves, alloc, name, rank, listed)?;
+    put_first(shelves, alloc, shelf, rank, listed)?;
     Ok(())
 }
 
@@ -162,15 +217,9 @@ fn copied(alloc: Global, rank: &[u64]) -> Result<Rank, AllocError>
     Vec::from_slice(alloc, rank)
 }
 
-fn copied_name(alloc: Global, name: &[u8]) -> Result<Vec<u8>, AllocError>
-    ensures { IfOk result (λ copy. copy.items ≡ name.now) }
-{
-    Vec::from_slice(alloc, name)
-}
-
 /// Adds the items of a shelf.
 fn add_items<'a>(
-    items: &'a Shelf,
+    items: &'a Items,
     found: &mut BTreeMap<&'a [u64], &'a Listed>,
 ) -> Result<(), AllocError>
     ensures { OnOk result ((r : Seq ℕ) → found_at found.new r
@@ -217,7 +266,7 @@ fn begins(rank: &Rank, root: u64) -> bool
 impl Worklists {
     /// No items.
     pub fn new(alloc: Global) -> Worklists
-        ensures { (q : Seq ℕ) → (r : Seq ℕ) → item_in result.shelves q r ≡ None }
+        ensures { (q : Shelf) → (r : Seq ℕ) → item_in result.shelves q r ≡ None }
     {
         Worklists {
             alloc,
@@ -229,10 +278,10 @@ impl Worklists {
     /// Puts an item on the shelf that its line asks for, in the place of where it stood. Without memory it may
     /// have been taken off only.
     pub fn set(&mut self, item: &Path, rank: &Rank, line: &ItemLine) -> Result<(), AllocError>
-        ensures ok { OnOk result ((q : Seq ℕ) → (r : Seq ℕ)
+        ensures ok { OnOk result ((q : Shelf) → (r : Seq ℕ)
             → item_in self.new.shelves q r ≡ (if bytes_eq rank.now.items r then listed_at (shelf_of_line line.now) q
             (record { item = item.now; held = is_held_test line.now.hold }) else item_in self.old.shelves q r)) }
-        ensures err { OnErr result ((q : Seq ℕ) → (r : Seq ℕ)
+        ensures err { OnErr result ((q : Shelf) → (r : Seq ℕ)
             → item_in self.new.shelves q r ≡ (if bytes_eq rank.now.items r then None else item_in self.old.shelves q
             r)) }
     {
@@ -246,17 +295,17 @@ impl Worklists {
     }
 
     /// Puts an item that stands nowhere on a shelf.
-    fn put(&mut self, shelf: Vec<u8>, rank: &Rank, listed: Listed) -> Result<(), AllocError>
-        requires { (q : Seq ℕ) → item_in self.old.shelves q rank.now.items ≡ None }
-        ensures ok { OnOk result ((q : Seq ℕ) → (r : Seq ℕ)
-            → item_in self.new.shelves q r ≡ (if bytes_eq shelf.items q
+    fn put(&mut self, shelf: Shelf, rank: &Rank, listed: Listed) -> Result<(), AllocError>
+        requires { (q : Shelf) → item_in self.old.shelves q rank.now.items ≡ None }
+        ensures ok { OnOk result ((q : Shelf) → (r : Seq ℕ)
+            → item_in self.new.shelves q r ≡ (if shelf_eq shelf q
             && bytes_eq rank.now.items r then Some listed else item_in self.old.shelves q r)) }
-        ensures err { OnErr result ((q : Seq ℕ) → (r : Seq ℕ)
+        ensures err { OnErr result ((q : Shelf) → (r : Seq ℕ)
             → item_in self.new.shelves q r ≡ item_in self.old.shelves q r) }
     {
         let key = copied(self.alloc, rank.as_slice())?;
         let other = copied(self.alloc, rank.as_slice())?;
-        let place = copied_name(self.alloc, shelf.as_slice())?;
+        let place = shelf.copy(self.alloc)?;
         self.places.insert(key, place)?;
         put_on(&mut self.shelves, self.alloc, shelf, other, listed)?;
         Ok(())
@@ -264,19 +313,19 @@ impl Worklists {
 
     /// Takes an item off its shelf; nothing happens where it stands on none.
     pub fn drop_item(&mut self, rank: &Rank)
-        ensures { (q : Seq ℕ) → (r : Seq ℕ) → item_in self.new.shelves q r
+        ensures { (q : Shelf) → (r : Seq ℕ) → item_in self.new.shelves q r
             ≡ (if bytes_eq rank.now.items r then None else item_in self.old.shelves q r) }
     {
         if let Some(shelf) = self.places.remove(rank) {
-            take_off(&mut self.shelves, shelf.as_slice(), rank);
+            take_off(&mut self.shelves, &shelf, rank);
         }
     }
 
     /// Takes all items of a root off their shelves. Without memory nothing is taken off.
     pub fn drop_root(&mut self, root: u64) -> Result<(), AllocError>
-        ensures others { (q : Seq ℕ) → (r : Seq ℕ) → begins_with root r ≡ false
+        ensures others { (q : Shelf) → (r : Seq ℕ) → begins_with root r ≡ false
             → item_in self.new.shelves q r ≡ item_in self.old.shelves q r }
-        ensures gone { OnOk result ((q : Seq ℕ) → (r : Seq ℕ) → begins_with root r ≡ true
+        ensures gone { OnOk result ((q : Shelf) → (r : Seq ℕ) → begins_with root r ≡ true
             → item_in self.new.shelves q r ≡ None) }
         ensures err { OnErr result (self.new ≡ self.old) }
     {
@@ -305,7 +354,7 @@ impl Worklists {
 
     /// Takes items off their shelves.
     fn drop_items(&mut self, ranks: &[Rank])
-        ensures { (q : Seq ℕ) → (r : Seq ℕ) → item_in self.new.shelves q r
+        ensures { (q : Shelf) → (r : Seq ℕ) → item_in self.new.shelves q r
             ≡ (if is_among ranks.now r then None else item_in self.old.shelves q r) }
     {
         for rank in ranks {
@@ -316,7 +365,7 @@ impl Worklists {
     /// Adds the items of a shelf.
     fn add_shelf<'a>(
         &'a self,
-        shelf: &[u8],
+        shelf: &Shelf,
         found: &mut BTreeMap<&'a [u64], &'a Listed>,
     ) -> Result<(), AllocError>
         ensures { OnOk result ((r : Seq ℕ) → found_at found.new r
@@ -335,10 +384,10 @@ impl Worklists {
         found: &mut BTreeMap<&'a [u64], &'a Listed>,
     ) -> Result<(), AllocError>
         ensures { OnOk result ((r : Seq ℕ) → found_at found.new r
-            ≡ option_or (item_in self.now.shelves (ROLE ∷ role.now) r) (found_at found.old r)) }
+            ≡ option_or (item_in self.now.shelves (Shelf.Role role.now) r) (found_at found.old r)) }
     {
-        let shelf = shelf_of(self.alloc, ROLE, role)?;
-        self.add_shelf(shelf.as_slice(), found)?;
+        let shelf = Shelf::Role(role.copy(self.alloc)?);
+        self.add_shelf(&shelf, found)?;
         Ok(())
     }
 
@@ -349,7 +398,7 @@ impl Worklists {
         found: &mut BTreeMap<&'a [u64], &'a Listed>,
     ) -> Result<(), AllocError>
         ensures { OnOk result ((r : Seq ℕ) → found_at found.new r
-            ≡ seen_on self.now.shelves (map (λ role. ROLE ∷ role) roles.now) (found_at found.old r) r) }
+            ≡ seen_on self.now.shelves (map (λ role. Shelf.Role role) roles.now) (found_at found.old r) r) }
     {
         for role in roles {
             self.add_role(role, found)?;
@@ -366,10 +415,10 @@ impl Worklists {
         ensures { OnOk result ((r : Seq ℕ) → found_at found.new r
             ≡ seen_on self.now.shelves (shelves_of person.now) (found_at found.old r) r) }
     {
-        let named = shelf_of(self.alloc, PERSON, &person.name)?;
-        self.add_shelf(named.as_slice(), found)?;
-        let held = shelf_of(self.alloc, HOLDER, &person.name)?;
-        self.add_shelf(held.as_slice(), found)?;
+        let named = Shelf::Person(person.name.copy(self.alloc)?);
+        self.add_shelf(&named, found)?;
+        let held = Shelf::Holder(person.name.copy(self.alloc)?);
+        self.add_shelf(&held, found)?;
         self.add_roles(person.roles.as_slice(), found)?;
         Ok(())
     }

@@ -24,9 +24,11 @@ use Rattle.staff_worklists.proofs.Seen.{seen_where_allowed}
 use Rattle.staff_worklists.specs.Listing.{seen_on, line_of, IsWorklist}
 use Rattle.staff_worklists.specs.Shelves.{shelf_for, shelves_of, sees}
 use Rattle.staff_worklists.specs.Standing.{listed_at}
+use Rattle.staff_worklists.specs.SameShelf.{shelf_eq, shelf_decides}
 use Rattle.staff_worklists.specs.declared.worklists.Listed.{Listed}
+use Rattle.staff_worklists.specs.declared.worklists.Shelf.{Shelf}
 use Rattle.worklist_laws.proofs.OpenLines.{named_ranks, open_named}
-use Rattle.worklist_laws.proofs.Shelves.{rank_tells, listed_is}
+use Rattle.worklist_laws.proofs.Shelves.{shelf_tells, listed_is}
 use Rattle.worklist_laws.specs.Exact.{IsForPerson, IsExact, ListsExactly}
 use Rattle.worklist_laws.specs.Shelved.{open_line, listed_as, IsShelved}
 
@@ -90,21 +92,21 @@ module _ (c : Core) (shelved : IsShelved c) where
   -- ---- what stands on the shelves
 
   -- what stands at a rank of a shelf is the item of an open line, which asks for this shelf
-  record IsOn (name rank : List ℕ) (l : Listed) : Type 0 where
+  record IsOn (name : Shelf) (rank : List ℕ) (l : Listed) : Type 0 where
     line : ItemLine
     opens : open_line c l.item ≡ Some line
     ranked : rank_now c l.item ≡ Some rank
     same : listed_as l.item line ≡ l
     asks : shelf_for line ≡ Some name
 
-  asked_shelf : (shelf : Option (List ℕ)) (name : List ℕ) (x l : Listed) → listed_at shelf name x ≡ Some l → shelf ≡ Some name
+  asked_shelf : (shelf : Option Shelf) (name : Shelf) (x l : Listed) → listed_at shelf name x ≡ Some l → shelf ≡ Some name
   asked_shelf None name x l is = absurd (none-some l is)
-  asked_shelf (Some shelf) name x l is = elim (rank_tells shelf name) [
+  asked_shelf (Some shelf) name x l is = elim (shelf_tells shelf name) [
     | inl same ↦ ap Some same.1
     | inr other ↦ absurd (none-some l (sym (ap (λ b. cond b (Some x) None) other.0) ∙ is))
   ]
 
-  on_shelf : (name rank : List ℕ) (l : Listed) → stands c name rank ≡ Some l → IsOn name rank l
+  on_shelf : (name : Shelf) (rank : List ℕ) (l : Listed) → stands c name rank ≡ Some l → IsOn name rank l
   on_shelf name rank l is =
       let one = shelved.only name rank l is in
       let at = shelved.each l.item one.line one.has in
@@ -119,7 +121,7 @@ module _ (c : Core) (shelved : IsShelved c) where
       }
 
   -- at one rank stands one item
-  one_at : (name name' rank : List ℕ) (l l' : Listed) → stands c name rank ≡ Some l → stands c name' rank ≡ Some l' → l ≡ l'
+  one_at : (name name' : Shelf) (rank : List ℕ) (l l' : Listed) → stands c name rank ≡ Some l → stands c name' rank ≡ Some l' → l ≡ l'
   one_at name name' rank l l' is is' =
       let a = on_shelf name rank l is in
       let b = on_shelf name' rank l' is' in
@@ -129,22 +131,22 @@ module _ (c : Core) (shelved : IsShelved c) where
 
   -- ---- what is seen on shelves
 
-  abbrev seen : List (List ℕ) → Option Listed → List ℕ → Option Listed
+  abbrev seen : List Shelf → Option Listed → List ℕ → Option Listed
   seen names so_far rank = seen_on c.worklists.shelves names so_far rank
 
-  seen_found : (names : List (List ℕ)) (so_far : Option Listed) (rank : List ℕ) (l : Listed) → seen names so_far rank ≡ Some l
-      → (so_far ≡ Some l) ⊎ ((name : List ℕ) × Has names name × (stands c name rank ≡ Some l))
+  seen_found : (names : List Shelf) (so_far : Option Listed) (rank : List ℕ) (l : Listed) → seen names so_far rank ≡ Some l
+      → (so_far ≡ Some l) ⊎ ((name : Shelf) × Has names name × (stands c name rank ≡ Some l))
   seen_found [] so_far rank l is = inl is
   seen_found (name ∷ names) so_far rank l is = elim (seen_found names (option_or (stands c name rank) so_far) rank l is) [
     | inl first ↦ by (stands c name rank) refl first
     | inr later ↦ inr (later.0, has_later name names later.0 later.1, later.2)
   ]
     where
-      by : (o : Option Listed) → stands c name rank ≡ o → option_or o so_far ≡ Some l → (so_far ≡ Some l) ⊎ ((name' : List ℕ) × Has (name ∷ names) name' × (stands c name' rank ≡ Some l))
+      by : (o : Option Listed) → stands c name rank ≡ o → option_or o so_far ≡ Some l → (so_far ≡ Some l) ⊎ ((name' : Shelf) × Has (name ∷ names) name' × (stands c name' rank ≡ Some l))
       by None here first = inl first
       by (Some x) here first = inr (name, (zero, refl), here ∙ first)
 
-  seen_kept : (names : List (List ℕ)) (shelf rank : List ℕ) (l : Listed) → stands c shelf rank ≡ Some l → seen names (Some l) rank ≡ Some l
+  seen_kept : (names : List Shelf) (shelf : Shelf) (rank : List ℕ) (l : Listed) → stands c shelf rank ≡ Some l → seen names (Some l) rank ≡ Some l
   seen_kept [] shelf rank l is = refl
   seen_kept (name ∷ names) shelf rank l is = by (stands c name rank) refl (seen_kept names shelf rank l is)
     where
@@ -152,7 +154,7 @@ module _ (c : Core) (shelved : IsShelved c) where
       by None here kept = kept
       by (Some x) here kept = ap (λ y. seen names (Some y) rank) (one_at name shelf rank x l here is) ∙ kept
 
-  seen_there : (names : List (List ℕ)) (so_far : Option Listed) (name rank : List ℕ) (l : Listed) (k : ℕ) → slice_get names k ≡ Some name → stands c name rank ≡ Some l → seen names so_far rank ≡ Some l
+  seen_there : (names : List Shelf) (so_far : Option Listed) (name : Shelf) (rank : List ℕ) (l : Listed) (k : ℕ) → slice_get names k ≡ Some name → stands c name rank ≡ Some l → seen names so_far rank ≡ Some l
   seen_there [] so_far name rank l k has is = absurd (none-some name has)
   seen_there (first ∷ names) so_far name rank l zero has is =
       let same : first ≡ name = cc in
@@ -164,7 +166,7 @@ module _ (c : Core) (shelved : IsShelved c) where
   module _ (person : PersonDef) (es : List (List ℕ × Listed)) (rising : IsStrictlySortedBy (slice_cmp nat_cmp) (keys_of es))
       (looked : (rank : List ℕ) → lookup (bytes_eq rank) es ≡ seen (shelves_of person) None rank) where
     -- an entry stands on a shelf that the person sees
-    entry_on : (e : List ℕ × Listed) → Has es e → (name : List ℕ) × Has (shelves_of person) name × (stands c name e.0 ≡ Some e.1)
+    entry_on : (e : List ℕ × Listed) → Has es e → (name : Shelf) × Has (shelves_of person) name × (stands c name e.0 ≡ Some e.1)
     entry_on e has = elim (seen_found (shelves_of person) None e.0 e.1 (sym (looked e.0) ∙ found_there es rising e has)) [
       | inl none ↦ absurd (none-some e.1 none)
       | inr on ↦ on
@@ -178,15 +180,15 @@ module _ (c : Core) (shelved : IsShelved c) where
           line = is.line;
           opens = is.opens;
           seen = sym (seen_where_allowed person is.line) ∙ ap (sees person) is.asks
-              ∙ any_has (λ (shelf : List ℕ). bytes_eq shelf on.0) (shelves_of person) on.0 on.1.0 on.1.1 ((bytes_eq-Decides on.0 on.0).1 refl);
+              ∙ any_has (λ (shelf : Shelf). shelf_eq shelf on.0) (shelves_of person) on.0 on.1.0 on.1.1 ((shelf_decides on.0 on.0).1 refl);
           held_so = sym (ap (λ (l : Listed). l.held) is.same);
         }
 
-    shelf_seen : (shelf : Option (List ℕ)) → sees person shelf ≡ true → (name : List ℕ) × (shelf ≡ Some name) × Has (shelves_of person) name
+    shelf_seen : (shelf : Option Shelf) → sees person shelf ≡ true → (name : Shelf) × (shelf ≡ Some name) × Has (shelves_of person) name
     shelf_seen None passes = let n : ⊥ = cc in absurd n
     shelf_seen (Some shelf) passes =
-        let one = any_found (λ (own : List ℕ). bytes_eq own shelf) (shelves_of person) passes in
-        (shelf, refl, subst (λ (n : List ℕ). Has (shelves_of person) n) ((bytes_eq-Decides one.0 shelf).0 one.2) one.1)
+        let one = any_found (λ (own : Shelf). shelf_eq own shelf) (shelves_of person) passes in
+        (shelf, refl, subst (λ (n : Shelf). Has (shelves_of person) n) ((shelf_decides one.0 shelf).0 one.2) one.1)
 
     listed_there : (path : Path) (held : Bool) → IsForPerson c person path held → (rank : List ℕ) × Has es (rank, record { item = path; held = held })
     listed_there path held is =
@@ -194,7 +196,7 @@ module _ (c : Core) (shelved : IsShelved c) where
         let shelf = shelf_seen (shelf_for is.line) (seen_where_allowed person is.line ∙ is.seen) in
         let l : Listed = listed_as path is.line in
         let stood : stands c shelf.0 at.rank ≡ Some l
-        = at.there shelf.0 ∙ ap (λ o. listed_at o shelf.0 l) shelf.1 ∙ ap (λ b. cond b (Some l) None) ((bytes_eq-Decides shelf.0 shelf.0).1 refl) in
+        = at.there shelf.0 ∙ ap (λ o. listed_at o shelf.0 l) shelf.1 ∙ ap (λ b. cond b (Some l) None) ((shelf_decides shelf.0 shelf.0).1 refl) in
         let found = there_found es at.rank l (looked at.rank ∙ seen_there (shelves_of person) None shelf.0 at.rank l shelf.2.0 shelf.2.1 stood) in
         (at.rank, (found.0, found.1 ∙ ap (λ (b : Bool). let x : Listed = record { item = path; held = b } in Some (at.rank, x)) (sym is.held_so)))
 

@@ -9,7 +9,9 @@ use Rattle.flow_model.specs.declared.instances.Path.{Path}
 use Rattle.item_laws.specs.OpenItems.{IsListed}
 use Rattle.staff_worklists.specs.Shelves.{shelf_for}
 use Rattle.staff_worklists.specs.Standing.{listed_at}
+use Rattle.staff_worklists.specs.SameShelf.{shelf_eq, shelf_decides}
 use Rattle.staff_worklists.specs.declared.worklists.Listed.{Listed}
+use Rattle.staff_worklists.specs.declared.worklists.Shelf.{Shelf}
 use Rattle.worklist_laws.proofs.Paths.{path_tells, told_of, told_here, told_other}
 use Rattle.worklist_laws.specs.Shelved.{listed_as, StandsAt, IsOfLine, HoldExactly}
 
@@ -45,10 +47,19 @@ rank_tells a b = by (bytes_eq a b) refl
 rank_other : (a b : List ℕ) → b ≢ a → bytes_eq a b ≡ false
 rank_other a b apart = elim (rank_tells a b) [ inl same ↦ absurd (apart (sym same.1)) | inr other ↦ other.0 ]
 
--- what is listed at a name is what was to be listed
-pub listed_is : (shelf : Option (List ℕ)) (name : List ℕ) (x listed : Listed) → listed_at shelf name x ≡ Some listed → x ≡ listed
+-- ---- what a test of shelves tells
+
+pub shelf_tells : (a b : Shelf) → ((shelf_eq a b ≡ true) × (a ≡ b)) ⊎ ((shelf_eq a b ≡ false) × (a ≢ b))
+shelf_tells a b = by (shelf_eq a b) refl
+  where
+    by : (d : Bool) → shelf_eq a b ≡ d → ((shelf_eq a b ≡ true) × (a ≡ b)) ⊎ ((shelf_eq a b ≡ false) × (a ≢ b))
+    by true is = inl (is, (shelf_decides a b).0 is)
+    by false is = inr (is, λ same. let n : true ≡ false = sym ((shelf_decides a b).1 same) ∙ is in let m : ⊥ = cc in m)
+
+-- what is listed on a shelf is what was to be listed
+pub listed_is : (shelf : Option Shelf) (name : Shelf) (x listed : Listed) → listed_at shelf name x ≡ Some listed → x ≡ listed
 listed_is None name x listed is = absurd (none-some listed is)
-listed_is (Some shelf) name x listed is = by (bytes_eq shelf name) is
+listed_is (Some shelf) name x listed is = by (shelf_eq shelf name) is
   where
     by : (b : Bool) → cond b (Some x) None ≡ Some listed → x ≡ listed
     by true is = cc
@@ -62,9 +73,9 @@ module _ (lines lines' : Lines) (ranks : Ranks) (w w' : Standing) (p : Path) (ow
     pub others : (q : Path) → q ≢ p → lines' q ≡ lines q
     pub ranked : ranks p ≡ Some own
     pub alone : (q : Path) (line : ItemLine) → lines q ≡ Some line → ranks q ≡ Some own → q ≡ p
-    pub elsewhere : (name rank : List ℕ) → rank ≢ own → w' name rank ≡ w name rank
-    pub here : (line : ItemLine) → lines' p ≡ Some line → (name : List ℕ) → w' name own ≡ listed_at (shelf_for line) name (listed_as p line)
-    pub gone : lines' p ≡ None → (name : List ℕ) → w' name own ≡ None
+    pub elsewhere : (name : Shelf) (rank : List ℕ) → rank ≢ own → w' name rank ≡ w name rank
+    pub here : (line : ItemLine) → lines' p ≡ Some line → (name : Shelf) → w' name own ≡ listed_at (shelf_for line) name (listed_as p line)
+    pub gone : lines' p ≡ None → (name : Shelf) → w' name own ≡ None
 
   module _ (change : ChangesRank) (hold : HoldExactly lines ranks w) where
     each_line : (path : Path) (line : ItemLine) → lines' path ≡ Some line → StandsAt ranks w' path line
@@ -82,14 +93,14 @@ module _ (lines lines' : Lines) (ranks : Ranks) (w w' : Standing) (p : Path) (ow
           }
     ]
 
-    only_here : (name : List ℕ) (listed : Listed) → w' name own ≡ Some listed → (o : Option ItemLine) → lines' p ≡ o → IsOfLine lines' ranks own listed
+    only_here : (name : Shelf) (listed : Listed) → w' name own ≡ Some listed → (o : Option ItemLine) → lines' p ≡ o → IsOfLine lines' ranks own listed
     only_here name listed there None has = absurd (none-some listed (sym (change.gone has name) ∙ there))
     only_here name listed there (Some line) has =
         let same : listed_as p line ≡ listed = listed_is (shelf_for line) name (listed_as p line) listed (sym (change.here line has name) ∙ there) in
         let item : p ≡ listed.item = ap (λ (l : Listed). l.item) same in
         record { line = line; has = ap lines' (sym item) ∙ has; ranked = ap ranks (sym item) ∙ change.ranked }
 
-    only_line : (name rank : List ℕ) (listed : Listed) → w' name rank ≡ Some listed → IsOfLine lines' ranks rank listed
+    only_line : (name : Shelf) (rank : List ℕ) (listed : Listed) → w' name rank ≡ Some listed → IsOfLine lines' ranks rank listed
     only_line name rank listed there = elim (rank_tells rank own) [
       | inl is ↦
           subst (λ (r : List ℕ). IsOfLine lines' ranks r listed) (sym is.1) (only_here name listed (ap (w' name) (sym is.1) ∙ there) (lines' p) refl)

@@ -33,6 +33,7 @@ use Rattle.navigator.specs.declared.instance.Instance.{Instance}
 use Rattle.navigator.specs.declared.scopes.ScopeState.{out-ScopeState}
 use Rattle.staff_worklists.specs.Standing.{begins_with}
 use Rattle.staff_worklists.specs.declared.worklists.Listed.{Listed}
+use Rattle.staff_worklists.specs.declared.worklists.Shelf.{Shelf}
 use Rattle.view_laws.specs.Runs.{Event}
 use Rattle.worklist_laws.proofs.OpenLines.{line_of, open_from, open_same, open_is, none_absent, none_terminated, none_open, open_named, rank_is}
 use Rattle.worklist_laws.proofs.Shelves.{Lines, Ranks, hold_same}
@@ -77,7 +78,7 @@ module _ (lines lines' : Lines) (ranks : Ranks) (w : Standing) (root : ℕ) (oth
         there = λ name. ap (λ b. cond b None (w name one.rank)) (begins_so path line was one.rank one.ranked ∙ apart_test path.root apart) ∙ one.there name;
       }
 
-  only_left : (name rank : List ℕ) (listed : Listed) → without_items root w name rank ≡ Some listed → IsOfLine lines' ranks rank listed
+  only_left : (name : Shelf) (rank : List ℕ) (listed : Listed) → without_items root w name rank ≡ Some listed → IsOfLine lines' ranks rank listed
   only_left name rank listed there = by (begins_with root rank) refl there
     where
       by : (b : Bool) → begins_with root rank ≡ b → cond b None (w name rank) ≡ Some listed → IsOfLine lines' ranks rank listed

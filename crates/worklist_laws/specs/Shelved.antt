@@ -14,6 +14,7 @@ use Rattle.navigator.specs.Items.{Entry, phase_of}
 use Rattle.staff_worklists.specs.Shelves.{shelf_for, is_held}
 use Rattle.staff_worklists.specs.Standing.{listed_at}
 use Rattle.staff_worklists.specs.declared.worklists.Listed.{Listed}
+use Rattle.staff_worklists.specs.declared.worklists.Shelf.{Shelf}
 
 -- ---- open items
 
@@ -43,7 +44,7 @@ listed_as path line = record { item = path; held = is_held line.hold }
 pub record StandsAt (ranks : Path → Option (List ℕ)) (w : Standing) (path : Path) (line : ItemLine) : Type 0 where
   pub rank : List ℕ
   pub ranked : ranks path ≡ Some rank
-  pub there : (name : List ℕ) → w name rank ≡ listed_at (shelf_for line) name (listed_as path line)
+  pub there : (shelf : Shelf) → w shelf rank ≡ listed_at (shelf_for line) shelf (listed_as path line)
 
 -- what is listed is a path that has a line, at the rank of that path
 pub record IsOfLine (lines : Path → Option ItemLine) (ranks : Path → Option (List ℕ)) (rank : List ℕ)
@@ -55,7 +56,8 @@ pub record IsOfLine (lines : Path → Option ItemLine) (ranks : Path → Option 
 -- the shelves hold these lines, each at its rank, and nothing else
 pub record HoldExactly (lines : Path → Option ItemLine) (ranks : Path → Option (List ℕ)) (w : Standing) : Type 0 where
   pub each : (path : Path) (line : ItemLine) → lines path ≡ Some line → StandsAt ranks w path line
-  pub only : (name rank : List ℕ) (listed : Listed) → w name rank ≡ Some listed → IsOfLine lines ranks rank listed
+  pub only : (shelf : Shelf) (rank : List ℕ) (listed : Listed) → w shelf rank ≡ Some listed
+      → IsOfLine lines ranks rank listed
 
 -- the worklists of a state hold exactly the open manual items of its roots
 abbrev pub IsShelved : Core → Type 0

@@ -8,8 +8,8 @@ invariant_of-self-2 c =
     let s = c.args.self.now in
     let key = c.in_ok-key.ensures ∙ c.as_slice.ensures.value in
     let other = c.in_ok-other.ensures ∙ c.as_slice-2.ensures.value in record {
-      placed = placed_tried s.shelves c.put_on.new.shelves s.places c.insert.new.self c.args.rank.now.items c.args.shelf.items c.in_ok-place.place (Some c.args.listed) c.put_on.result s.placed
-          (c.in_ok-place.ensures ∙ c.as_slice-3.ensures.value)
+      placed = placed_tried s.shelves c.put_on.new.shelves s.places c.insert.new.self c.args.rank.now.items c.args.shelf c.in_ok-place.place (Some c.args.listed) c.put_on.result s.placed
+          c.in_ok-place.ensures
           c.requires
           (rw (← key) (tree_updates (λ k. k.items) c.in_ok-key.key.items s.places c.insert.new.self (Some c.in_ok-place.place) c.in_ok-insert.ensures.updates))
           (rw (← other) c.put_on.ensures.ok) c.put_on.ensures.err;

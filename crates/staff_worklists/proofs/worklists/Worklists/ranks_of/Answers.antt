@@ -10,6 +10,7 @@ use Rattle.std.specs.Map.Iter.{deref_pair}
 use Rattle.std.proofs.lemmas.Map.Iter.{rest_more}
 use Rattle.std.proofs.lemmas.Map.Keys.{sorted_tail}
 use Rattle.staff_worklists.specs.Standing.{begins_with, is_among}
+use Rattle.staff_worklists.specs.declared.worklists.Shelf.{Shelf}
 use Rattle.staff_worklists.proofs.Steps.{not_among}
 use Rattle.staff_worklists.proofs.Roots.{from_first, started, all_found, one_more_found}
 use Rattle.staff_worklists.proofs.worklists.Worklists.ranks_of.Goals as goal
@@ -27,7 +28,7 @@ loop-rank-init c =
       λ r other. ap (λ (l : List (Vec ℕ)). is_among l r) c.new-ranks.ensures.items,
       s.0,
       s.1,
-      λ r begins some. inr (subst (λ (o : Option (Vec ℕ)). IsSome o) (sym (s.2 r begins)) some),
+      λ r begins some. inr (subst (λ (o : Option Shelf). IsSome o) (sym (s.2 r begins)) some),
     )
 
 pub loop-rank-preserved : goal.loop-rank-preserved
@@ -40,7 +41,7 @@ loop-rank-preserved c =
     let begins = ap (begins_with c.args.root) copied ∙ sym c.begins.ensures ∙ c.if-not-begins.false in
     let i = c.loop-rank.invariant in (
       λ r other. ap (λ (l : List (Vec ℕ)). is_among l r) c.in_ok-push.ensures.items ∙ not_among c.args.root c.loop-rank.ranks.items copy begins i.0 r other,
-      sorted_tail (λ x y. slice_cmp nat_cmp x.items y.items) k (keys_of rest) (subst (λ (l : List (Vec ℕ × Vec ℕ)). IsStrictlySortedBy (λ x y. slice_cmp nat_cmp x.items y.items) (keys_of l)) e i.1),
-      (subst (λ (l : List (Vec ℕ × Vec ℕ)). AllByRecursion (λ k. from_first c.args.root k ≡ true) (keys_of l)) e i.2).1,
+      sorted_tail (λ x y. slice_cmp nat_cmp x.items y.items) k (keys_of rest) (subst (λ (l : List (Vec ℕ × Shelf)). IsStrictlySortedBy (λ x y. slice_cmp nat_cmp x.items y.items) (keys_of l)) e i.1),
+      (subst (λ (l : List (Vec ℕ × Shelf)). AllByRecursion (λ k. from_first c.args.root k ≡ true) (keys_of l)) e i.2).1,
       λ r own some. one_more_found c.args.root k c.in-Some._shelf.now copy c.loop-rank.ranks.items c.push.new.self.items c.loop-rank.rank-iterator rest r e copied c.in_ok-push.ensures.items (i.3 r own some),
     )
