@@ -1,12 +1,12 @@
 -- What the live transactions tell of a live root goes on being so: its Start, and its accepted completions with their outputs.
-use Rattle.std.proofs.Common.{◌≡◌, ℕ, suc, ◌==◌, ◌≤◌, Bool, true, false, ◌||◌, ◌&&◌, if◌then◌else◌, not, List, [], ◌∷◌, ◌++◌, Option, Some, None, cond, refl, ap, sym, subst, ◌∙◌, inl, inr, append-nil}
+use Rattle.std.proofs.Common.{◌≡◌, ℕ, suc, ◌==◌, ◌≤◌, Bool, true, false, ◌||◌, ◌&&◌, if◌then◌else◌, List, [], ◌∷◌, ◌++◌, Option, Some, None, cond, refl, ap, sym, subst, ◌∙◌, inl, inr, append-nil}
 use Rattle.std.proofs.lemmas.Bool.Decides.{eqb_tells}
 use Rattle.std.proofs.lemmas.List.Elements.{filter_map-append}
 use Rattle.std.proofs.lemmas.List.Folds.{list_any-append}
 use Rattle.std.proofs.lemmas.Option.{none-some, option_and_then_some}
 use Rattle.std.specs.List.{filter_map, cons_option, list_any}
 use Rattle.std.specs.Prelude.{slice_get, nat_le, option_map, option_and_then}
-use Rattle.activity_states.specs.States.{State, fate_of}
+use Rattle.activity_states.specs.States.{fate_of}
 use Rattle.containers.specs.Settings.{filled}
 use Rattle.flow_core.specs.Allowing.{IsFree, CountsRoot, IsAllowed}
 use Rattle.flow_core.specs.Allowing.{IsOpen as IsOpenItem}

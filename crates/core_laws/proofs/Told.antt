@@ -1,9 +1,9 @@
 -- The runs of a state complete what its live transactions complete.
-use Rattle.std.proofs.Common.{◌≡◌, ℕ, ◌==◌, ◌≤◌, Bool, true, false, if◌then◌else◌, not, List, [], ◌∷◌, ◌++◌, Option, Some, None, refl, ap, sym, subst, ◌∙◌, inl, inr, append-nil}
+use Rattle.std.proofs.Common.{◌≡◌, ℕ, ◌==◌, ◌≤◌, Bool, true, false, if◌then◌else◌, List, [], ◌∷◌, ◌++◌, Option, Some, None, refl, ap, sym, subst, ◌∙◌, inl, inr, append-nil}
 use Rattle.std.proofs.lemmas.Bool.Decides.{eqb_tells}
 use Rattle.std.proofs.lemmas.List.{append_assoc}
 use Rattle.std.proofs.lemmas.Option.{none-some}
-use Rattle.std.specs.List.{filter, filter_map}
+use Rattle.std.specs.List.{filter_map}
 use Rattle.flow_core.specs.Allowing.{IsFree, CountsRoot, IsAllowed}
 use Rattle.flow_core.specs.Allowing.{IsOpen as IsOpenItem}
 use Rattle.flow_core.specs.Answers.{instance_of}

@@ -9,6 +9,9 @@ use crate::{LexFault, Token, Tokens};
 use flow_model::List;
 use std::alloc::Global;
 
+/// Most texts have a token in this many bytes, or fewer, so that their list seldom grows.
+const BYTES_A_TOKEN: usize = 4;
+
 /// The first byte that may not stand in a text.
 fn first_bad(text: &[u8]) -> Option<usize>
     ensures { MatchOption result (AreAllowed text.now) (IsFirstBad text.now) }
@@ -28,7 +31,7 @@ pub fn lex(alloc: Global, text: &[u8]) -> Result<Tokens, LexFault>
     if let Some(place) = first_bad(text) {
         return Err(LexFault::Byte(place as u32));
     }
-    let mut items = List::new(alloc);
+    let mut items = List::with_capacity(alloc, text.len() / BYTES_A_TOKEN + 1)?;
     let mut at = 0;
     'tokens: loop {
         let from = at + gap_len(&text[at..]);

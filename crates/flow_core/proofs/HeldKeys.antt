@@ -1,5 +1,5 @@
 -- Which root holds a key, after one key was given to a root or freed, and around a transaction.
-use Rattle.std.proofs.Common.{◌≡◌, ℕ, List, Bool, true, false, if◌then◌else◌, ◌==◌, Option, Some, None, refl, sym, ap, subst, ◌∙◌, ⊎_elim}
+use Rattle.std.proofs.Common.{◌≡◌, ℕ, List, Bool, true, false, if◌then◌else◌, ◌==◌, Option, Some, None, sym, ap, subst, ◌∙◌, ⊎_elim}
 use Rattle.std.specs.Cmp.Lexicographic.{bytes_decides, nat_list_eq_equiv}
 use Rattle.std.specs.Str.{bytes_eq}
 use Rattle.std.specs.Global.{Vec}
@@ -11,13 +11,14 @@ use Rattle.std.specs.Option.{option_and_then}
 use Rattle.flow_core.specs.Driving.{IsNewestVersion}
 use Rattle.flow_core.specs.Keys.{holder, key_of, is_key, HasKeys, KeepsKeys, StartsKey, FreesKey, KeysAfter}
 use Rattle.flow_core.specs.declared.state.Core.{Core}
+use Rattle.flow_core.proofs.Written.{if_yes, if_no}
 use Rattle.flow_model.specs.declared.names.Name.{Name}
 use Rattle.flow_model.specs.declared.transactions.Transaction.{Transaction}
 use Rattle.flow_model.specs.declared.transactions.Transaction.TheVariants.{Import, Start, Turn, Claim, Release}
 use Rattle.flow_model.specs.declared.transactions.Transaction.TheVariants.{Transfer, Take, Done, Force, Restart}
 use Rattle.flow_model.specs.declared.transactions.Transaction.TheVariants.{Suspend, Resume, Terminate, Delete, Clock}
 use Rattle.process_rules.specs.Imports.{IsIndexed}
-use Rattle.template_store.specs.declared.store.TemplateStore.{TemplateStore}
+use Rattle.template_store.specs.Store.{Imports}
 
 apart : (bs cs ks : List ℕ) → bytes_eq bs cs ≡ false → bytes_eq bs ks ≡ true → bytes_eq cs ks ≡ false
 apart bs cs ks n y = nat_list_eq_equiv.symm cs ks ∙ sym (nat_list_eq_equiv.congr bs ks cs y) ∙ n
@@ -25,12 +26,6 @@ apart bs cs ks n y = nat_list_eq_equiv.symm cs ks ∙ sym (nat_list_eq_equiv.con
 others : {K X : Type 0} (eq : K → K → Bool) (test : K → Bool) (old new : List (K × X)) → KeepsOthers eq test old new → (other : K → Bool) → IsKeyTest eq other → AreApart test other → lookup other new ≡ lookup other old
 unfolding KeepsOthers
 others eq test old new h = h
-
-if-true : {A : Type 0} (b : Bool) (x y : A) → b ≡ true → (if b then x else y) ≡ x
-if-true b x y is = subst (λ (d : Bool). (if d then x else y) ≡ x) (sym is) refl
-
-if-false : {A : Type 0} (b : Bool) (x y : A) → b ≡ false → (if b then x else y) ≡ y
-if-false b x y is = subst (λ (d : Bool). (if d then x else y) ≡ y) (sym is) refl
 
 -- whoever stands at a key in a map
 abbrev pub at_key : {X S : Type 0} → HashMap (Vec ℕ) X S → List ℕ → Option X
@@ -42,9 +37,9 @@ pub written : {X S : Type 0} (m n : HashMap (Vec ℕ) X S) (key : List ℕ) (w :
     → (held : List ℕ) → at_key n held ≡ (if bytes_eq key held then w else at_key m held)
 written m n key w h held =
     ⊎_elim
-    (λ y. subst (λ l. at_key n l ≡ w) ((bytes_decides key held).0 y) h.1 ∙ sym (if-true (bytes_eq key held) w (at_key m held) y))
+    (λ y. subst (λ l. at_key n l ≡ w) ((bytes_decides key held).0 y) h.1 ∙ sym (if_yes (bytes_eq key held) w (at_key m held) y))
     (λ no. others _ _ _ _ h.3 _ (λ x y. nat_list_eq_equiv.congr held x.items y.items) (λ k. apart key held k.items no)
-    ∙ sym (if-false (bytes_eq key held) w (at_key m held) no))
+    ∙ sym (if_no (bytes_eq key held) w (at_key m held) no))
     (cases_Bool (bytes_eq key held))
 
 -- ---- around a transaction
@@ -97,8 +92,8 @@ module _ (a b c d : Core) (keys : b.keys ≡ a.keys) (roots : b.live_roots ≡ a
   pub keys_around : (t : Transaction) → KeysAfter b t c → KeysAfter a t d
   keys_around (Import text) so = keeps so
   keys_around (Start root process version starter key settings) so = λ indexed place newest.
-      starts root key (so (subst (λ (s : TemplateStore). IsIndexed s.catalog) (sym store) indexed) place
-      (subst (λ (s : TemplateStore). IsNewestVersion s.catalog.library process version place) (sym store) newest))
+      starts root key (so (subst (λ (s : Imports). IsIndexed s.catalog) (sym store) indexed) place
+      (subst (λ (s : Imports). IsNewestVersion s.catalog.library process version place) (sym store) newest))
   keys_around (Turn number message) so = keeps so
   keys_around (Claim item who) so = keeps so
   keys_around (Release item who) so = keeps so

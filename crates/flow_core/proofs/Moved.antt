@@ -19,11 +19,11 @@ use Rattle.navigator.specs.Instances.{IsStarted, Starts}
 use Rattle.navigator.specs.declared.instance.HoldChange.TheVariants as hold
 use Rattle.navigator.specs.declared.instance.Instance.{Instance}
 use Rattle.process_rules.specs.Imports.{IsIndexed}
-use Rattle.template_store.specs.declared.store.TemplateStore.{TemplateStore}
+use Rattle.template_store.specs.Store.{Imports}
 use Rattle.flow_core.specs.Allowing.{IsAsked, IsFaultlessImport}
 use Rattle.flow_core.specs.Answers.{instance_of}
 use Rattle.flow_core.specs.Driving.{templates, IsVersionAt, RunsAt, HasNoVersion, IsMade, StartsIn, BecomesStarted}
-use Rattle.flow_core.specs.Driving.{ChangesRoot, ChangesRoots, HoldsItem, Drives, IsFrontOf, put_in, queue_now}
+use Rattle.flow_core.specs.Driving.{ChangesRoot, ChangesRoots, HoldsItem, Drives, put_in, queue_now}
 use Rattle.flow_core.specs.Summaries.{root_about}
 use Rattle.flow_core.specs.declared.state.Core.{Core}
 use Rattle.flow_core.proofs.Putting.{put_length, same_queue}
@@ -74,7 +74,7 @@ starts c c1 c2 root process version starter key settings i started rest changes 
   queues = put_then c1 c2 (Begin (record { root = root; parts = [] }) ∷ []) c.queues (ap (λ (k : Core). k.live_roots) put) (ap (λ (k : Core). k.store) put) queues
       (ap (λ (k : Core). k.queues) rest);
   library = ap templates put ∙ ap templates rest;
-  indexed = subst (λ (s : TemplateStore). IsIndexed c.store.catalog → IsIndexed s.catalog) (sym (ap (λ (k : Core). k.store) put ∙ ap (λ (k : Core). k.store) rest)) (λ is. is);
+  indexed = subst (λ (s : Imports). IsIndexed c.store.catalog → IsIndexed s.catalog) (sym (ap (λ (k : Core). k.store) put ∙ ap (λ (k : Core). k.store) rest)) (λ is. is);
 }
 
 -- no root is started where the version isn't there
@@ -148,9 +148,6 @@ pub drives_around : (a b c d : Core) (t : Transaction) → b ≡ record a { root
 drives_around a b c d t before after h =
     subst (λ (k : Core). Drives a t k) (sym after) (drives_kept a c d t (drives_counted a b.roots c t (subst (λ (k : Core). Drives k t c) before h)))
 
-pub front_counted : (a b : Core) (t : Transaction) → b ≡ record a { roots = b.roots } → IsFrontOf a t → IsFrontOf b t
-front_counted a b t before h = subst (λ (k : Core). IsFrontOf k t) (sym before) h
-
 roots_numbered : (a : Core) (n : ℕ) (c : Core) (t : Transaction) (given : List Message) (o : Option ℕ) → ChangesRoots (record a { number = n }) t given o c → ChangesRoots a t given o c
 roots_numbered a n c t given None h = h
 roots_numbered a n c t given (Some root) h = record { here = h.here; others = h.others }
@@ -158,29 +155,6 @@ roots_numbered a n c t given (Some root) h = record { here = h.here; others = h.
 pub drives_numbered : {T E : Type 0} (r : Result T E) (a : Core) (n : ℕ) (c : Core) (t : Transaction) → OnOk r (Drives (record a { number = n }) t c) → OnOk r (Drives a t c)
 drives_numbered (Ok x) a n c t h = record { given = h.given; roots = roots_numbered a n c t h.given (root_about t) h.roots; queues = h.queues; library = h.library; indexed = h.indexed }
 drives_numbered (Err e) a n c t h = tt
-
--- the front of a queue doesn't go by numbers
-pub front_within : (a b : Core) (t : Transaction) → b ≡ record a { number = b.number; roots = b.roots; kept_number = b.kept_number; kept_root = b.kept_root } → IsFrontOf a t → IsFrontOf b t
-front_within a b t counted h =
-    subst (λ (k : Core). IsFrontOf k t) (sym counted) h
-
--- a Turn that may be takes the front of its queue
-pub front_of : (c : Core) (t : Transaction) → IsAsked c t → IsFrontOf c t
-front_of c (Turn number message) asked = asked
-front_of c (Import text) asked = tt
-front_of c (Start root process version starter key settings) asked = tt
-front_of c (Claim item who) asked = tt
-front_of c (Release item who) asked = tt
-front_of c (Transfer item who to) asked = tt
-front_of c (Take item take) asked = tt
-front_of c (Done item who settings) asked = tt
-front_of c (Force item settings) asked = tt
-front_of c (Restart item) asked = tt
-front_of c (Suspend root) asked = tt
-front_of c (Resume root) asked = tt
-front_of c (Terminate root) asked = tt
-front_of c (Delete root) asked = tt
-front_of c (Clock minutes) asked = tt
 
 -- a root that was started from a template that is there runs at its place
 pub runs_at : {E : Type 0} (r : Result (Option Instance) E) (ts : List Template) (t number : ℕ) (name : Name)

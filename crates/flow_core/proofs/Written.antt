@@ -12,10 +12,10 @@ use Rattle.flow_core.specs.Keys.{key_of, KeepsKeys}
 use Rattle.flow_core.specs.declared.state.Core.{Core}
 use Rattle.flow_core.specs.declared.state.Root.{Root}
 
-if_yes : {A : Type 0} (b : Bool) (x y : A) → b ≡ true → (if b then x else y) ≡ x
+pub if_yes : {A : Type 0} (b : Bool) (x y : A) → b ≡ true → (if b then x else y) ≡ x
 if_yes b x y is = subst (λ (d : Bool). (if d then x else y) ≡ x) (sym is) refl
 
-if_no : {A : Type 0} (b : Bool) (x y : A) → b ≡ false → (if b then x else y) ≡ y
+pub if_no : {A : Type 0} (b : Bool) (x y : A) → b ≡ false → (if b then x else y) ≡ y
 if_no b x y is = subst (λ (d : Bool). (if d then x else y) ≡ y) (sym is) refl
 
 same_yes : (n : ℕ) → (n == n) ≡ true

@@ -63,14 +63,15 @@ fn passes(test: Result<(), Stop>) -> Result<bool, AllocError>
 }
 
 impl Core {
-    fn allows_import(&self, text: &[u8]) -> Result<bool, AllocError>
+    fn allows_import(&mut self, text: &[u8]) -> Result<bool, AllocError>
+        ensures same { self.new ≡ self.old }
         ensures asked { IfOk result (λ allowed. IsTrue allowed
-            → IsFaultless self.now.store.catalog.library text.now) }
-        ensures told { IsInOrder self.now → IfOk result (λ allowed. (rule : Option RefusalOf)
-            × IsRuleOf self.now text.now rule × (allowed ≡ is_none rule)) }
+            → IsFaultless self.old.store.catalog.library text.now) }
+        ensures told { IsInOrder self.old → IfOk result (λ allowed. (rule : Option RefusalOf)
+            × IsRuleOf self.old text.now rule × (allowed ≡ is_none rule)) }
     {
         match self.store.check(self.alloc, text) {
-            Ok(_) => Ok(true),
+            Ok(()) => Ok(true),
             Err(ImportFault::Rule(_)) => Ok(false),
             Err(ImportFault::NoMemory) => Err(AllocError),
         }
@@ -269,9 +270,10 @@ impl Core {
     }
 
     /// Whether the tests of a record's command give it now, number and root aside.
-    fn allows(&self, t: &Transaction) -> Result<bool, AllocError>
-        ensures asked { IfOk result (λ allowed. IsTrue allowed → IsAsked self.now t.now) }
-        ensures due { IsInOrder self.now → IfOk result (IsTold self.now t.now) }
+    fn allows(&mut self, t: &Transaction) -> Result<bool, AllocError>
+        ensures same { self.new ≡ self.old }
+        ensures asked { IfOk result (λ allowed. IsTrue allowed → IsAsked self.old t.now) }
+        ensures due { IsInOrder self.old → IfOk result (IsTold self.old t.now) }
     {
         match t {
             Transaction::Import(text) => self.allows_import(text.as_slice()),
@@ -355,15 +357,16 @@ impl Core {
     }
 
     /// Whether a record may stand under its number, and the tests of its command give it now.
-    fn admits(&self, number: u64, t: &Transaction) -> Result<bool, AllocError>
+    fn admits(&mut self, number: u64, t: &Transaction) -> Result<bool, AllocError>
+        ensures same { self.new ≡ self.old }
         ensures follows { IfOk result (λ allowed. IsTrue allowed
-            → Follows self.now.kept (summary self.now) (record { number = number; transaction = t.now })) }
-        ensures free { IfOk result (λ allowed. IsTrue allowed → IfSome (started t.now) (IsFree self.now)) }
-        ensures asked { IfOk result (λ allowed. IsTrue allowed → IsAsked self.now t.now) }
-        ensures admitted { IsInOrder self.now
-            → IfOk result (λ allowed. IsTrue allowed → IsAdmitted self.now number t.now) }
-        ensures refused { IsInOrder self.now
-            → IfOk result (λ allowed. IsFalse allowed → IsRefused self.now number t.now) }
+            → Follows self.old.kept (summary self.old) (record { number = number; transaction = t.now })) }
+        ensures free { IfOk result (λ allowed. IsTrue allowed → IfSome (started t.now) (IsFree self.old)) }
+        ensures asked { IfOk result (λ allowed. IsTrue allowed → IsAsked self.old t.now) }
+        ensures admitted { IsInOrder self.old
+            → IfOk result (λ allowed. IsTrue allowed → IsAdmitted self.old number t.now) }
+        ensures refused { IsInOrder self.old
+            → IfOk result (λ allowed. IsFalse allowed → IsRefused self.old number t.now) }
     {
         if !self.allows_place(number, t) {
             return Ok(false);

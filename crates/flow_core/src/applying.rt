@@ -388,8 +388,9 @@ impl Core {
         }
     }
 
-    /// Takes the front message of a queue. Of an empty queue, which `judge` refuses, nothing is taken.
+    /// Takes the front message of a queue.
     fn turn(&mut self, queue: u8) -> Result<Note, AllocError>
+        requires { (message : MessageOf) × IsFront self.old queue message }
         ensures kept { noted self.new ≡ noted self.old }
         ensures note { IfOk result (λ n. (message : MessageOf) → IsFront self.old queue message
             → n ≡ notes.Turned queue message) }
@@ -403,11 +404,8 @@ impl Core {
         ensures exact { OnOk result ((message : MessageOf) → IsFront self.old queue message
             → ExactTurn self.old queue message self.new) }
     {
-        if queue < 1 || queue > self.queues.count() {
-            return Ok(Note::Deleted);
-        }
         let Some(message) = self.queues.take(queue) else {
-            return Ok(Note::Deleted);
+            unreachable!()
         };
         let (messages, ready) = self.take_in_root(&message)?;
         self.follow(messages, ready)?;
@@ -693,15 +691,16 @@ impl Core {
     }
 
     fn change_by(&mut self, t: &Transaction) -> Result<Note, AllocError>
-        requires { IsFaultlessImport self.old.store.catalog.library t.now }
+        requires faultless { IsFaultlessImport self.old.store.catalog.library t.now }
+        requires front { IsFrontOf self.old t.now }
         ensures kept { noted self.new ≡ noted self.old }
         ensures note { IfOk result (IsNoteOf self.old t.now self.new) }
-        ensures drives { IsFrontOf self.old t.now → OnOk result (Drives self.old t.now self.new) }
-        ensures shelves { IsFrontOf self.old t.now → OnOk result (Shelves self.old t.now self.new) }
+        ensures drives { OnOk result (Drives self.old t.now self.new) }
+        ensures shelves { OnOk result (Shelves self.old t.now self.new) }
         ensures clock { OnOk result (self.new.clock ≡ clock_after t.now self.old.clock) }
         ensures store { OnOk result (StoreAfter t.now self.old.store.catalog self.new.store.catalog) }
         ensures keys { OnOk result (KeysAfter self.old t.now self.new) }
-        ensures exact { IsFrontOf self.old t.now → OnOk result (IsExact self.old t.now self.new) }
+        ensures exact { OnOk result (IsExact self.old t.now self.new) }
     {
         match t {
             Transaction::Import(text) => self.import(text),
@@ -777,7 +776,8 @@ impl Core {
 
     /// Applies a transaction under a number, and keeps it where it is live.
     pub(crate) fn apply_as(&mut self, number: u64, t: Transaction) -> Result<Applied, AllocError>
-        requires { IsFaultlessImport self.old.store.catalog.library t }
+        requires faultless { IsFaultlessImport self.old.store.catalog.library t }
+        requires front { IsFrontOf self.old t }
         ensures numbered { IfOk result (λ applied. applied.number ≡ number) }
         ensures note { IfOk result (λ applied. IsNoteOf self.old t self.new applied.note) }
         ensures applied { OnOk result (noted self.new
@@ -788,12 +788,12 @@ impl Core {
               with_transaction self.old.number number t
                   (summary self.old),
             )) }
-        ensures drives { IsFrontOf self.old t → OnOk result (Drives self.old t self.new) }
-        ensures shelves { IsFrontOf self.old t → OnOk result (Shelves self.old t self.new) }
+        ensures drives { OnOk result (Drives self.old t self.new) }
+        ensures shelves { OnOk result (Shelves self.old t self.new) }
         ensures clock { OnOk result (self.new.clock ≡ clock_after t self.old.clock) }
         ensures store { OnOk result (StoreAfter t self.old.store.catalog self.new.store.catalog) }
         ensures keys { OnOk result (KeysAfter self.old t self.new) }
-        ensures exact { IsFrontOf self.old t → OnOk result (IsExact self.old t self.new) }
+        ensures exact { OnOk result (IsExact self.old t self.new) }
     {
         self.count_root(&t);
         let note = self.change_by(&t)?;

@@ -144,11 +144,12 @@ impl Core {
     }
 
     /// A text that breaks no rule, or RULE.
-    fn needs_rules(&self, text: &Bytes) -> Result<(), Stop>
-        ensures { IsInOrder self.now → StopsAs (IsRuleOf self.now text.now) result }
+    fn needs_rules(&mut self, text: &Bytes) -> Result<(), Stop>
+        ensures same { self.new ≡ self.old }
+        ensures stops { IsInOrder self.old → StopsAs (IsRuleOf self.old text.now) result }
     {
         match self.store.check(self.alloc, text.as_slice()) {
-            Ok(_) => Ok(()),
+            Ok(()) => Ok(()),
             Err(ImportFault::NoMemory) => Err(Stop::NoMemory),
             Err(ImportFault::Rule(fault)) => {
                 Err(Stop::Refused(Refusal::Rule(fault.rule, fault.line)))
@@ -156,11 +157,12 @@ impl Core {
         }
     }
 
-    fn judge_import(&self, text: &Bytes) -> Result<Transaction, Stop>
-        ensures room { OnOk result (self.now.number < self.now.limit) }
-        ensures made { IfOk result (IsFor self.now (asked.Import text.now)) }
-        ensures allowed { IfOk result (IsAllowed self.now) }
-        ensures stops { IsInOrder self.now → StopsAs (IsFirstRefusal self.now (asked.Import text.now)) result }
+    fn judge_import(&mut self, text: &Bytes) -> Result<Transaction, Stop>
+        ensures same { self.new ≡ self.old }
+        ensures room { OnOk result (self.old.number < self.old.limit) }
+        ensures made { IfOk result (IsFor self.old (asked.Import text.now)) }
+        ensures allowed { IfOk result (IsAllowed self.old) }
+        ensures stops { IsInOrder self.old → StopsAs (IsFirstRefusal self.old (asked.Import text.now)) result }
     {
         self.needs_rules(text)?;
         self.needs_room()?;
@@ -406,11 +408,12 @@ impl Core {
     }
 
     /// The transaction of a command, or why it is refused.
-    fn transaction(&self, command: &Command) -> Result<Transaction, Stop>
-        ensures room { OnOk result (self.now.number < self.now.limit) }
-        ensures made { IfOk result (IsFor self.now command.now) }
-        ensures allowed { IfOk result (IsAllowed self.now) }
-        ensures stops { IsOrderFor self.now command.now → StopsAs (IsFirstRefusal self.now command.now) result }
+    fn transaction(&mut self, command: &Command) -> Result<Transaction, Stop>
+        ensures same { self.new ≡ self.old }
+        ensures room { OnOk result (self.old.number < self.old.limit) }
+        ensures made { IfOk result (IsFor self.old command.now) }
+        ensures allowed { IfOk result (IsAllowed self.old) }
+        ensures stops { IsOrderFor self.old command.now → StopsAs (IsFirstRefusal self.old command.now) result }
     {
         match command {
             Command::Import(text) => self.judge_import(text),
@@ -446,9 +449,11 @@ impl Core {
         }
     }
 
-    /// The verdict on a command that may make a transaction; nothing is changed.
-    pub fn judge(&self, command: &Command) -> Result<Verdict, AllocError>
-        ensures { IfOk result (IsVerdict self.now command.now) }
+    /// The verdict on a command that may make a transaction; the state stays as it is. What an accepted text compiles
+    /// to is kept for its import.
+    pub fn judge(&mut self, command: &Command) -> Result<Verdict, AllocError>
+        ensures same { self.new ≡ self.old }
+        ensures verdict { IfOk result (IsVerdict self.old command.now) }
     {
         if let Some(root) = self.same_root(command) {
             return Ok(Verdict::Same(root));

@@ -2,12 +2,18 @@
 use Rattle.std.specs.Prelude.{◌≡◌, ℕ, ◌==◌, ◌^◌, ◌≤◌, ◌&&◌, Bool, true, false, Result, Ok, Err, Option, List, ◌++◌}
 use Rattle.std.specs.Prelude.{length, position, bytes_eq}
 use Rattle.flow_model.specs.declared.graphs.Library.{Library}
+use Rattle.template_check.specs.Built.{AreSoundBehind}
 use Rattle.template_check.specs.Compiling.{HasPeopleOf, IsNamedBy, IsMeantBy}
+use Rattle.template_check.specs.Judged.{IsFaultless}
 use Rattle.process_rules.specs.Imports.{IsIndexed}
 use Rattle.process_rules.specs.declared.catalog.Catalog.{Catalog}
 use Rattle.template_check.specs.declared.faults.ImportFault.{ImportFault}
 use Rattle.template_check.specs.declared.faults.ImportFault.TheVariants.{Rule, NoMemory}
 use Rattle.template_check.specs.declared.compiling.Compiled.{Compiled}
+
+-- what a store holds
+pub record Imports : Type 0 where
+  pub catalog : Catalog
 
 -- the first place of this version of a name
 abbrev pub version_place : Library → List ℕ → ℕ → Option ℕ
@@ -31,6 +37,15 @@ pub record AddsText (text : List ℕ) (old : Catalog) (new : Library) : Type 0 w
   pub meant : IsMeantBy text old added.templates
   pub people : HasPeopleOf text added.people
   pub behind : new ≡ with_compiled old.library added
+
+-- A text may be imported behind a catalog, and this is what it compiles to: templates that are sound behind those that
+-- are there, and are named and mean what the text says, and the persons that it declares.
+pub record CompilesTo (catalog : Catalog) (text : List ℕ) (compiled : Compiled) : Type 0 where
+  pub sound : AreSoundBehind (length catalog.library.templates) compiled.templates
+  pub named : IsNamedBy text compiled.templates
+  pub meant : IsMeantBy text catalog compiled.templates
+  pub people : HasPeopleOf text compiled.people
+  pub faultless : IsIndexed catalog → IsFaultless catalog.library text
 
 -- a text is refused for a rule that it breaks
 abbrev pub is_refusal : {X : Type 0} → Result X ImportFault → Bool

@@ -5,5 +5,7 @@
 #![tactic(auto)]
 
 mod store;
+#[cfg(test)]
+mod tests;
 
 pub use store::TemplateStore;

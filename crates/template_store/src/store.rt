@@ -1,21 +1,70 @@
 //! The imports so far.
 ghost use Rattle.std.specs.Prelude.{◌≡◌, ◌-◌, ◌^◌, ◌<◌, ◌≤◌, ◌+◌, [], ◌++◌, min, length, slice_get, option_copied};
 ghost use Rattle.std.specs.Prelude.{Some, OnOk, IfOk, IfSome, ◌==◌, ◌&&◌, position, bytes_eq, true};
-ghost use Rattle.template_check.specs.Built.{AreSound, AreSoundBehind};
-ghost use Rattle.template_check.specs.Compiling.{HasPeopleOf, IsNamedBy, IsMeantBy};
+ghost use Rattle.template_check.specs.Built.{AreSound};
 ghost use Rattle.template_check.specs.Judged.{IsJudged};
 ghost use Rattle.process_rules.specs.Imports.{IsIndexed, newest_place, latest_person};
 ghost use Rattle.template_check.specs.declared.compiling.Compiled.{Compiled as Added};
 ghost use Rattle.template_store.specs.Store.{version_place, with_compiled, is_refusal, AddsText, IsSmall, KeepsIndex};
+ghost use Rattle.template_store.specs.Store.{CompilesTo};
 
 use flow_model::{Library, Name, PersonDef, Template};
 use std::alloc::{AllocError, Global};
+use std::marker::Model;
 use template_check::{Catalog, Compiled, ImportFault, compile};
+
+/// A text that breaks no rule, and what it compiles to behind the imports so far.
+#[derive(Drop)]
+struct Accepted {
+    text: Vec<u8>,
+    compiled: Compiled,
+}
+
+/// What a text compiles to; it is compiled unless it is the accepted one.
+fn compiled_text(
+    alloc: Global,
+    text: &[u8],
+    accepted: Option<Accepted>,
+    catalog: &Catalog,
+) -> Result<Compiled, ImportFault>
+    requires { IfSome accepted (λ last. CompilesTo catalog.now last.text.items last.compiled) }
+    ensures compiled { IfOk result (CompilesTo catalog.now text.now) }
+    ensures judged { IsIndexed catalog.now → IsJudged catalog.now.library text.now result }
+{
+    if let Some(accepted) = accepted {
+        let Accepted {
+            text: last,
+            compiled,
+        } = accepted;
+        if last.as_slice() == text {
+            return Ok(compiled);
+        }
+    }
+    compile(alloc, text, catalog)
+}
 
 /// The library of the imports so far.
 #[derive(Drop)]
 pub struct TemplateStore {
     catalog: Catalog,
+    /// The text that was checked last, if it breaks no rule: its import need not compile it again.
+    accepted: Option<Accepted>,
+}
+
+impl Model for TemplateStore {
+    ghost use Rattle.std.specs.Prelude.{IfSome};
+    ghost use Rattle.template_store.specs.Store.{Imports, CompilesTo};
+    ghost use Rattle.process_rules.specs.contracts.catalog.Catalog as of_catalog;
+    ghost use Rattle.std.specs.Coded.{codes};
+
+    ghost Value = { Imports };
+
+    ghost coded = { Prim.hlevel (codes, of_catalog.the_row.coded) };
+
+    ghost view = { λ store. record { catalog = store.catalog } };
+
+    ghost invariant = { λ store.
+        IfSome store.accepted (λ accepted. CompilesTo store.catalog accepted.text.items accepted.compiled) };
 }
 
 impl TemplateStore {
@@ -27,20 +76,21 @@ impl TemplateStore {
     {
         TemplateStore {
             catalog: Catalog::new(alloc),
+            accepted: None,
         }
     }
 
-    /// What a text would add; `Rule` exactly where it breaks one, which is the first and its least place. Nothing is
-    /// changed.
-    pub fn check(&self, alloc: Global, text: &[u8]) -> Result<Compiled, ImportFault>
-        ensures sound { IfOk result (λ compiled. AreSoundBehind
-            (length self.now.catalog.library.templates) compiled.templates) }
-        ensures named { IfOk result (λ compiled. IsNamedBy text.now compiled.templates) }
-        ensures meant { IfOk result (λ compiled. IsMeantBy text.now self.now.catalog compiled.templates) }
-        ensures people { IfOk result (λ compiled. HasPeopleOf text.now compiled.people) }
-        ensures judged { IsIndexed self.now.catalog → IsJudged self.now.catalog.library text.now result }
+    /// Whether a text may be imported: `Rule` exactly where it breaks a rule, which is the first and its least place.
+    /// The library stays as it is.
+    pub fn check(&mut self, alloc: Global, text: &[u8]) -> Result<(), ImportFault>
+        ensures same { self.new ≡ self.old }
+        ensures judged { IsIndexed self.old.catalog → IsJudged self.old.catalog.library text.now result }
     {
-        compile(alloc, text, &self.catalog)
+        self.accepted = None;
+        let compiled = compile(alloc, text, &self.catalog)?;
+        let text = Vec::from_slice(alloc, text)?;
+        self.accepted = Some(Accepted { text, compiled });
+        Ok(())
     }
 
     /// Adds the processes and people of a text; answers the number of processes. A refusal changes nothing.
@@ -56,8 +106,9 @@ impl TemplateStore {
         ensures sound { OnOk result (AreSound self.old.catalog.library.templates
             → AreSound self.new.catalog.library.templates) }
     {
-        let compiled = self.check(alloc, text)?;
-        let count = self.add(alloc, compiled)?;
+        let accepted = self.accepted.take();
+        let compiled = compiled_text(alloc, text, accepted, &self.catalog)?;
+        let count = add(&mut self.catalog, alloc, compiled)?;
         self.needs_room()?;
         Ok(count)
     }
@@ -71,49 +122,6 @@ impl TemplateStore {
         let (templates, people) = (library.templates.len(), library.people.len());
         if templates > u32::MAX as usize || people > u32::MAX as usize {
             return Err(AllocError);
-        }
-        Ok(())
-    }
-
-    /// Adds what a text compiled to; answers the number of processes.
-    fn add(&mut self, alloc: Global, compiled: Compiled) -> Result<u32, AllocError>
-        ensures indexed { OnOk result (KeepsIndex self.old.catalog self.new.catalog) }
-        ensures added { IfOk result (λ count. (count ≡ min (length compiled.templates) (2 ^ 32 - 1))
-            × (self.new.catalog.library ≡ with_compiled self.old.catalog.library compiled)) }
-    {
-        let Compiled { templates, people } = compiled;
-        let count = u32::try_from(templates.len()).unwrap_or(u32::MAX);
-        self.add_templates(alloc, templates.into_vec())?;
-        self.add_people(alloc, people.into_vec())?;
-        Ok(count)
-    }
-
-    fn add_templates(&mut self, alloc: Global, templates: Vec<Template>) -> Result<(), AllocError>
-        ensures indexed { OnOk result (KeepsIndex self.old.catalog self.new.catalog) }
-        ensures added { OnOk result (self.new.catalog.library
-            ≡ record {
-              templates = self.old.catalog.library.templates
-                  ++ templates.items;
-              people = self.old.catalog.library.people;
-            }) }
-    {
-        for template in templates {
-            self.catalog.add_template(alloc, template)?;
-        }
-        Ok(())
-    }
-
-    fn add_people(&mut self, alloc: Global, people: Vec<PersonDef>) -> Result<(), AllocError>
-        ensures indexed { OnOk result (KeepsIndex self.old.catalog self.new.catalog) }
-        ensures added { OnOk result (self.new.catalog.library
-            ≡ record {
-              templates = self.old.catalog.library.templates;
-              people = self.old.catalog.library.people
-                  ++ people.items;
-            }) }
-    {
-        for person in people {
-            self.catalog.add_person(alloc, person)?;
         }
         Ok(())
     }
@@ -168,4 +176,51 @@ fn position_of(templates: &[Template], name: &Name, version: u32) -> Option<usiz
     templates.iter().position(|template| {
         template.version == version && template.name.as_slice() == name.as_slice()
     })
+}
+
+/// Adds what a text compiled to; answers the number of processes.
+fn add(catalog: &mut Catalog, alloc: Global, compiled: Compiled) -> Result<u32, AllocError>
+    ensures indexed { OnOk result (KeepsIndex catalog.old catalog.new) }
+    ensures added { IfOk result (λ count. (count ≡ min (length compiled.templates) (2 ^ 32 - 1))
+        × (catalog.new.library ≡ with_compiled catalog.old.library compiled)) }
+{
+    let Compiled { templates, people } = compiled;
+    let count = u32::try_from(templates.len()).unwrap_or(u32::MAX);
+    add_templates(catalog, alloc, templates.into_vec())?;
+    add_people(catalog, alloc, people.into_vec())?;
+    Ok(count)
+}
+
+fn add_templates(
+    catalog: &mut Catalog,
+    alloc: Global,
+    templates: Vec<Template>,
+) -> Result<(), AllocError>
+    ensures indexed { OnOk result (KeepsIndex catalog.old catalog.new) }
+    ensures added { OnOk result (catalog.new.library ≡ record {
+      templates = catalog.old.library.templates ++ templates.items;
+      people = catalog.old.library.people;
+    }) }
+{
+    for template in templates {
+        catalog.add_template(alloc, template)?;
+    }
+    Ok(())
+}
+
+fn add_people(
+    catalog: &mut Catalog,
+    alloc: Global,
+    people: Vec<PersonDef>,
+) -> Result<(), AllocError>
+    ensures indexed { OnOk result (KeepsIndex catalog.old catalog.new) }
+    ensures added { OnOk result (catalog.new.library ≡ record {
+      templates = catalog.old.library.templates;
+      people = catalog.old.library.people ++ people.items;
+    }) }
+{
+    for person in people {
+        catalog.add_person(alloc, person)?;
+    }
+    Ok(())
 }

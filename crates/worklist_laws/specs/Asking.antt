@@ -3,7 +3,6 @@ use Rattle.std.specs.Prelude.{◌≡◌, ◌⊎◌, ℕ, Some}
 use Rattle.flow_core.specs.Allowing.{mode_in, IsOpen}
 use Rattle.flow_core.specs.Answers.{instance_of}
 use Rattle.flow_core.specs.declared.state.Core.{Core}
-use Rattle.flow_model.specs.declared.graphs.DoneBy.TheVariants as by
 use Rattle.flow_model.specs.declared.instances.Mode.TheVariants as mode
 use Rattle.flow_model.specs.declared.transactions.Transaction.{Transaction}
 use Rattle.flow_model.specs.declared.transactions.Transaction.TheVariants.{Claim, Release, Transfer, Take, Restart}
