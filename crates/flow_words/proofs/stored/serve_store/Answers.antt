@@ -9,3 +9,6 @@ returns-clause-makes g c =
     let from = rw c.new-journal.ensures.1 at makes in
     rw c.into_disk.ensures (served_to_end g.D.Disk.tells g.D.Disk.moment g.D.Disk.left_since g.D.Disk.seen g.D.Disk.images c.serve_all-served.new.journal.log c.args.disk c.serve_all-served.new.journal.disk c.args.session.core c.serve_all-served.new.session.core c.serve_all-served.result
     (later_ok c.serve_all-served.result _ _ c.serve_all-served.ensures.kept) from)
+
+pub returns-clause-cause : goal.returns-clause-cause
+returns-clause-cause g c = rw c.into_disk.ensures (rw c.new-journal.ensures.1 at c.serve_all-served.ensures.cause)
