@@ -41,3 +41,7 @@ SpellsNoOther bytes p = (other : Path) → Spells bytes other → other ≡ p
 -- they spell no path
 abbrev pub SpellsNoPath : List ℕ → Type 0
 SpellsNoPath bytes = (p : Path) → Spells bytes p → ⊥
+
+-- the bytes do not begin so
+abbrev pub BeginsNot : List ℕ → List ℕ → Type 0
+BeginsNot bytes front = (rest : List ℕ) → bytes ≡ front ++ rest → ⊥

@@ -1,17 +1,19 @@
-//! Which path a text spells: it is cut at its `/` and `#`, and what is found is written back and compared.
+//! Which path a text spells: it is cut at its `/` and `#`, and what is found is compared with the text step by step.
 ghost use Rattle.std.specs.Prelude.{◌≡◌, ◌≤◌, ◌<◌, ◌^◌, ◌==◌, ℕ, true, Some, List as ListOf, ◌∷◌, ◌++◌, length};
-ghost use Rattle.std.specs.Prelude.{decimal, IfOk, IfSome, IsErrOf};
+ghost use Rattle.std.specs.Prelude.{decimal, IfOk, IfSome, IsErrOf, MatchOption};
+ghost use Rattle.std.specs.Bool.{Decides};
 ghost use Rattle.std.specs.List.{All, position, position_or_len};
 ghost use Rattle.std.specs.Option.{option_copied};
 ghost use Rattle.flow_model.specs.Paths.{spelling, part_spelling, parts_spelling, IsStep, IsPath, Spells};
-ghost use Rattle.flow_model.specs.Paths.{SpellsNoOther, SpellsNoPath};
+ghost use Rattle.flow_model.specs.Paths.{SpellsNoOther, SpellsNoPath, BeginsNot};
 ghost use Rattle.flow_model.specs.declared.instances.Part.{Part as Down};
 ghost use Rattle.flow_model.specs.declared.instances.Path.{Path as Way};
 
 use crate::instances::{Part, Path};
 use crate::lists::List;
 use crate::names::{Name, NameFault};
-use crate::paths::{PathFault, path_text};
+use crate::paths::PathFault;
+use itoa::Buffer;
 use std::alloc::{AllocError, Global};
 use std::str::from_utf8;
 
@@ -35,7 +37,8 @@ fn front_len(bytes: &[u8], mark: u8) -> usize
 
 /// What stands behind the first byte, if it is this one.
 fn behind(bytes: &[u8], mark: u8) -> Option<&[u8]>
-    ensures { (rest : ListOf ℕ) → bytes.now ≡ mark ∷ rest → option_copied result ≡ Some rest }
+    ensures found { (rest : ListOf ℕ) → bytes.now ≡ mark ∷ rest → option_copied result ≡ Some rest }
+    ensures sure { IfSome result (λ rest. bytes.now ≡ mark ∷ rest.now) }
 {
     match bytes.split_first() {
         Some((first, rest)) => { if *first == mark { Some(rest) } else { None } }
@@ -143,13 +146,47 @@ fn path_in(alloc: Global, text: &[u8]) -> Result<Option<Path>, AllocError>
     }
 }
 
-/// Whether a text is that of this path.
-fn is_spelled(alloc: Global, text: &[u8], path: &Path) -> Result<bool, AllocError>
-    ensures sure { IfOk result (λ is. is ≡ true → text.now ≡ spelling path.now) }
-    ensures found { IfOk result (λ is. text.now ≡ spelling path.now → is ≡ true) }
+/// What stands behind these bytes, if a text begins with them.
+fn behind_all<'t>(text: &'t [u8], front: &[u8]) -> Option<&'t [u8]>
+    ensures { MatchOption result (BeginsNot text.now front.now) (λ rest. text.now ≡ front.now ++ rest.now) }
 {
-    let spelled = path_text(alloc, path)?;
-    Ok(spelled.as_slice() == text)
+    text.strip_prefix(front)
+}
+
+/// What stands behind the digits of a number, if a text begins with them.
+fn behind_number(text: &[u8], number: u64) -> Option<&[u8]>
+    ensures { MatchOption result (BeginsNot text.now (decimal number)) (λ rest. text.now ≡ decimal number ++ rest.now) }
+{
+    let mut buffer = Buffer::new();
+    behind_all(text, buffer.format(number).as_bytes())
+}
+
+/// What stands behind a step, if a text begins with it.
+fn behind_step<'t>(text: &'t [u8], step: &Part) -> Option<&'t [u8]>
+    ensures { MatchOption result (BeginsNot text.now (part_spelling step.now))
+        (λ rest. text.now ≡ part_spelling step.now ++ rest.now) }
+{
+    let written = behind(text, b'/')?;
+    let marked = behind_all(written, step.name.as_slice())?;
+    let digits = behind(marked, b'#')?;
+    behind_number(digits, step.attempt)
+}
+
+/// Whether a text is that of this path.
+fn is_spelled(text: &[u8], path: &Path) -> bool
+    ensures { Decides result (text.now ≡ spelling path.now) }
+{
+    let Some(below) = behind_number(text, path.root) else {
+        return false;
+    };
+    let mut rest = below;
+    for step in path.parts.as_slice() {
+        let Some(behind) = behind_step(rest, step) else {
+            return false;
+        };
+        rest = behind;
+    }
+    rest.is_empty()
 }
 
 /// The path that a text spells.
@@ -163,7 +200,7 @@ pub fn path_of(alloc: Global, text: &[u8]) -> Result<Path, PathFault>
     let Some(path) = path_in(alloc, text)? else {
         return Err(PathFault::BadPath);
     };
-    if is_spelled(alloc, text, &path)? {
+    if is_spelled(text, &path) {
         Ok(path)
     } else {
         Err(PathFault::BadPath)
