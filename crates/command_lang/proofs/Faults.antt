@@ -1,12 +1,11 @@
--- Why a line has no tokens, from the lexer's fault.
+-- Why a line has no tokens, from the lexer's fault, and what its bytes say.
 use Rattle.std.proofs.Common.{◌≡◌, ℕ, ◌+◌, ◌-◌, ◌^◌, ◌<◌, ◌≤◌, ◌==◌, nat_le, nat_lt, cond, min, Bool, true, false, not, ◌||◌, ◌&&◌, Some, None, List, length, refl, sym, ap, subst, ◌∙◌, inr, arith}
-use Rattle.std.specs.Prelude.{slice_index}
-use Rattle.std.specs.List.{position_or_len}
-use Rattle.std.proofs.lemmas.List.Sums.{fails_before_first}
-use Rattle.std.proofs.lemmas.Bool.{false≢true}
+use Rattle.std.specs.Prelude.{slice_index_or}
+use Rattle.std.specs.List.{position_or_len, list_all}
+use Rattle.std.proofs.lemmas.List.Sums.{fails_before_first, position_or_len_is, AllPass-from_list_all}
 use Rattle.std.proofs.lemmas.Bool.Decides.{nat_tests}
 use Rattle.fdl_lexer.specs.Bytes.{is_allowed}
-use Rattle.fdl_lexer.specs.Tokens.{IsStuckAt, IsFirstBad}
+use Rattle.fdl_lexer.specs.Tokens.{IsStuckAt, AreAllowed}
 use Rattle.command_lang.specs.declared.reading.CommandFault.{CommandFault}
 use Rattle.command_lang.specs.declared.reading.CommandFault.TheVariants.{Word}
 use Rattle.command_lang.specs.Reading.{may_stand, wrong_byte, HasNoTokens}
@@ -38,9 +37,20 @@ past_end : (n len : ℕ) → cond (nat_lt n len) (Some n) None ≡ None → len 
 past_end n len h = grind (arith, nat_tests)
 
 -- a line whose bytes may all stand has no byte that a text may not have
-pub byte_fault : (line : List ℕ) (place : ℕ) (e : CommandFault) → wrong_byte line ≡ None → IsFirstBad line place → HasNoTokens line e
-byte_fault line place e allowed bad =
-    let end : length line ≤ position_or_len (λ byte. not (may_stand byte)) line = past_end (position_or_len (λ byte. not (may_stand byte)) line) (length line) allowed in
-    let within : place < length line = bad.within in
-    let stands = stays_true (may_stand (slice_index line place)) (fails_before_first (λ byte. not (may_stand byte)) line place 0 (omega arith)) in
-    absurd (false≢true (sym bad.here ∙ allowed_of (slice_index line place) stands))
+pub allowed_bytes : (line : List ℕ) → wrong_byte line ≡ None → AreAllowed line
+allowed_bytes line none = λ k d within.
+    let wrong : ℕ → Bool = λ byte. not (may_stand byte) in
+    let end : length line ≤ position_or_len wrong line = past_end (position_or_len wrong line) (length line) none in
+    allowed_of (slice_index_or line k d) (stays_true (may_stand (slice_index_or line k d)) (fails_before_first wrong line k d (omega arith)))
+
+at_end : (n len : ℕ) → n ≡ len → cond (nat_lt n len) (Some n) None ≡ None
+at_end n len h = grind (arith, nat_tests)
+
+-- where each byte may stand, none is wrong
+pub none_wrong : (line : List ℕ) → list_all may_stand line ≡ true → wrong_byte line ≡ None
+none_wrong line all =
+    let wrong : ℕ → Bool = λ byte. not (may_stand byte) in
+    at_end (position_or_len wrong line) (length line)
+    (position_or_len_is wrong line (length line) 0 (omega arith)
+    (λ k within. ap not (AllPass-from_list_all may_stand line all k 0 within))
+    (λ within. absurd (omega arith)))

@@ -1,6 +1,7 @@
 //! From the bytes of a line to what it says. Places are counted from 1.
 ghost use Rattle.std.specs.Prelude.{◌≡◌, ◌≤◌, ◌<◌, ◌+◌, ◌-◌, ◌^◌, ℕ, [], Some, None, Err, length, min, IfOk, IfErr};
 ghost use Rattle.std.specs.Prelude.{IfSome};
+ghost use Rattle.std.specs.List.{list_all};
 ghost use Rattle.command_lang.specs.declared.reading.CommandFault.TheVariants.{Word};
 ghost use Rattle.command_lang.specs.Reading.{may_stand as may_stand_test, wrong_byte as wrong_byte_of, spoken_in};
 ghost use Rattle.command_lang.specs.Reading.{AreLineTokens, HasNoTokens, IsReading, SaysCommand, SaysCompletion};
@@ -10,7 +11,7 @@ ghost use Rattle.command_lang.specs.Refusing.{SomeCommand, SomeCompletion};
 ghost use Rattle.command_lang.specs.declared.reading.CommandFault.TheVariants.{NoMemory};
 
 use crate::grammar::{command, completion};
-use fdl_lexer::{LexFault, Tokens, lex};
+use fdl_lexer::{LexFault, Tokens, lex_allowed};
 use fdl_parser::{Cursor, SyntaxFault};
 use flow_model::{Command, Completion};
 use std::alloc::{AllocError, Global};
@@ -49,10 +50,25 @@ fn may_stand(byte: u8) -> bool
     byte == b'\t' || byte == b'\r' || (b' '..=b'~').contains(&byte)
 }
 
+/// Whether each byte may stand in a line.
+fn all_may_stand(line: &[u8]) -> bool
+    ensures { result ≡ list_all may_stand_test line.now }
+{
+    let mut good = true;
+    // Without an early exit the loop looks at many bytes at once.
+    for byte in line {
+        good &= may_stand(*byte);
+    }
+    good
+}
+
 /// The first byte that may not stand in a line.
 fn wrong_byte(line: &[u8]) -> Option<usize>
     ensures { result ≡ wrong_byte_of line.now }
 {
+    if all_may_stand(line) {
+        return None;
+    }
     line.iter().position(|byte| !may_stand(*byte))
 }
 
@@ -63,9 +79,9 @@ fn lexed(alloc: Global, line: &[u8]) -> Result<Tokens, CommandFault>
     ensures tokens { IfOk result (λ tokens. AreLineTokens line.now tokens.items) }
     ensures fault { IfErr result (HasNoTokens line.now) }
 {
-    match lex(alloc, line) {
+    match lex_allowed(alloc, line) {
         Ok(tokens) => Ok(tokens),
-        Err(LexFault::Byte(place)) => Err(from_one(place)),
+        Err(LexFault::Byte(_)) => unreachable!(),
         Err(LexFault::Token(place)) => Err(from_one(place)),
         Err(LexFault::NoMemory) => Err(CommandFault::NoMemory),
     }

@@ -1,5 +1,8 @@
 //! The tokens of a whole text.
-ghost use Rattle.std.specs.Prelude.{◌≡◌, ◌≤◌, length, IfOk, IfErr, MatchOption};
+ghost use Rattle.std.specs.Prelude.{◌≡◌, ◌≤◌, ℕ, Err, length, IfOk, IfErr, MatchOption};
+ghost use Rattle.std.specs.List.{list_all};
+ghost use Rattle.fdl_lexer.specs.Bytes.{is_allowed as is_allowed_test};
+ghost use Rattle.fdl_lexer.specs.declared.kinds.LexFault.TheVariants.{Byte};
 ghost use Rattle.fdl_lexer.specs.Tokens.{AreTokens, Faults, IsFirstBad, AreAllowed};
 
 use crate::bytes::is_allowed;
@@ -12,10 +15,25 @@ use std::alloc::Global;
 /// Most texts have a token in this many bytes, or fewer, so that their list seldom grows.
 const BYTES_A_TOKEN: usize = 4;
 
+/// Whether each byte may stand in a text.
+fn all_allowed(text: &[u8]) -> bool
+    ensures { result ≡ list_all is_allowed_test text.now }
+{
+    let mut good = true;
+    // Without an early exit the loop looks at many bytes at once.
+    for byte in text {
+        good &= is_allowed(*byte);
+    }
+    good
+}
+
 /// The first byte that may not stand in a text.
 fn first_bad(text: &[u8]) -> Option<usize>
     ensures { MatchOption result (AreAllowed text.now) (IsFirstBad text.now) }
 {
+    if all_allowed(text) {
+        return None;
+    }
     text.iter().position(|byte| !is_allowed(*byte))
 }
 
@@ -31,6 +49,19 @@ pub fn lex(alloc: Global, text: &[u8]) -> Result<Tokens, LexFault>
     if let Some(place) = first_bad(text) {
         return Err(LexFault::Byte(place as u32));
     }
+    lex_allowed(alloc, text)
+}
+
+/// The tokens of a text whose bytes may all stand in one, or the first place where it has none.
+///
+/// A caller that has tested the bytes need not have them tested again. `Byte` never comes.
+pub fn lex_allowed(alloc: Global, text: &[u8]) -> Result<Tokens, LexFault>
+    requires short { length text.now ≤ 1048576 }
+    requires allowed { AreAllowed text.now }
+    ensures tokens { IfOk result (λ tokens. AreTokens text.now tokens.items) }
+    ensures fault { IfErr result (Faults text.now) }
+    ensures byte { (place : ℕ) → result ≡ Err (Byte place) → ⊥ }
+{
     let mut items = List::with_capacity(alloc, text.len() / BYTES_A_TOKEN + 1)?;
     let mut at = 0;
     'tokens: loop {

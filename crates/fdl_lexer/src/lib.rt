@@ -15,7 +15,7 @@ mod scan;
 
 pub use kinds::{LexFault, Mark, Token, Tokens, What};
 pub use laws::one_outcome;
-pub use lexer::lex;
+pub use lexer::{lex, lex_allowed};
 pub use quoted::text_value;
 
 #[cfg(test)]

@@ -1,25 +1,25 @@
 use Rattle.std.proofs.Common.{◌+◌, arith}
 use Rattle.std.proofs.lemmas.List.{take_rest, length-drop}
 use Rattle.fdl_lexer.proofs.Scanned.{Scans-push, next_token, stuck}
-use Rattle.fdl_lexer.proofs.lexer.lex.Goals as goal
+use Rattle.fdl_lexer.proofs.lexer.lex_allowed.Goals as goal
 
-pub returns-in_default-first_token-clause-fault : goal.returns-in_default-first_token-clause-fault
-returns-in_default-first_token-clause-fault c =
+pub returns-in_default-clause-fault : goal.returns-in_default-clause-fault
+returns-in_default-clause-fault c =
     let text = c.args.text.now in
     let g = rw (take_rest text c.tokens.at) at c.gap_len.ensures in
-    let none = rw (take_rest text (c.tokens.at + c.gap_len.result)) at c.in_default-first_token.ensures in
+    let none = rw (take_rest text (c.tokens.at + c.gap_len.result)) at c.in_default.ensures in
     let size = length-drop c.tokens.at text in
-    stuck text c.tokens.items c.tokens.at c.gap_len.result c.in_default.ensures c.tokens.invariant.so_far g (omega (arith, g.within)) (omega (arith, g.within)) none
+    stuck text c.tokens.items c.tokens.at c.gap_len.result c.requires.allowed c.tokens.invariant.so_far g (omega (arith, g.within)) (omega (arith, g.within)) none
 
 pub tokens-preserved : goal.tokens-preserved
 tokens-preserved c =
     let text = c.args.text.now in
     let g = rw (take_rest text c.tokens.at) at c.gap_len.ensures in
-    let found = rw (take_rest text (c.tokens.at + c.gap_len.result)) at c.in-Some-first_token.ensures in
+    let found = rw (take_rest text (c.tokens.at + c.gap_len.result)) at c.in-Some.ensures in
     let size = length-drop c.tokens.at text in
     let size2 = length-drop (c.tokens.at + c.gap_len.result) text in
     record {
       within = omega (arith, g.within, found.2);
       so_far = rw c.in_ok-push.ensures.ok (Scans-push text 0 _ _ _ c.tokens.invariant.so_far
-          (next_token text c.tokens.at c.gap_len.result c.in-Some-first_token.len c.in-Some-first_token.what g (omega (arith, g.within, found.2)) found.1 found.0));
+          (next_token text c.tokens.at c.gap_len.result c.in-Some.len c.in-Some.what g (omega (arith, g.within, found.2)) found.1 found.0));
     }
