@@ -810,6 +810,20 @@ impl NestedState {
     }
 }
 
+/// Puts messages behind others.
+fn append(messages: &mut List<Message>, more: Vec<Message>) -> Result<(), AllocError>
+    ensures { OnOk result (messages.new ≡ messages.old ++ more.items) }
+{
+    // Few events begin or end a scope, so there is mostly nothing to walk over.
+    if more.is_empty() {
+        return Ok(());
+    }
+    for message in more {
+        messages.push(message)?;
+    }
+    Ok(())
+}
+
 /// The messages of effects in the order in which they are put.
 pub fn messages_of(effects: Effects) -> Result<(List<Message>, Vec<Path>), AllocError>
     ensures { IfOk result (λ given. (given.0 ≡ (told effects).signals ++ (told effects).begins ++ (told effects).ends)
@@ -822,11 +836,7 @@ pub fn messages_of(effects: Effects) -> Result<(List<Message>, Vec<Path>), Alloc
         ready,
     } = effects;
     let mut messages = List::from_vec(signals);
-    for begin in begins {
-        messages.push(begin)?;
-    }
-    for end in ends {
-        messages.push(end)?;
-    }
+    append(&mut messages, begins)?;
+    append(&mut messages, ends)?;
     Ok((messages, ready))
 }
