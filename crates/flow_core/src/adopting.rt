@@ -427,7 +427,7 @@ impl Core {
             return Err(AdoptFault::NotAllowed);
         }
         self.count(number, &t);
-        let _ = self.apply_as(number, t)?;
+        let _ = self.apply_as(number, &t)?;
         Ok(())
     }
 }

@@ -32,8 +32,8 @@ use crate::refusals::copy_hold;
 use crate::state::{Core, Root};
 use containers::{fresh, with_settings};
 use flow_model::{
-    Bytes, Container, DoneBy, Fate, ItemLine, Library, List, Message, Mode, Name, Numbered, Path,
-    Program, Setting, Transaction, Who,
+    Bytes, Container, DoneBy, Fate, ItemLine, Library, List, Message, Mode, Name, Path, Program,
+    Setting, Transaction, Who,
 };
 use live_history::{deleted_root, root_of, started_root};
 use navigator::{HoldChange, Instance};
@@ -759,44 +759,41 @@ impl Core {
     }
 
     /// Keeps a transaction where it is live; a Delete takes those of its root away.
-    fn keep(&mut self, number: u64, t: Transaction) -> Result<(), AllocError>
+    fn keep(&mut self, number: u64, t: &Transaction) -> Result<(), AllocError>
         ensures keeps { OnOk result (noted self.new
-            ≡ (self.old.kept, self.old.kept_number, self.old.kept_root, kept_by number t (summary self.old))) }
+            ≡ (self.old.kept, self.old.kept_number, self.old.kept_root, kept_by number t.now (summary self.old))) }
         ensures rest { self.new ≡ record self.old { live = self.new.live } }
     {
-        match deleted_root(&t) {
+        match deleted_root(t) {
             Some(root) => self.forget(root),
-            None => self.live.push(Numbered {
-                number,
-                transaction: t,
-            })?,
+            None => self.live.push(number, t)?,
         }
         Ok(())
     }
 
     /// Applies a transaction under a number, and keeps it where it is live.
-    pub(crate) fn apply_as(&mut self, number: u64, t: Transaction) -> Result<Applied, AllocError>
-        requires faultless { IsFaultlessImport self.old.store.catalog.library t }
-        requires front { IsFrontOf self.old t }
+    pub(crate) fn apply_as(&mut self, number: u64, t: &Transaction) -> Result<Applied, AllocError>
+        requires faultless { IsFaultlessImport self.old.store.catalog.library t.now }
+        requires front { IsFrontOf self.old t.now }
         ensures numbered { IfOk result (λ applied. applied.number ≡ number) }
-        ensures note { IfOk result (λ applied. IsNoteOf self.old t self.new applied.note) }
+        ensures note { IfOk result (λ applied. IsNoteOf self.old t.now self.new applied.note) }
         ensures applied { OnOk result (noted self.new
             ≡ (
               self.old.kept,
               self.old.kept_number,
               self.old.kept_root,
-              with_transaction self.old.number number t
+              with_transaction self.old.number number t.now
                   (summary self.old),
             )) }
-        ensures drives { OnOk result (Drives self.old t self.new) }
-        ensures shelves { OnOk result (Shelves self.old t self.new) }
-        ensures clock { OnOk result (self.new.clock ≡ clock_after t self.old.clock) }
-        ensures store { OnOk result (StoreAfter t self.old.store.catalog self.new.store.catalog) }
-        ensures keys { OnOk result (KeysAfter self.old t self.new) }
-        ensures exact { OnOk result (IsExact self.old t self.new) }
+        ensures drives { OnOk result (Drives self.old t.now self.new) }
+        ensures shelves { OnOk result (Shelves self.old t.now self.new) }
+        ensures clock { OnOk result (self.new.clock ≡ clock_after t.now self.old.clock) }
+        ensures store { OnOk result (StoreAfter t.now self.old.store.catalog self.new.store.catalog) }
+        ensures keys { OnOk result (KeysAfter self.old t.now self.new) }
+        ensures exact { OnOk result (IsExact self.old t.now self.new) }
     {
-        self.count_root(&t);
-        let note = self.change_by(&t)?;
+        self.count_root(t);
+        let note = self.change_by(t)?;
         self.keep(number, t)?;
         Ok(Applied { number, note })
     }
@@ -818,6 +815,6 @@ impl Core {
         ensures exact { OnOk result (IsExact self.old t self.new) }
     {
         self.number += 1;
-        self.apply_as(self.number, t)
+        self.apply_as(self.number, &t)
     }
 }

@@ -20,6 +20,10 @@ use Rattle.live_history.specs.declared.kept_rows.Row.TheVariants.{Gone, Record, 
 
 -- ---- records
 
+-- a transaction and its number
+abbrev pub numbered_of : ℕ → Transaction → Numbered
+numbered_of number t = record { number = number; transaction = t }
+
 -- the transaction of a pair
 abbrev pair_of : ℕ × Transaction → Numbered
 pair_of x = record { number = x.0; transaction = x.1 }

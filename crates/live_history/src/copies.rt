@@ -87,7 +87,7 @@ fn copy_of_item_settings(
 }
 
 /// An equal transaction.
-fn copy_of_transaction(alloc: Global, t: &Transaction) -> Result<Transaction, AllocError>
+pub(crate) fn copy_of_transaction(alloc: Global, t: &Transaction) -> Result<Transaction, AllocError>
     ensures { IfOk result (λ copied. copied ≡ t.now) }
 {
     match t {

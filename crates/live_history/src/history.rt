@@ -7,7 +7,7 @@ ghost use Rattle.live_history.specs.Rows.{kept_places, place_if};
 use crate::kept_rows::Rows;
 use crate::transactions::transaction_root;
 use crate::walk::Walk;
-use flow_model::Numbered;
+use flow_model::{Numbered, Transaction};
 use number_map::NumberMap;
 use std::alloc::{AllocError, Global};
 use std::marker::Model;
@@ -158,11 +158,12 @@ impl History {
     }
 
     /// Adds a transaction.
-    fn add(&mut self, numbered: Numbered) -> Result<(), AllocError>
-        ensures { OnOk result (self.new.items ≡ self.old.items ++ numbered ∷ []) }
+    fn add(&mut self, number: u64, transaction: &Transaction) -> Result<(), AllocError>
+        ensures { OnOk result (self.new.items
+            ≡ self.old.items ++ record { number = number; transaction = transaction.now } ∷ []) }
     {
-        let about = transaction_root(&numbered.transaction);
-        let place = self.rows.push(numbered)?;
+        let about = transaction_root(transaction);
+        let place = self.rows.push(number, transaction)?;
         if let Err(fault) = index_row(&mut self.places, self.alloc, about, place) {
             self.rows.clear(place as usize);
             return Err(fault);
@@ -177,19 +178,20 @@ impl History {
         let old = std::mem::replace(self, History::new(self.alloc));
         let mut walk = old.walk();
         while let Some(numbered) = walk.next()? {
-            self.add(numbered)?;
+            self.add(numbered.number, &numbered.transaction)?;
         }
         Ok(())
     }
 
     /// Adds a transaction behind the others. After want of memory the history isn't used.
-    pub fn push(&mut self, numbered: Numbered) -> Result<(), AllocError>
-        ensures { OnOk result (self.new.items ≡ self.old.items ++ numbered ∷ []) }
+    pub fn push(&mut self, number: u64, transaction: &Transaction) -> Result<(), AllocError>
+        ensures { OnOk result (self.new.items
+            ≡ self.old.items ++ record { number = number; transaction = transaction.now } ∷ []) }
     {
         if self.gone > self.rows.len() / 2 {
             self.compact()?;
         }
-        self.add(numbered)
+        self.add(number, transaction)
     }
 
     /// Takes the transactions about a root away.

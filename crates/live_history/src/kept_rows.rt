@@ -8,7 +8,7 @@ ghost use Rattle.live_history.specs.declared.kept_rows.Row.TheVariants.{Gone, Re
 ghost use Rattle.live_history.specs.Kept.{record_of, read_from, row_over, shown_rows, bytes_at};
 ghost use Rattle.live_history.specs.Kept.{IsKept, AreKept, Extends};
 
-use crate::copies::copy_of;
+use crate::copies::{copy_of, copy_of_transaction};
 use flow_model::{Boxed, Numbered, Transaction};
 use flow_txn::{RecordFault, decode, encode, encode_into, fits, is_turn};
 use std::alloc::{AllocError, Global};
@@ -52,10 +52,16 @@ impl Model for Rows {
     ghost invariant = { λ r. AreKept r.records.items r.places.items };
 }
 
-/// A row that has its transaction itself.
-fn whole_row(alloc: Global, numbered: Numbered) -> Result<Row, AllocError>
-    ensures { (records : List ℕ) → IfOk result (λ row. IsKept records row × (row_over records row ≡ Some numbered)) }
+/// A row that has a copy of the transaction itself.
+fn whole_row(alloc: Global, number: u64, transaction: &Transaction) -> Result<Row, AllocError>
+    ensures { (records : List ℕ) → IfOk result (λ row. IsKept records row
+        × (row_over records row ≡ Some (record { number = number; transaction = transaction.now }))) }
 {
+    let transaction = copy_of_transaction(alloc, transaction)?;
+    let numbered = Numbered {
+        number,
+        transaction,
+    };
     Ok(Row::Whole(Boxed::new(alloc, numbered)?))
 }
 
@@ -74,24 +80,26 @@ fn add_record(records: &mut Vec<u8>, bytes: &[u8]) -> Result<Option<Row>, AllocE
     Ok(Some(Row::Record(start as u32, bytes.len() as u32)))
 }
 
-/// Keeps a transaction: in the buffer where it is in range, else whole. Its record is first written over the draft.
+/// Keeps a transaction: in the buffer where it is in range, else a copy of it. Its record is first written over the
+/// draft.
 fn keep(
     alloc: Global,
     records: &mut Vec<u8>,
     draft: &mut Vec<u8>,
-    numbered: Numbered,
+    number: u64,
+    transaction: &Transaction,
 ) -> Result<Row, AllocError>
     ensures kept { IfOk result (λ row. IsKept records.new.items row
-        × (row_over records.new.items row ≡ Some numbered)) }
+        × (row_over records.new.items row ≡ Some (record { number = number; transaction = transaction.now }))) }
     ensures others { Extends records.old.items records.new.items }
 {
-    if !fits(numbered.number, &numbered.transaction) {
-        return whole_row(alloc, numbered);
+    if !fits(number, transaction) {
+        return whole_row(alloc, number, transaction);
     }
-    encode_into(draft, numbered.number, &numbered.transaction)?;
+    encode_into(draft, number, transaction)?;
     match add_record(records, draft)? {
         Some(row) => Ok(row),
-        None => whole_row(alloc, numbered),
+        None => whole_row(alloc, number, transaction),
     }
 }
 
@@ -266,16 +274,23 @@ impl Rows {
     }
 
     /// Adds a row behind the others, and gives its place. There is no memory for more than 2^32 rows.
-    pub(crate) fn push(&mut self, numbered: Numbered) -> Result<u32, AllocError>
+    pub(crate) fn push(&mut self, number: u64, transaction: &Transaction) -> Result<u32, AllocError>
         ensures place { IfOk result (λ place. place ≡ length self.old) }
-        ensures ok { OnOk result (self.new ≡ self.old ++ Some numbered ∷ []) }
+        ensures ok { OnOk result (self.new
+            ≡ self.old ++ Some (record { number = number; transaction = transaction.now }) ∷ []) }
         ensures err { OnErr result (self.new ≡ self.old) }
     {
         let place = self.places.len();
         if place > FURTHEST {
             return Err(AllocError);
         }
-        let row = keep(self.alloc, &mut self.records, &mut self.draft, numbered)?;
+        let row = keep(
+            self.alloc,
+            &mut self.records,
+            &mut self.draft,
+            number,
+            transaction,
+        )?;
         self.places.push(row)?;
         Ok(place as u32)
     }

@@ -22,21 +22,15 @@ fn suspensions(alloc: Global, count: u64) -> Result<History, AllocError>
 {
     let mut history = History::new(alloc);
     for number in 1..count + 1 {
-        history.push(Numbered {
-            number,
-            transaction: Transaction::Suspend(number % 3 + 1),
-        })?;
+        history.push(number, &Transaction::Suspend(number % 3 + 1))?;
     }
     Ok(history)
 }
 
 /// The taking of a message about a root.
-fn turn(alloc: Global, number: u64, root: u64) -> Numbered {
+fn turn(alloc: Global, root: u64) -> Transaction {
     let parts = List::new(alloc);
-    Numbered {
-        number,
-        transaction: Transaction::Turn(0, Message::End(Path { root, parts })),
-    }
+    Transaction::Turn(0, Message::End(Path { root, parts }))
 }
 
 /// The numbers of the transactions that a walk over a history finds.
@@ -84,10 +78,7 @@ fn a_walk_goes_on_behind_what_was_deleted(rt: HostRuntime) -> Result<(), Fail> {
 fn transactions_out_of_range_are_kept(rt: HostRuntime) -> Result<(), Fail> {
     let alloc = rt.alloc();
     let mut history = suspensions(alloc, 2)?;
-    history.push(Numbered {
-        number: 0,
-        transaction: Transaction::Suspend(2),
-    })?;
+    history.push(0, &Transaction::Suspend(2))?;
     assert_eq!(rt;
         numbers(alloc, &history.about(2)?)?.as_slice(),
         [1, 0].as_slice()
@@ -119,10 +110,7 @@ fn transactions_of_a_root_come_in_order(rt: HostRuntime) -> Result<(), Fail> {
 fn a_deletion_takes_those_of_its_root_alone(rt: HostRuntime) -> Result<(), Fail> {
     let alloc = rt.alloc();
     let mut history = suspensions(alloc, 7)?;
-    history.push(Numbered {
-        number: 8,
-        transaction: Transaction::Clock(5),
-    })?;
+    history.push(8, &Transaction::Clock(5))?;
     history.remove(2);
     assert_eq!(rt; history.len(), 5);
     assert!(rt; history.about(2)?.is_empty());
@@ -141,10 +129,7 @@ fn a_history_goes_on_after_most_was_deleted(rt: HostRuntime) -> Result<(), Fail>
     let mut history = suspensions(alloc, 9)?;
     history.remove(1);
     history.remove(3);
-    history.push(Numbered {
-        number: 10,
-        transaction: Transaction::Suspend(1),
-    })?;
+    history.push(10, &Transaction::Suspend(1))?;
     assert_eq!(rt; history.len(), 4);
     assert_eq!(rt;
         numbers(alloc, &history.about(1)?)?.as_slice(),
@@ -162,8 +147,8 @@ fn turns_are_counted_in_records_and_whole(rt: HostRuntime) -> Result<(), Fail> {
     let alloc = rt.alloc();
     let mut history = suspensions(alloc, 3)?;
     assert_eq!(rt; history.turns(), 0);
-    history.push(turn(alloc, 4, 1))?;
-    history.push(turn(alloc, 0, 2))?;
+    history.push(4, &turn(alloc, 1))?;
+    history.push(0, &turn(alloc, 2))?;
     assert_eq!(rt; history.turns(), 2);
     history.remove(1);
     assert_eq!(rt; history.turns(), 1);

@@ -54,3 +54,9 @@ returns-clause-keys c =
     keys_around c.args.self.now c.count.new.self c.apply_as.new.self c.apply_as.new.self
     (ap (λ (k : Core). k.keys) (rw c.admits.ensures.same at c.count.ensures.rest)) (ap (λ (k : Core). k.live_roots) (rw c.admits.ensures.same at c.count.ensures.rest))
     (ap (λ (k : Core). k.store) (rw c.admits.ensures.same at c.count.ensures.rest)) refl refl c.args.t c.in_ok-apply_as.ensures.keys
+
+pub returns-clause-follows : goal.returns-clause-follows
+returns-clause-follows c = c.in_ok-admits.ensures.follows c.if-not-branch.false
+
+pub returns-clause-admitted : goal.returns-clause-admitted
+returns-clause-admitted c = λ order. c.in_ok-admits.ensures.admitted order c.if-not-branch.false

@@ -2,7 +2,7 @@ use Rattle.std.proofs.Common.{◌∙◌, Some, List, [], ◌∷◌, ◌++◌, sy
 use Rattle.live_history.specs.Kept.{shown_rows, AreKept}
 use Rattle.live_history.specs.Rows.{HistoryRow}
 use Rattle.live_history.specs.declared.kept_rows.Row.{Row}
-use Rattle.live_history.proofs.Records.{rows_extended, all_extended, kept_pushed, shown_pushed}
+use Rattle.live_history.proofs.Records.{numbered_of, rows_extended, all_extended, kept_pushed, shown_pushed}
 use Rattle.live_history.proofs.Rows.{on_err}
 use Rattle.live_history.proofs.kept_rows.Rows.push.Goals as goal
 
@@ -29,6 +29,6 @@ invariant_of-self-2 c =
 
 pub returns-clause-ok : goal.returns-clause-ok
 returns-clause-ok c =
-    shown_pushed c.self.inside.records.items c.keep.new.records.items c.self.inside.places.items c.push.new.self.items c.in_ok-row.row c.args.numbered
+    shown_pushed c.self.inside.records.items c.keep.new.records.items c.self.inside.places.items c.push.new.self.items c.in_ok-row.row (numbered_of c.args.number c.args.transaction.now)
     c.keep.ensures.others c.self.invariant c.in_ok-row.ensures.kept.1 c.in_ok-push.ensures.items
-    ∙ ap (λ (rows : List HistoryRow). rows ++ Some c.args.numbered ∷ []) c.self.view_is
+    ∙ ap (λ (rows : List HistoryRow). rows ++ Some (numbered_of c.args.number c.args.transaction.now) ∷ []) c.self.view_is
