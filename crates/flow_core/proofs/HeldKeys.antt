@@ -11,7 +11,7 @@ use Rattle.std.specs.Option.{option_and_then}
 use Rattle.flow_core.specs.Driving.{IsNewestVersion}
 use Rattle.flow_core.specs.Keys.{holder, key_of, is_key, HasKeys, KeepsKeys, StartsKey, FreesKey, KeysAfter}
 use Rattle.flow_core.specs.declared.state.Core.{Core}
-use Rattle.flow_core.proofs.Written.{if_yes, if_no}
+use Rattle.number_map.proofs.Rows.{if_yes, if_no}
 use Rattle.flow_model.specs.declared.names.Name.{Name}
 use Rattle.flow_model.specs.declared.transactions.Transaction.{Transaction}
 use Rattle.flow_model.specs.declared.transactions.Transaction.TheVariants.{Import, Start, Turn, Claim, Release}

@@ -13,14 +13,13 @@ use Rattle.flow_model.specs.declared.instances.Path.{Path}
 use Rattle.flow_model.specs.declared.names.Name.{Name}
 use Rattle.flow_model.specs.declared.transactions.Setting.{Setting}
 use Rattle.flow_model.specs.declared.transactions.Transaction.{Transaction}
-use Rattle.flow_model.specs.declared.transactions.Transaction.TheVariants.{Import, Start, Turn, Claim, Release, Transfer, Take, Done, Force, Restart, Suspend, Resume, Terminate, Delete, Clock}
+use Rattle.flow_model.specs.declared.transactions.Transaction.TheVariants.{Start, Release, Transfer}
 use Rattle.containers.specs.Settings.{filled}
 use Rattle.navigator.specs.Instances.{IsStarted, Starts}
 use Rattle.navigator.specs.declared.instance.HoldChange.TheVariants as hold
 use Rattle.navigator.specs.declared.instance.Instance.{Instance}
 use Rattle.process_rules.specs.Imports.{IsIndexed}
 use Rattle.template_store.specs.Store.{Imports}
-use Rattle.flow_core.specs.Allowing.{IsAsked, IsFaultlessImport}
 use Rattle.flow_core.specs.Answers.{instance_of}
 use Rattle.flow_core.specs.Driving.{templates, IsVersionAt, RunsAt, HasNoVersion, IsMade, StartsIn, BecomesStarted}
 use Rattle.flow_core.specs.Driving.{ChangesRoot, ChangesRoots, HoldsItem, Drives, put_in, queue_now}
@@ -163,21 +162,3 @@ pub runs_at : {E : Type 0} (r : Result (Option Instance) E) (ts : List Template)
 runs_at (Err e) ts t number name input g place same there is = tt
 runs_at (Ok None) ts t number name input g place same there is = none-some g (sym is ∙ there)
 runs_at (Ok (Some i)) ts t number name input g place same there is = is.template ∙ same
-
--- the text of an Import that may be breaks no rule
-pub faultless_of : (c : Core) (t : Transaction) → IsAsked c t → IsFaultlessImport c.store.catalog.library t
-faultless_of c (Turn number message) asked = tt
-faultless_of c (Import text) asked = asked
-faultless_of c (Start root process version starter key settings) asked = tt
-faultless_of c (Claim item who) asked = tt
-faultless_of c (Release item who) asked = tt
-faultless_of c (Transfer item who to) asked = tt
-faultless_of c (Take item take) asked = tt
-faultless_of c (Done item who settings) asked = tt
-faultless_of c (Force item settings) asked = tt
-faultless_of c (Restart item) asked = tt
-faultless_of c (Suspend root) asked = tt
-faultless_of c (Resume root) asked = tt
-faultless_of c (Terminate root) asked = tt
-faultless_of c (Delete root) asked = tt
-faultless_of c (Clock minutes) asked = tt

@@ -6,26 +6,15 @@ use Rattle.flow_model.specs.declared.instances.Message.{Message}
 use Rattle.navigator.specs.declared.instance.Instance.{Instance}
 use Rattle.number_map.specs.Entries.{NumberMap}
 use Rattle.number_map.specs.Lends.{HasWritten}
+use Rattle.number_map.proofs.Rows.{if_yes, if_no, same_number, same_yes}
 use Rattle.flow_core.specs.Answers.{instance_of, root_at}
 use Rattle.flow_core.specs.Driving.{ChangesRoot, IfLive}
 use Rattle.flow_core.specs.Keys.{key_of, KeepsKeys}
 use Rattle.flow_core.specs.declared.state.Core.{Core}
 use Rattle.flow_core.specs.declared.state.Root.{Root}
 
-pub if_yes : {A : Type 0} (b : Bool) (x y : A) → b ≡ true → (if b then x else y) ≡ x
-if_yes b x y is = subst (λ (d : Bool). (if d then x else y) ≡ x) (sym is) refl
-
-pub if_no : {A : Type 0} (b : Bool) (x y : A) → b ≡ false → (if b then x else y) ≡ y
-if_no b x y is = subst (λ (d : Bool). (if d then x else y) ≡ y) (sym is) refl
-
-same_yes : (n : ℕ) → (n == n) ≡ true
-same_yes n = grind (arith, nat_tests)
-
 apart_no : (n m : ℕ) → (m ≡ n → ⊥) → (n == m) ≡ false
 apart_no n m apart = grind (arith, nat_tests)
-
-same_number : (n m : ℕ) → (n == m) ≡ true → n ≡ m
-same_number n m e = grind (arith, nat_tests)
 
 module _ (c : Core) (roots : NumberMap Root) (root : ℕ) (was is : Root) (written : HasWritten root c.live_roots roots is)
     (there : Some was ≡ root_at c root) (kept : is.key ≡ was.key) where

@@ -26,10 +26,10 @@ before_or_from k place = grind arith
 less_or_same : (k place : ℕ) → k < place + 1 → (k < place) ⊎ (k ≡ place)
 less_or_same k place lt = grind arith
 
-if_yes : {A : Type 0} (b : Bool) (x y : A) → b ≡ true → (if b then x else y) ≡ x
+pub if_yes : {A : Type 0} (b : Bool) (x y : A) → b ≡ true → (if b then x else y) ≡ x
 if_yes b x y is = subst (λ (d : Bool). (if d then x else y) ≡ x) (sym is) refl
 
-if_no : {A : Type 0} (b : Bool) (x y : A) → b ≡ false → (if b then x else y) ≡ y
+pub if_no : {A : Type 0} (b : Bool) (x y : A) → b ≡ false → (if b then x else y) ≡ y
 if_no b x y is = subst (λ (d : Bool). (if d then x else y) ≡ y) (sym is) refl
 
 apart_below : (n m : ℕ) → n < m → (n == m) ≡ false
@@ -41,7 +41,7 @@ apart_above n m lt = grind (arith, nat_tests)
 pub same_number : (n m : ℕ) → (n == m) ≡ true → n ≡ m
 same_number n m e = grind (arith, nat_tests)
 
-same_yes : (n : ℕ) → (n == n) ≡ true
+pub same_yes : (n : ℕ) → (n == n) ≡ true
 same_yes n = grind (arith, nat_tests)
 
 module _ {V : Type 0} where

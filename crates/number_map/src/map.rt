@@ -21,7 +21,7 @@ use std::marker::Model;
 pub struct NumberMap<V> {
     /// By rising number.
     rows: Vec<Row<V>>,
-    /// How many rows have no value any more.
+    /// At least as many as there are rows without a value: a number that gets one again stays counted.
     gone: usize,
 }
 
