@@ -80,8 +80,8 @@ impl TemplateStore {
         }
     }
 
-    /// Whether a text may be imported: `Rule` exactly where it breaks a rule, which is the first and its least place.
-    /// The library stays as it is.
+    /// Whether a text may be imported: `Rule` exactly where it breaks a rule, which is the first and its least place,
+    /// and `NoMemory` where there is none for what it compiles to, or to keep that. The library stays as it is.
     pub fn check(&mut self, alloc: Global, text: &[u8]) -> Result<(), ImportFault>
         ensures same { self.new ≡ self.old }
         ensures judged { IsIndexed self.old.catalog → IsJudged self.old.catalog.library text.now result }
