@@ -13,6 +13,6 @@ echo "rt ci took $((SECONDS - begin)) seconds"
 for script in tests/promises.py tests/widths.py tests/words.py; do
     python3 "$script" || exit
 done
-for script in tests/pages.py tests/clients.py tests/files/run.py; do
+for script in tests/pages.py tests/clients.py tests/agreement.py tests/files/run.py; do
     python3 "$script" crates/flow_cli/out/flow_cli || exit
 done
