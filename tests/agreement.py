@@ -91,7 +91,8 @@ class Case:
     def answers(self, words: list[str], lines: list[str]) -> list[str]:
         """What the program prints for these lines."""
         script = "".join(f"{line}\n" for line in lines)
-        ran = subprocess.run([self.program, *words], input=script, capture_output=True, text=True, check=True)
+        ran = subprocess.run([self.program, *words], input=script, capture_output=True, text=True)
+        compare(0, ran.returncode, f"the status of {words[0]}, which prints {ran.stdout[:200]!r}")
         return ran.stdout.splitlines()
 
     def shown(self, more: list[str]) -> list[str]:
@@ -106,7 +107,9 @@ class Case:
 
 def rows_behind(answers: list[str], head: str) -> list[str]:
     """The rows that stand behind the last line that begins so."""
-    place = max(i for i, line in enumerate(answers) if line.startswith(head))
+    place = max((i for i, line in enumerate(answers) if line.startswith(head)), default=None)
+    if place is None:
+        raise AssertionError(f"wanted a line {head!r}, got {answers[-3:]!r}")
     count = int(answers[place].split()[-1])
     return answers[place + 1 : place + 1 + count]
 
