@@ -66,10 +66,8 @@ impl Effects {
             self.signals = signals.into_vec();
             return Ok(());
         }
-        for signal in signals.into_vec() {
-            self.signals.push(signal)?;
-        }
-        Ok(())
+        let mut signals = signals.into_vec();
+        self.signals.append(&mut signals)
     }
 
     /// Adds the BEGIN of a scope.
@@ -810,33 +808,18 @@ impl NestedState {
     }
 }
 
-/// Puts messages behind others.
-fn append(messages: &mut List<Message>, more: Vec<Message>) -> Result<(), AllocError>
-    ensures { OnOk result (messages.new ≡ messages.old ++ more.items) }
-{
-    // Few events begin or end a scope, so there is mostly nothing to walk over.
-    if more.is_empty() {
-        return Ok(());
-    }
-    for message in more {
-        messages.push(message)?;
-    }
-    Ok(())
-}
-
 /// The messages of effects in the order in which they are put.
 pub fn messages_of(effects: Effects) -> Result<(List<Message>, Vec<Path>), AllocError>
     ensures { IfOk result (λ given. (given.0 ≡ (told effects).signals ++ (told effects).begins ++ (told effects).ends)
         × (given.1.items ≡ (told effects).ready)) }
 {
     let Effects {
-        signals,
-        begins,
-        ends,
+        mut signals,
+        mut begins,
+        mut ends,
         ready,
     } = effects;
-    let mut messages = List::from_vec(signals);
-    append(&mut messages, begins)?;
-    append(&mut messages, ends)?;
-    Ok((messages, ready))
+    signals.append(&mut begins)?;
+    signals.append(&mut ends)?;
+    Ok((List::from_vec(signals), ready))
 }
