@@ -7,6 +7,3 @@
 mod states;
 
 pub use states::ProgramState;
-
-#[cfg(test)]
-mod tests;

@@ -8,6 +8,3 @@
 mod lines;
 
 pub use lines::{audit, write_message};
-
-#[cfg(test)]
-mod tests;

@@ -13,8 +13,6 @@ mod reading;
 mod repeats;
 mod scopes;
 mod starting;
-#[cfg(test)]
-mod tests;
 
 pub use accepting::{AcceptFault, accept};
 pub use graphs::{Placed, activity_at, path_below};

@@ -13,8 +13,6 @@
 mod compacting;
 mod payloads;
 mod stops;
-#[cfg(test)]
-mod tests;
 mod writing;
 
 pub use compacting::compact;

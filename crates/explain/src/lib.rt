@@ -9,8 +9,6 @@ mod checking;
 mod graphs;
 mod making;
 mod naming;
-#[cfg(test)]
-mod tests;
 mod words;
 
 pub use making::{ExplainFault, explain};

@@ -11,6 +11,3 @@ mod scopes;
 
 pub use passes::fates;
 pub use results::{FateFault, Fates};
-
-#[cfg(test)]
-mod tests;

@@ -13,6 +13,3 @@ mod printer;
 
 pub use items::canonical;
 pub use laws::reads_back;
-
-#[cfg(test)]
-mod tests;

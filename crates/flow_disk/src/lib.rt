@@ -16,8 +16,6 @@ mod counts;
 mod disk;
 mod kept;
 mod memory;
-#[cfg(test)]
-mod tests;
 
 pub use disk::{Disk, Failed, Slot};
 pub use memory::MemDisk;

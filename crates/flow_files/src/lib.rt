@@ -14,8 +14,6 @@ mod files;
 mod opening;
 mod room;
 mod slot_file;
-#[cfg(test)]
-mod tests;
 
 pub use access::Access;
 pub use files::FileDisk;

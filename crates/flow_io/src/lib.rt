@@ -12,8 +12,6 @@ mod lines;
 mod memory;
 mod outside;
 mod standard;
-#[cfg(test)]
-mod tests;
 
 pub use lines::{IoStop, Line, Lines, MAX_LINE};
 pub use memory::{MemSink, MemSource};

@@ -16,8 +16,6 @@ mod lists;
 mod names;
 mod path_reading;
 mod paths;
-#[cfg(test)]
-mod tests;
 mod transactions;
 mod trees;
 

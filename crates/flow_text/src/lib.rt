@@ -6,8 +6,6 @@
 
 mod number;
 mod quoted;
-#[cfg(test)]
-mod tests;
 
 pub use number::{decimal, signed};
 pub use quoted::{quoted_name, quoted_text};

@@ -14,6 +14,3 @@ pub use faults::RecordFault;
 pub use fitting::fits;
 pub use reading::{decode, is_turn};
 pub use writing::{encode, encode_into};
-
-#[cfg(test)]
-mod tests;

@@ -7,8 +7,6 @@
 mod copies;
 mod history;
 mod kept_rows;
-#[cfg(test)]
-mod tests;
 mod transactions;
 mod walk;
 

@@ -10,6 +10,3 @@ mod place;
 
 pub use iter::Iter;
 pub use map::NumberMap;
-
-#[cfg(test)]
-mod tests;

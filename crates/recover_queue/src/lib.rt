@@ -8,6 +8,3 @@ mod queue;
 mod queues;
 
 pub use queues::Queues;
-
-#[cfg(test)]
-mod tests;

@@ -10,6 +10,3 @@ mod fates;
 
 pub use containers::write_container;
 pub use fates::{write_fate, write_mode, write_phase, write_quoted_path, write_row};
-
-#[cfg(test)]
-mod tests;

@@ -14,6 +14,3 @@ pub use rights::{
     StaffFault, claim_test, done_test, eligible, release_test, take_test, transfer_test,
 };
 pub use worklists::{Rank, Worklists};
-
-#[cfg(test)]
-mod tests;

@@ -24,8 +24,6 @@ mod reading;
 mod slot_records;
 mod steps;
 mod stops;
-#[cfg(test)]
-mod tests;
 
 pub use batch::Batch;
 pub use header::{Header, header_bytes};
