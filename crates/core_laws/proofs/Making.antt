@@ -227,7 +227,6 @@ module _ (c c' : Core) (runs : ℕ → List Event) (right : IsRightState c runs)
         kept = makes.counts.kept right.kept;
         queued = subst (λ n. 1 ≤ n) (sym (ap length makes.drives.queues ∙ put_length (queue_now c') makes.drives.given (taken_by t c.queues) ∙ taken_length t c.queues)) right.queued;
         sound = library_sound t (templates c) (templates c') makes.drives.library right.sound;
-        indexed = makes.drives.indexed right.indexed;
       }
 
 -- ---- histories
@@ -243,7 +242,6 @@ blank_right c blank kept queued = record {
   kept = kept;
   queued = queued;
   sound = subst AreSound (sym blank.library) (sound_none 0);
-  indexed = blank.indexed;
 }
 
 pub history_right : (states : ℕ → Core) (made : ℕ → Transaction) (runs : ℕ → List Event) (count : ℕ) → IsRightState (states 0) runs

@@ -30,7 +30,6 @@ use Rattle.navigator.specs.declared.instance.Instance.{Instance}
 use Rattle.recover_queue.specs.Queues.{queue, root_of}
 use Rattle.root_laws.specs.RightRoots.{Queued, IsRight}
 use Rattle.template_check.specs.Built.{AreSound}
-use Rattle.process_rules.specs.Imports.{IsIndexed}
 use Rattle.view_laws.specs.Messages.{Note, BeginNote, SignalNote, EndNote}
 use Rattle.view_laws.specs.Runs.{Event, Started, Turned, Completed, Held, Stopped, facts}
 
@@ -179,7 +178,7 @@ known_now c root = by_facts (length (accepted c root)) (accepted c root)
 -- ---- states to which transactions lead
 
 -- a state is right: its roots are after these runs, which complete what the live transactions do, free numbers are
--- unused, there is a queue, the library is sound, and names lead to the newest of it
+-- unused, there is a queue, and the library is sound
 pub record IsRightState (c : Core) (runs : ℕ → List Event) : Type 0 where
   pub are : AreRight c runs
   pub told : AreTold c runs
@@ -187,7 +186,6 @@ pub record IsRightState (c : Core) (runs : ℕ → List Event) : Type 0 where
   pub kept : c.kept ≤ c.number
   pub queued : 1 ≤ length c.queues
   pub sound : AreSound (templates c)
-  pub indexed : IsIndexed c.store.catalog
 
 -- so it is after some runs
 abbrev pub IsRightCore : Core → Type 0

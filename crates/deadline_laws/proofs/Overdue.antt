@@ -153,7 +153,7 @@ rows_moved ts ts' d d' g g' s s' path templates_same graph_same scopes_same firs
     ∙ ap (λ t. machine.rows_within ts' (suc d') g' t path) (sym scopes_same)
 
 module _ (c : Core) (root : ℕ) (h : List Event) (i : Instance) (was : IsRightRoot c root h i) where
-  rows_so : (rows : List FateRow) → AreRowsOf c.store.catalog.library i rows
+  rows_so : (rows : List FateRow) → AreRowsOf c.store i rows
       → rows ≡ machine.rows_within (templates c) (suc was.right.depth) was.right.graph (scopes_of i.scope)
       (machine.root_path root)
   rows_so rows are =
@@ -195,8 +195,8 @@ module _ (c c' : Core) (runs runs' : ℕ → List Event) (right : IsRightState c
         (sym was'.right.process ∙ ap (λ ts. graph_of ts i'.template) templates_one
         ∙ ap (λ r. graph_of (templates c) r.template) (sym alike_here) ∙ was.right.process)
 
-    rows_one : (rows rows' : List FateRow) → AreRowsOf c.store.catalog.library i rows
-        → AreRowsOf c'.store.catalog.library i' rows' → rows ≡ rows'
+    rows_one : (rows rows' : List FateRow) → AreRowsOf c.store i rows
+        → AreRowsOf c'.store i' rows' → rows ≡ rows'
     rows_one rows rows' are are' =
         let was = right.are root i live in
         let was' = right'.are root i' live' in
@@ -254,8 +254,8 @@ module _ (c c' : Core) (runs runs' : ℕ → List Event) (right : IsRightState c
       ≡ option_map (λ x. x) (lookup (bytes_eq k) people)
   by_name people k = ap (λ t. option_map (λ x. x) (lookup t people)) (fun_ext (is_eq-slice_cmp k))
 
-  people_one : (people people' : People) → AreDeclared c.store.catalog.library people
-      → AreDeclared c'.store.catalog.library people' → people ≡ people'
+  people_one : (people people' : People) → AreDeclared c.store people
+      → AreDeclared c'.store people' → people ≡ people'
   people_one people people' are are' =
       same_entries (slice_cmp nat_cmp) nat_list_cmp_total exact_bytes people people'
       (alike (slice_cmp nat_cmp) nat_list_cmp_total exact_bytes (λ x. x) people people' are.0 are'.0

@@ -37,10 +37,10 @@ abbrev left_among : List Template → NumberMap Root → FateRow → Option Open
 left_among templates roots row =
     option_and_then (λ j. open_among templates roots (attempt_of row j)) (attempt_left row.fate)
 
-module _ (c c' : Core) (roots : c'.live_roots ≡ c.live_roots) (library : c'.store.catalog.library ≡ c.store.catalog.library) where
+module _ (c c' : Core) (roots : c'.live_roots ≡ c.live_roots) (library : c'.store ≡ c.store) where
   same_rows : (rows : List FateRow) → filter_map (open_in c) rows ≡ filter_map (open_in c') rows
   same_rows rows =
-      ap (λ rs. filter_map (left_among c.store.catalog.library.templates rs) rows) (sym roots)
+      ap (λ rs. filter_map (left_among c.store.templates rs) rows) (sym roots)
       ∙ ap (λ (l : Library). filter_map (left_among l.templates c'.live_roots) rows) (sym library)
 
   in_root : (r : Root) (going : Bool) (opens : List Open) → AreOpenIf c r.instance going opens → AreOpenIf c' r.instance going opens

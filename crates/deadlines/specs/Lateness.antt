@@ -79,11 +79,11 @@ late_of clock people o = option_map (λ minutes.
 -- exactly the late ones of the items that are open, in their order
 abbrev pub AreOverdue : Core → List Late → Type 0
 AreOverdue c lates =
-    (people : People) × AreDeclared c.store.catalog.library people
+    (people : People) × AreDeclared c.store people
     × (opens : List OpenItem) × AreOpen c (map told_of opens)
     × (lates ≡ filter_map (late_of c.clock people) opens)
 
 -- what is overdue goes by the clock, the live roots and the library of a state alone
 abbrev pub GoesByTheState : Type 0
 GoesByTheState = (c c' : Core) (lates : List Late) → c'.clock ≡ c.clock → c'.live_roots ≡ c.live_roots
-    → c'.store.catalog.library ≡ c.store.catalog.library → AreOverdue c lates → AreOverdue c' lates
+    → c'.store ≡ c.store → AreOverdue c lates → AreOverdue c' lates

@@ -45,9 +45,9 @@ has_graph c root f facts none =
     none-some facts.graph (none ∙ ap (graph_of (templates c)) facts.template ∙ found)
 
 -- and rows are shown of it
-pub has_rows : (c : Core) (root : ℕ) (f : RootFacts) → AreFactsOf c root f → AreBegun c.store.catalog.library (instance_of c root) None → ⊥
+pub has_rows : (c : Core) (root : ℕ) (f : RootFacts) → AreFactsOf c root f → AreBegun c.store (instance_of c root) None → ⊥
 has_rows c root f facts none =
-    let rows = subst (λ (o : Option Instance). AreBegun c.store.catalog.library o None) facts.live none in
+    let rows = subst (λ (o : Option Instance). AreBegun c.store o None) facts.live none in
     none-some _ rows.2
 
 -- the root of the facts is the one that they are of

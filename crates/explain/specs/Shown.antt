@@ -23,7 +23,7 @@ fate_in rows text = fold (λ found row. if is_row_of text row then Some row.fate
 
 -- what the begun scopes of a live root show of the activity that a text names
 abbrev pub IsShown : Core → ℕ → List ℕ → Option Fate → Type 0
-IsShown c root text found = (rows : List FateRow) × AreBegun c.store.catalog.library (instance_of c root) (Some rows)
+IsShown c root text found = (rows : List FateRow) × AreBegun c.store (instance_of c root) (Some rows)
     × (found ≡ fate_in rows text)
 
 -- ---- in memory

@@ -112,7 +112,7 @@ exact_numbered (Err e) a n c t h = tt
 
 -- the premises of a Start's clause stand before its result
 pub started_newest : {T E : Type 0} (r : Result T E) (c c' : Core) (root : ℕ) (process : Name) (version : ℕ)
-    → IfNewest c.store.catalog process version (λ place. OnOk r (RunsAt place (instance_of c' root)))
+    → IfNewest c.store process version (λ place. OnOk r (RunsAt place (instance_of c' root)))
     → OnOk r (StartsNewest c root process version c')
-started_newest (Ok x) c c' root process version h = λ indexed place newest. h indexed place newest
+started_newest (Ok x) c c' root process version h = λ place newest. h place newest
 started_newest (Err e) c c' root process version h = tt

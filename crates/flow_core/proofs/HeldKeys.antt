@@ -17,8 +17,7 @@ use Rattle.flow_model.specs.declared.transactions.Transaction.{Transaction}
 use Rattle.flow_model.specs.declared.transactions.Transaction.TheVariants.{Import, Start, Turn, Claim, Release}
 use Rattle.flow_model.specs.declared.transactions.Transaction.TheVariants.{Transfer, Take, Done, Force, Restart}
 use Rattle.flow_model.specs.declared.transactions.Transaction.TheVariants.{Suspend, Resume, Terminate, Delete, Clock}
-use Rattle.process_rules.specs.Imports.{IsIndexed}
-use Rattle.template_store.specs.Store.{Imports}
+use Rattle.flow_model.specs.declared.graphs.Library.{Library}
 
 apart : (bs cs ks : List ℕ) → bytes_eq bs cs ≡ false → bytes_eq bs ks ≡ true → bytes_eq cs ks ≡ false
 apart bs cs ks n y = nat_list_eq_equiv.symm cs ks ∙ sym (nat_list_eq_equiv.congr bs ks cs y) ∙ n
@@ -91,9 +90,8 @@ module _ (a b c d : Core) (keys : b.keys ≡ a.keys) (roots : b.live_roots ≡ a
 
   pub keys_around : (t : Transaction) → KeysAfter b t c → KeysAfter a t d
   keys_around (Import text) so = keeps so
-  keys_around (Start root process version starter key settings) so = λ indexed place newest.
-      starts root key (so (subst (λ (s : Imports). IsIndexed s.catalog) (sym store) indexed) place
-      (subst (λ (s : Imports). IsNewestVersion s.catalog.library process version place) (sym store) newest))
+  keys_around (Start root process version starter key settings) so = λ place newest.
+      starts root key (so place (subst (λ (s : Library). IsNewestVersion s process version place) (sym store) newest))
   keys_around (Turn number message) so = keeps so
   keys_around (Claim item who) so = keeps so
   keys_around (Release item who) so = keeps so

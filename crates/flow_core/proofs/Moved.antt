@@ -18,8 +18,6 @@ use Rattle.containers.specs.Settings.{filled}
 use Rattle.navigator.specs.Instances.{IsStarted, Starts}
 use Rattle.navigator.specs.declared.instance.HoldChange.TheVariants as hold
 use Rattle.navigator.specs.declared.instance.Instance.{Instance}
-use Rattle.process_rules.specs.Imports.{IsIndexed}
-use Rattle.template_store.specs.Store.{Imports}
 use Rattle.flow_core.specs.Answers.{instance_of}
 use Rattle.flow_core.specs.Driving.{templates, IsVersionAt, RunsAt, HasNoVersion, IsMade, StartsIn, BecomesStarted}
 use Rattle.flow_core.specs.Driving.{ChangesRoot, ChangesRoots, HoldsItem, Drives, put_in, queue_now}
@@ -73,7 +71,6 @@ starts c c1 c2 root process version starter key settings i started rest changes 
   queues = put_then c1 c2 (Begin (record { root = root; parts = [] }) ∷ []) c.queues (ap (λ (k : Core). k.live_roots) put) (ap (λ (k : Core). k.store) put) queues
       (ap (λ (k : Core). k.queues) rest);
   library = ap templates put ∙ ap templates rest;
-  indexed = subst (λ (s : Imports). IsIndexed c.store.catalog → IsIndexed s.catalog) (sym (ap (λ (k : Core). k.store) put ∙ ap (λ (k : Core). k.store) rest)) (λ is. is);
 }
 
 -- no root is started where the version isn't there
@@ -84,7 +81,6 @@ starts_none c root process version starter key settings none = record {
   roots = record { here = stays (instance_of c root); others = λ other apart. refl };
   queues = refl;
   library = refl;
-  indexed = λ is. is;
 }
   where
     stays : (o : Option Instance) → BecomesStarted (templates c) root process version starter settings [] o o
@@ -110,11 +106,11 @@ starts_in (Ok (Some i)) ts ts' template g input root process version starter sta
 
 -- a hold that changes is what a Release and a Transfer do
 pub released : {T E : Type 0} (r : Result T E) (c c' : Core) (item : Path) (who : Name) → OnOk r (HoldsItem c item hold.Nobody c') → OnOk r (Drives c (Release item who) c')
-released (Ok x) c c' item who h = record { given = []; roots = h.roots; queues = h.queues; library = h.library; indexed = h.indexed }
+released (Ok x) c c' item who h = record { given = []; roots = h.roots; queues = h.queues; library = h.library }
 released (Err e) c c' item who h = tt
 
 pub transferred : {T E : Type 0} (r : Result T E) (c c' : Core) (item : Path) (who to : Name) → OnOk r (HoldsItem c item (hold.Person to) c') → OnOk r (Drives c (Transfer item who to) c')
-transferred (Ok x) c c' item who to h = record { given = []; roots = h.roots; queues = h.queues; library = h.library; indexed = h.indexed }
+transferred (Ok x) c c' item who to h = record { given = []; roots = h.roots; queues = h.queues; library = h.library }
 transferred (Err e) c c' item who to h = tt
 
 -- ---- around a transaction
@@ -126,7 +122,7 @@ roots_earlier a n c t given (Some root) h = record { here = h.here; others = h.o
 
 -- numbers don't matter
 pub drives_earlier : (a n c : Core) (t : Transaction) → Drives (record a { number = n.number; roots = n.roots; kept_number = n.kept_number; kept_root = n.kept_root }) t c → Drives a t c
-drives_earlier a n c t h = record { given = h.given; roots = roots_earlier a n c t h.given (root_about t) h.roots; queues = h.queues; library = h.library; indexed = h.indexed }
+drives_earlier a n c t h = record { given = h.given; roots = roots_earlier a n c t h.given (root_about t) h.roots; queues = h.queues; library = h.library }
 
 -- nor does the number of roots so far, nor which transactions are live
 roots_counted : (a : Core) (r : ℕ) (c : Core) (t : Transaction) (given : List Message) (o : Option ℕ) → ChangesRoots (record a { roots = r }) t given o c → ChangesRoots a t given o c
@@ -138,10 +134,10 @@ roots_kept a c d t given None h = h
 roots_kept a c d t given (Some root) h = record { here = h.here; others = h.others }
 
 drives_counted : (a : Core) (r : ℕ) (c : Core) (t : Transaction) → Drives (record a { roots = r }) t c → Drives a t c
-drives_counted a r c t h = record { given = h.given; roots = roots_counted a r c t h.given (root_about t) h.roots; queues = h.queues; library = h.library; indexed = h.indexed }
+drives_counted a r c t h = record { given = h.given; roots = roots_counted a r c t h.given (root_about t) h.roots; queues = h.queues; library = h.library }
 
 drives_kept : (a c d : Core) (t : Transaction) → Drives a t c → Drives a t (record c { live = d.live })
-drives_kept a c d t h = record { given = h.given; roots = roots_kept a c d t h.given (root_about t) h.roots; queues = h.queues; library = h.library; indexed = h.indexed }
+drives_kept a c d t h = record { given = h.given; roots = roots_kept a c d t h.given (root_about t) h.roots; queues = h.queues; library = h.library }
 
 pub drives_around : (a b c d : Core) (t : Transaction) → b ≡ record a { roots = b.roots } → d ≡ record c { live = d.live } → Drives b t c → Drives a t d
 drives_around a b c d t before after h =
@@ -152,7 +148,7 @@ roots_numbered a n c t given None h = h
 roots_numbered a n c t given (Some root) h = record { here = h.here; others = h.others }
 
 pub drives_numbered : {T E : Type 0} (r : Result T E) (a : Core) (n : ℕ) (c : Core) (t : Transaction) → OnOk r (Drives (record a { number = n }) t c) → OnOk r (Drives a t c)
-drives_numbered (Ok x) a n c t h = record { given = h.given; roots = roots_numbered a n c t h.given (root_about t) h.roots; queues = h.queues; library = h.library; indexed = h.indexed }
+drives_numbered (Ok x) a n c t h = record { given = h.given; roots = roots_numbered a n c t h.given (root_about t) h.roots; queues = h.queues; library = h.library }
 drives_numbered (Err e) a n c t h = tt
 
 -- a root that was started from a template that is there runs at its place

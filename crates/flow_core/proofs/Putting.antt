@@ -6,7 +6,7 @@ use Rattle.std.specs.Prelude.{replicate, option_and_then, option_map}
 use Rattle.flow_model.specs.ScopeContainers.{graph_of}
 use Rattle.flow_model.specs.declared.instances.Message.{Message}
 use Rattle.recover_queue.specs.Queues.{queue, with_queue, root_of, is_quiet}
-use Rattle.template_store.specs.Store.{Imports}
+use Rattle.flow_model.specs.declared.graphs.Library.{Library}
 use Rattle.flow_core.specs.Answers.{instance_of}
 use Rattle.flow_core.specs.Driving.{put_in, queue_in, queue_now, templates, graph_now}
 use Rattle.flow_core.specs.declared.state.Core.{Core}
@@ -22,7 +22,7 @@ put_length f (x ∷ xs) qs = put_length f xs (with_queue qs (f x) (queue qs (f x
 -- two states with the same roots and library, and as many queues, put a message into the same queue
 pub same_queue : (b c : Core) → b.live_roots ≡ c.live_roots → b.store ≡ c.store → length b.queues ≡ length c.queues → queue_now b ≡ queue_now c
 same_queue b c roots store many =
-    ap (λ (s : Imports). λ m. queue_in s.catalog.library.templates (length b.queues) (option_and_then (λ i. graph_of s.catalog.library.templates i.template) (instance_of b (root_of m))) m) store
+    ap (λ (s : Library). λ m. queue_in s.templates (length b.queues) (option_and_then (λ i. graph_of s.templates i.template) (instance_of b (root_of m))) m) store
     ∙ ap (λ roots. λ m. queue_in (templates c) (length b.queues) (option_and_then (λ i. graph_of (templates c) i.template) (option_map (λ r. r.instance) (value_under (root_of m) roots))) m) roots
     ∙ ap (λ (n : ℕ). λ m. queue_in (templates c) n (graph_now c (root_of m)) m) many
 

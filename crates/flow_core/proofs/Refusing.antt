@@ -18,7 +18,7 @@ use Rattle.flow_model.specs.declared.transactions.Transaction.{Transaction}
 use Rattle.flow_model.specs.declared.transactions.Transaction.TheVariants as made
 use Rattle.flow_core.specs.Allowing.{Subject, subject_of, known_entry, IsKnown, IsOpen, IsAllowed}
 use Rattle.flow_core.specs.Driving.{item_of}
-use Rattle.flow_core.specs.Refusals.{between, first_of, full_test, item_test, on_item, tests_on_item, live_test, RefusesOnItem, newest_of, IsInOrder, IsNamed, IsFound, subject_in, IsRuleOf, IsFirstRefusal, StopsBy, StopsAs, IsStop}
+use Rattle.flow_core.specs.Refusals.{between, first_of, full_test, item_test, on_item, tests_on_item, live_test, RefusesOnItem, newest_of, IsNamed, IsFound, subject_in, IsRuleOf, IsFirstRefusal, StopsBy, StopsAs, IsStop}
 use Rattle.flow_core.specs.declared.items.Found.{Found}
 use Rattle.flow_core.specs.declared.refusals.Refusal.{Refusal}
 use Rattle.flow_core.specs.declared.refusals.Refusal.TheVariants as refused
@@ -140,11 +140,11 @@ force_allowed c f outcome (Err e) is opened = tt
 
 -- a START takes the newest version of its process
 pub start_for : {E : Type 0} (c : Core) (process starter : Name) (key : Option Name) (written : List RawSetting) (template : Template) (r : Result Transaction E)
-    → (IsInOrder c → newest_of c process ≡ Some template)
+    → newest_of c process ≡ Some template
     → IfOk r (λ t. (settings : List Setting) × (outcome_by (out-Graph template.graph).input None written ≡ Ok settings)
     × (t ≡ made.Start (next_root c) process template.version starter key settings)) → IfOk r (IsFor c (asked.Start process starter key written))
 start_for c process starter key written template (Ok t) newest is =
-    (template.version, is.0, λ order. record { template = template; newest = newest order; number = refl; set = is.1 }, is.2)
+    (template.version, is.0, record { template = template; newest = newest; number = refl; set = is.1 }, is.2)
 start_for c process starter key written template (Err e) newest is = tt
 
 -- ---- roots
@@ -174,7 +174,3 @@ pub found_there : (c : Core) (token : List ℕ) (path : Path) (o : Option Found)
 found_there c token path None spells none same known = inr (path, spells, none)
 found_there c token path (Some f) spells none same known =
     (subst (λ (p : Path). Spells (between token) p) (sym same) spells, subst (λ (p : Path). IsKnown c p f.known) (sym same) known)
-
--- each state is in order, as its catalog is
-pub in_order : (c : Core) → IsInOrder c
-in_order c = (c.store.catalog.templates_indexed, c.store.catalog.people_indexed)

@@ -68,11 +68,13 @@ module _ (ts : List Template) (process : Name) (version : ℕ) where
   none_some_at t place some none = absurd (none-some (get_or ts place t) (sym none ∙ some))
 
   -- what a search says
-  pub searched : (r : Option ℕ) → (length ts ≤ 2 ^ 32 → r ≡ position (is_version process version) ts) → IfSome r (λ place. position (is_version process version) ts ≡ Some place)
-      → IsVersionPlace ts process version r
-  searched None exact there = λ small place at_. none_there (sym (exact small)) place at_
-  searched (Some place) exact there = found (slice_get ts place) refl
+  pub searched : (r : Option ℕ) → r ≡ position (is_version process version) ts → IsVersionPlace ts process version r
+  searched None exact = none_there (sym exact)
+  searched (Some place) exact = found (slice_get ts place) refl
     where
+      there : position (is_version process version) ts ≡ Some place
+      there = sym exact
+
       found : (o : Option Template) → slice_get ts place ≡ o → IsVersionAt ts process version place
       found None is = elim (first_or ts) [
         | inl t ↦ none_some_at t place (slice_get-get_or ts place t (position-Some (is_version process version) ts place t there).0) is

@@ -19,7 +19,6 @@ use Rattle.navigator.specs.declared.instance.Instance.{Instance}
 use Rattle.navigator.specs.declared.instance.Item.{Item}
 use Rattle.navigator.specs.declared.scopes.ScopeState.{out-ScopeState}
 use Rattle.recover_queue.specs.Queues.{is_quiet}
-use Rattle.process_rules.specs.Imports.{IsIndexed}
 use Rattle.staff_worklists.specs.Standing.{item_in}
 use Rattle.staff_worklists.specs.declared.worklists.Shelf.{Shelf}
 use Rattle.template_check.specs.Judged.{IsFaultless}
@@ -124,7 +123,7 @@ IsFaultlessImport library t = Unit {0}
 -- an Import has a text that breaks no rule, a Turn takes the front of its queue, and a completion is of an item that is
 -- open
 abbrev pub IsAsked : Core → Transaction → Type 0
-IsAsked c (Import text) = IsFaultlessImport c.store.catalog.library (Import text)
+IsAsked c (Import text) = IsFaultlessImport c.store (Import text)
 IsAsked c (Turn queue message) = IsFront c queue message
 IsAsked c (Done item who settings) = IsOpen c item
 IsAsked c (Force item settings) = IsOpen c item
@@ -143,15 +142,14 @@ pub record IsAllowed (c : Core) (t : Transaction) : Type 0 where
 
 -- ---- a state before any transaction
 
--- no root and no transaction is live, no message is queued, no template and no person was imported, and so names lead
--- to nothing; no item is listed, no key is in use, and the clock stands at 0
+-- no root and no transaction is live, no message is queued, no template and no person was imported, no item is listed,
+-- no key is in use, and the clock stands at 0
 pub record IsBlank (c : Core) : Type 0 where
   pub roots : (root : ℕ) → instance_of c root ≡ None
   pub queues : IsTrue (is_quiet c.queues)
   pub library : templates c ≡ []
-  pub people : c.store.catalog.library.people ≡ []
+  pub people : c.store.people ≡ []
   pub clock : c.clock ≡ 0
   pub keys : c.keys.entries ≡ []
-  pub indexed : IsIndexed c.store.catalog
   pub live : c.live.items ≡ []
   pub unlisted : (shelf : Shelf) (rank : List ℕ) → item_in c.worklists.shelves shelf rank ≡ None

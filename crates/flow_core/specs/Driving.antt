@@ -29,17 +29,16 @@ use Rattle.navigator.specs.declared.instance.Instance.{Instance}
 use Rattle.recover_queue.specs.Queues.{root_of as root_of_message, queue, with_queue}
 use Rattle.root_laws.specs.Becoming.{TakesIn, CompletesIn, HoldsIn}
 use Rattle.flow_model.specs.declared.graphs.Library.{Library}
-use Rattle.process_rules.specs.declared.catalog.Catalog.{Catalog}
 use Rattle.template_check.specs.Built.{AreSound}
 use Rattle.template_store.specs.Store.{AddsText}
-use Rattle.process_rules.specs.Imports.{IsIndexed, newest_place}
+use Rattle.process_rules.specs.Imports.{newest_place}
 use Rattle.flow_core.specs.Answers.{instance_of}
 use Rattle.flow_core.specs.Summaries.{root_about}
 use Rattle.flow_core.specs.declared.state.Core.{Core}
 
 -- the templates of the imports so far
 abbrev pub templates : Core → List Template
-templates c = c.store.catalog.library.templates
+templates c = c.store.templates
 
 -- ---- what happens to one root
 
@@ -50,9 +49,9 @@ pub record IsVersionAt (ts : List Template) (process : Name) (version place : �
   pub name : template.name ≡ process
   pub number : template.version ≡ version
 
--- there is no such version, in a library whose places have 32 bits
+-- there is no such version
 abbrev pub HasNoVersion : List Template → Name → ℕ → Type 0
-HasNoVersion ts process version = length ts ≤ 2 ^ 32 → (place : ℕ) → IsVersionAt ts process version place → ⊥
+HasNoVersion ts process version = (place : ℕ) → IsVersionAt ts process version place → ⊥
 
 -- it is started by this version of a process, with these settings in its input
 pub record StartsIn (ts : List Template) (root : ℕ) (process : Name) (version : ℕ) (starter : Name)
@@ -81,9 +80,8 @@ pub record IsNewestVersion (library : Library) (process : Name) (version place :
   pub version_at : IsVersionAt library.templates process version place
 
 -- this is so of the place of the newest template, where a Start has its version
-abbrev pub IfNewest : Catalog → Name → ℕ → (ℕ → Type 0) → Type 0
-IfNewest catalog process version fact =
-    IsIndexed catalog → (place : ℕ) → IsNewestVersion catalog.library process version place → fact place
+abbrev pub IfNewest : Library → Name → ℕ → (ℕ → Type 0) → Type 0
+IfNewest library process version fact = (place : ℕ) → IsNewestVersion library process version place → fact place
 
 -- a root that was started is there and runs the template at this place
 abbrev pub RunsAt : ℕ → Option Instance → Type 0
@@ -260,10 +258,10 @@ abbrev pub LibraryAfter : Transaction → List Template → List Template → Ty
 LibraryAfter (Import text) ts ts' = ((more : List Template) × (ts' ≡ ts ++ more)) × (AreSound ts → AreSound ts')
 LibraryAfter t ts ts' = ts' ≡ ts
 
--- the library and its names after a transaction: an Import adds what its text compiles to; every other transaction
--- leaves the templates, the people and where their names lead as they were
-abbrev pub StoreAfter : Transaction → Catalog → Catalog → Type 0
-StoreAfter (Import text) old new = AddsText text old new.library
+-- the library after a transaction: an Import adds what its text compiles to; every other transaction leaves the
+-- templates and the people as they were
+abbrev pub StoreAfter : Transaction → Library → Library → Type 0
+StoreAfter (Import text) old new = AddsText text old new
 StoreAfter t old new = new ≡ old
 
 -- ---- the clock
@@ -280,7 +278,6 @@ pub record HoldsItem (c : Core) (item : Path) (change : HoldChange) (c' : Core) 
   pub roots : ChangesRoot item.root (BecomesQuietly (HoldsIn (templates c) item change) []) c c'
   pub queues : c'.queues ≡ c.queues
   pub library : templates c' ≡ templates c
-  pub indexed : IsIndexed c.store.catalog → IsIndexed c'.store.catalog
 
 -- an item is completed with these settings in its output, and what follows is put
 pub record CompletesItem (c : Core) (item : Path) (settings : List Setting) (c' : Core) : Type 0 where
@@ -288,17 +285,14 @@ pub record CompletesItem (c : Core) (item : Path) (settings : List Setting) (c' 
   pub roots : ChangesRoot item.root (BecomesCompleted (templates c) item settings (item_of c item) given) c c'
   pub queues : c'.queues ≡ put_in (queue_now c') given c.queues
   pub library : templates c' ≡ templates c
-  pub indexed : IsIndexed c.store.catalog → IsIndexed c'.store.catalog
 
--- it changes its root alone, what it gives is put into the queues, behind what it has left there, the library is the
--- one after
--- it, and names go on to lead to the newest of it
+-- it changes its root alone, what it gives is put into the queues, behind what it has left there, and the library is
+-- the one after it
 pub record Drives (c : Core) (t : Transaction) (c' : Core) : Type 0 where
   pub given : List Message
   pub roots : ChangesRoots c t given (root_about t) c'
   pub queues : c'.queues ≡ put_in (queue_now c') given (taken_by t c.queues)
   pub library : LibraryAfter t (templates c) (templates c')
-  pub indexed : IsIndexed c.store.catalog → IsIndexed c'.store.catalog
 
 -- the message that a Turn takes, with its queue
 abbrev pub turn_of : Transaction → Option (ℕ × Message)

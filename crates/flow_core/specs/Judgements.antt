@@ -2,7 +2,7 @@
 use Rattle.std.specs.Prelude.{◌≡◌, ◌<◌, Some, None}
 use Rattle.flow_model.specs.declared.commands.Command.{Command}
 use Rattle.flow_core.specs.Allowing.{IsAllowed}
-use Rattle.flow_core.specs.Refusals.{IsRefusal, same_root}
+use Rattle.flow_core.specs.Refusals.{IsFirstRefusal, same_root}
 use Rattle.flow_core.specs.Verdicts.{IsFor}
 use Rattle.flow_core.specs.declared.judging.Verdict.{Verdict}
 use Rattle.flow_core.specs.declared.judging.Verdict.TheVariants.{Do, Same, Refused}
@@ -12,6 +12,6 @@ use Rattle.flow_core.specs.declared.state.Core.{Core}
 -- limit, where it may be
 abbrev pub IsVerdict : Core → Command → Verdict → Type 0
 IsVerdict c command (Do t) =
-    (c.number < c.limit) × IsFor c command t × IsAllowed c t × (same_root c command ≡ None) × IsRefusal c command None
+    (c.number < c.limit) × IsFor c command t × IsAllowed c t × (same_root c command ≡ None) × IsFirstRefusal c command None
 IsVerdict c command (Same root) = same_root c command ≡ Some root
-IsVerdict c command (Refused refusal) = (same_root c command ≡ None) × IsRefusal c command (Some refusal)
+IsVerdict c command (Refused refusal) = (same_root c command ≡ None) × IsFirstRefusal c command (Some refusal)

@@ -48,7 +48,7 @@ FreesKey root c c' =
 abbrev pub KeysAfter : Core → Transaction → Core → Type 0
 KeysAfter c (Import text) c' = KeepsKeys c c'
 KeysAfter c (Start root process version starter key settings) c' =
-    IfNewest c.store.catalog process version (λ place. StartsKey root key c c')
+    IfNewest c.store process version (λ place. StartsKey root key c c')
 KeysAfter c (Turn queue message) c' = KeepsKeys c c'
 KeysAfter c (Claim item who) c' = KeepsKeys c c'
 KeysAfter c (Release item who) c' = KeepsKeys c c'

@@ -96,7 +96,7 @@ open_in c row = option_and_then (λ j. open_at c (attempt_of row j)) (attempt_le
 abbrev pub AreOpenIf : Core → Instance → Bool → List Open → Type 0
 AreOpenIf c i false opens = opens ≡ []
 AreOpenIf c i true opens =
-    (rows : List FateRow) × AreRowsOf c.store.catalog.library i rows × (opens ≡ filter_map (open_in c) rows)
+    (rows : List FateRow) × AreRowsOf c.store i rows × (opens ≡ filter_map (open_in c) rows)
 
 abbrev pub AreOpenOf : Core → Instance → List Open → Type 0
 AreOpenOf c i opens = AreOpenIf c i (is_going (mode_in i)) opens

@@ -32,7 +32,7 @@ use Rattle.staff_worklists.specs.Rights.{is_eligible, is_running, claim_answer, 
 use Rattle.staff_worklists.specs.Rights.{taking_answer, done_answer}
 use Rattle.staff_worklists.specs.declared.rights.StaffFault.{StaffFault}
 use Rattle.staff_worklists.specs.declared.rights.StaffFault.TheVariants as fault
-use Rattle.process_rules.specs.Imports.{IsIndexed, newest_place, latest_person}
+use Rattle.process_rules.specs.Imports.{newest_place, latest_person}
 use Rattle.template_check.specs.Judged.{line_at, IsFaultless, IsRefused as IsTextRefused}
 use Rattle.flow_core.specs.Allowing.{Subject, subject_of, IsThere, IsKnown, mode_in}
 use Rattle.flow_core.specs.Answers.{instance_of}
@@ -52,12 +52,6 @@ first_of (test ∷ tests) = option_or test (first_of tests)
 -- a test that refuses unless this is so
 abbrev pub unless : Bool → Refusal → Option Refusal
 unless passes refusal = if passes then None else Some refusal
-
--- ---- what the answers are exact for
-
--- a state is in order where names lead to the newest templates and the latest people; so is each state, as its catalog is
-abbrev pub IsInOrder : Core → Type 0
-IsInOrder c = IsIndexed c.store.catalog
 
 -- ---- tokens
 
@@ -83,7 +77,7 @@ number_test c = unless (nat_lt (c.roots + 1) (2 ^ 64)) (refused.Full c.limit)
 
 -- who a name means: the latest declaration
 abbrev pub person_of : Core → Name → Option PersonDef
-person_of c name = latest_person c.store.catalog.library name
+person_of c name = latest_person c.store name
 
 -- the person is declared, else PERSON
 abbrev pub person_test : Core → Name → Option Refusal
@@ -97,7 +91,7 @@ who_test c (who.Agent take) = None
 -- what a process name means: its newest template
 abbrev pub newest_of : Core → Name → Option Template
 newest_of c process =
-    option_and_then (λ place. slice_get (templates c) place) (newest_place c.store.catalog.library process)
+    option_and_then (λ place. slice_get (templates c) place) (newest_place c.store process)
 
 -- the process is there, else PROCESS
 abbrev pub process_test : Core → Name → Option Refusal
@@ -279,9 +273,9 @@ RefusesOnItem c people token test refusal =
 
 -- the first rule that a text breaks, with the line of its least place; it has none exactly where it is accepted
 abbrev pub IsRuleOf : Core → List ℕ → Option Refusal → Type 0
-IsRuleOf c text None = IsFaultless c.store.catalog.library text
+IsRuleOf c text None = IsFaultless c.store text
 IsRuleOf c text (Some refusal) =
-    (rule : ℕ) × (place : ℕ) × IsTextRefused c.store.catalog.library text rule place
+    (rule : ℕ) × (place : ℕ) × IsTextRefused c.store text rule place
     × (refusal ≡ refused.Rule rule (line_at text place))
 
 -- the first refusal of a command, or that it has none; of what makes no transaction nothing is told
@@ -316,20 +310,6 @@ IsFirstRefusal c (asked.Clock number) refusal =
     refusal ≡ first_of (minutes_test number ∷ clock_test c number.size ∷ full_test c ∷ [])
 IsFirstRefusal c asked.Checkpoint refusal = ⊥
 IsFirstRefusal c (asked.Ask query) refusal = ⊥
-
--- what is asked of a state: where a name is looked up in the library, that it is in order
-abbrev pub IsOrderFor : Core → Command → Type 0
-IsOrderFor c (asked.Import text) = IsInOrder c
-IsOrderFor c (asked.Start process starter key written) = IsInOrder c
-IsOrderFor c (asked.Claim token name) = IsInOrder c
-IsOrderFor c (asked.Release token name) = IsInOrder c
-IsOrderFor c (asked.Transfer token from to) = IsInOrder c
-IsOrderFor c (asked.Done token by outcome) = IsInOrder c
-IsOrderFor c command = Unit {0}
-
--- a command is refused so, or not, in such a state
-abbrev pub IsRefusal : Core → Command → Option Refusal → Type 0
-IsRefusal c command refusal = IsOrderFor c command → IsFirstRefusal c command refusal
 
 -- the live root that has the key of a START
 abbrev pub same_root : Core → Command → Option ℕ

@@ -248,7 +248,7 @@ CompletesExactly c item performer settings (Some e) c' =
 -- a Start runs the newest template of its name, where that has the version of the Start
 abbrev pub StartsNewest : Core → ℕ → Name → ℕ → Core → Type 0
 StartsNewest c root process version c' =
-    IfNewest c.store.catalog process version (λ place. RunsAt place (instance_of c' root))
+    IfNewest c.store process version (λ place. RunsAt place (instance_of c' root))
 
 -- the transactions whose next state needs more than Drives and Shelves: what follows from a Turn or a completion is
 -- what is put, and a Start takes the newest template

@@ -24,7 +24,7 @@ use Rattle.flow_model.specs.declared.names.Name.{Name}
 use Rattle.navigator.specs.Items.{Entry}
 pub use Rattle.flow_core.specs.Driving.{IsFront}
 use Rattle.flow_core.specs.Driving.{templates, item_of}
-use Rattle.flow_core.specs.Refusals.{between, newest_of, IsInOrder}
+use Rattle.flow_core.specs.Refusals.{between, newest_of}
 use Rattle.flow_core.specs.declared.applying.Note.{Note}
 use Rattle.flow_core.specs.declared.applying.Note.TheVariants as note
 use Rattle.flow_core.specs.declared.state.Core.{Core}
@@ -58,7 +58,7 @@ pub record IsNextTake (c : Core) (path : Path) (take : ℕ) : Type 0 where
 abbrev pub IsFor : Core → Command → Transaction → Type 0
 IsFor c (Import text) t = t ≡ made.Import text
 IsFor c (Start process starter key written) t =
-    (version : ℕ) × (settings : List Setting) × (IsInOrder c → IsNewestFor c process written version settings)
+    (version : ℕ) × (settings : List Setting) × IsNewestFor c process written version settings
     × (t ≡ made.Start (next_root c) process version starter key settings)
 IsFor c (Turn queue) t = (message : Message) × IsFront c queue message × (t ≡ made.Turn queue message)
 IsFor c Drain t = ⊥

@@ -6,7 +6,7 @@ ghost use Rattle.flow_core.specs.Admitting.{IsKeptNumber, IsNextNumber, IsKeptKi
 ghost use Rattle.flow_core.specs.Admitting.{root_with as keyed_root};
 ghost use Rattle.flow_core.specs.Allowing.{subject_of, IsKnown, IsOpen, IsFree, CountsRoot, IsAsked, IsAskedAt};
 ghost use Rattle.flow_core.specs.Allowing.{IsAllowed, IsPassed};
-ghost use Rattle.flow_core.specs.Refusals.{person_test, who_test, IsInOrder, IsRuleOf, StopsBy};
+ghost use Rattle.flow_core.specs.Refusals.{person_test, who_test, IsRuleOf, StopsBy};
 ghost use Rattle.flow_core.specs.declared.refusals.Refusal.{Refusal as RefusalOf};
 ghost use Rattle.flow_model.specs.declared.transactions.Transaction.TheVariants as made;
 ghost use Rattle.flow_model.specs.declared.instances.Path.{Path as PathOf};
@@ -66,8 +66,8 @@ impl Core {
     fn allows_import(&mut self, text: &[u8]) -> Result<bool, AllocError>
         ensures same { self.new ≡ self.old }
         ensures asked { IfOk result (λ allowed. IsTrue allowed
-            → IsFaultless self.old.store.catalog.library text.now) }
-        ensures told { IsInOrder self.old → IfOk result (λ allowed. (rule : Option RefusalOf)
+            → IsFaultless self.old.store text.now) }
+        ensures told { IfOk result (λ allowed. (rule : Option RefusalOf)
             × IsRuleOf self.old text.now rule × (allowed ≡ is_none rule)) }
     {
         match self.store.check(self.alloc, text) {
@@ -86,7 +86,7 @@ impl Core {
         key: Option<&Name>,
         settings: &[Setting],
     ) -> bool
-        ensures { IsInOrder self.now → IsTrue result ↔ IsStartDue self.now process.now version starter.now
+        ensures { IsTrue result ↔ IsStartDue self.now process.now version starter.now
             (option_copied key.entry) settings.now }
     {
         let Some(template) = self.newest(process) else {
@@ -106,7 +106,7 @@ impl Core {
 
     /// Whether a person is declared.
     fn is_person(&self, name: &Name) -> bool
-        ensures { IsInOrder self.now → IsTrue result ↔ (person_test self.now name.now ≡ None) }
+        ensures { IsTrue result ↔ (person_test self.now name.now ≡ None) }
     {
         self.store.person(name).is_some()
     }
@@ -141,8 +141,7 @@ impl Core {
     }
 
     fn allows_claim(&self, known: &Known<'_>, who: &Name) -> Result<bool, AllocError>
-        ensures { (item : PathOf) → IsInOrder self.now
-            → IfOk result (λ allowed. IsTrue allowed ↔ IsDueAt self.now (subject_of known.now)
+        ensures { (item : PathOf) → IfOk result (λ allowed. IsTrue allowed ↔ IsDueAt self.now (subject_of known.now)
             (made.Claim item who.now)) }
     {
         match self.store.person(who) {
@@ -152,8 +151,7 @@ impl Core {
     }
 
     fn allows_transfer(&self, known: &Known<'_>, from: &Name, to: &Name) -> Result<bool, AllocError>
-        ensures { (item : PathOf) → IsInOrder self.now
-            → IfOk result (λ allowed. IsTrue allowed ↔ IsDueAt self.now (subject_of known.now)
+        ensures { (item : PathOf) → IfOk result (λ allowed. IsTrue allowed ↔ IsDueAt self.now (subject_of known.now)
             (made.Transfer item from.now to.now)) }
     {
         if !self.is_person(from) {
@@ -166,8 +164,7 @@ impl Core {
     }
 
     fn allows_release(&self, known: &Known<'_>, who: &Name) -> Result<bool, AllocError>
-        ensures { (item : PathOf) → IsInOrder self.now
-            → IfOk result (λ allowed. IsTrue allowed ↔ IsDueAt self.now (subject_of known.now)
+        ensures { (item : PathOf) → IfOk result (λ allowed. IsTrue allowed ↔ IsDueAt self.now (subject_of known.now)
             (made.Release item who.now)) }
     {
         if !self.is_person(who) {
@@ -188,7 +185,7 @@ impl Core {
 
     /// Whether the one who completes an item is declared; an agent has no name.
     fn is_declared(&self, who: &Who) -> bool
-        ensures { IsInOrder self.now → IsTrue result ↔ (who_test self.now who.now ≡ None) }
+        ensures { IsTrue result ↔ (who_test self.now who.now ≡ None) }
     {
         match who {
             Who::Person(name) => self.is_person(name),
@@ -204,8 +201,7 @@ impl Core {
     ) -> Result<bool, AllocError>
         ensures opened { (item : PathOf) → IsKnown self.now item known.now
             → IfOk result (λ allowed. IsTrue allowed → IsOpen self.now item) }
-        ensures due { (item : PathOf) → IsInOrder self.now
-            → IfOk result (λ allowed. IsTrue allowed ↔ IsDueAt self.now (subject_of known.now)
+        ensures due { (item : PathOf) → IfOk result (λ allowed. IsTrue allowed ↔ IsDueAt self.now (subject_of known.now)
             (made.Done item who.now settings.now)) }
     {
         if !self.is_declared(who) {
@@ -233,7 +229,7 @@ impl Core {
     fn allows_on(&self, known: &Known<'_>, t: &Transaction) -> Result<bool, AllocError>
         ensures asked { (item : PathOf) → IsKnown self.now item known.now
             → IfOk result (λ allowed. IsTrue allowed → IsAskedAt self.now item t.now) }
-        ensures due { IsInOrder self.now → IfOk result (λ allowed. IsTrue allowed ↔ IsDueAt self.now
+        ensures due { IfOk result (λ allowed. IsTrue allowed ↔ IsDueAt self.now
             (subject_of known.now) t.now) }
     {
         match t {
@@ -252,7 +248,7 @@ impl Core {
 
     fn allows_item(&self, item: &Path, t: &Transaction) -> Result<bool, AllocError>
         ensures asked { IfOk result (λ allowed. IsTrue allowed → IsAskedAt self.now item.now t.now) }
-        ensures due { IsInOrder self.now → IfOk result (λ allowed. IsTrue allowed ↔ IsItemDue self.now item.now t.now) }
+        ensures due { IfOk result (λ allowed. IsTrue allowed ↔ IsItemDue self.now item.now t.now) }
     {
         match self.known(item) {
             None => Ok(false),
@@ -273,7 +269,7 @@ impl Core {
     fn allows(&mut self, t: &Transaction) -> Result<bool, AllocError>
         ensures same { self.new ≡ self.old }
         ensures asked { IfOk result (λ allowed. IsTrue allowed → IsAsked self.old t.now) }
-        ensures due { IsInOrder self.old → IfOk result (IsTold self.old t.now) }
+        ensures due { IfOk result (IsTold self.old t.now) }
     {
         match t {
             Transaction::Import(text) => self.allows_import(text.as_slice()),
@@ -363,10 +359,8 @@ impl Core {
             → Follows self.old.kept (summary self.old) (record { number = number; transaction = t.now })) }
         ensures free { IfOk result (λ allowed. IsTrue allowed → IfSome (started t.now) (IsFree self.old)) }
         ensures asked { IfOk result (λ allowed. IsTrue allowed → IsAsked self.old t.now) }
-        ensures admitted { IsInOrder self.old
-            → IfOk result (λ allowed. IsTrue allowed → IsAdmitted self.old number t.now) }
-        ensures refused { IsInOrder self.old
-            → IfOk result (λ allowed. IsFalse allowed → IsRefused self.old number t.now) }
+        ensures admitted { IfOk result (λ allowed. IsTrue allowed → IsAdmitted self.old number t.now) }
+        ensures refused { IfOk result (λ allowed. IsFalse allowed → IsRefused self.old number t.now) }
     {
         if !self.allows_place(number, t) {
             return Ok(false);
@@ -410,12 +404,11 @@ impl Core {
         ensures drives { OnOk result (Drives self.old t self.new) }
         ensures shelves { OnOk result (Shelves self.old t self.new) }
         ensures counts { OnOk result (CountsRoot self.old t self.new) }
-        ensures admitted { IsInOrder self.old → OnOk result (IsAdmitted self.old number t) }
-        ensures refused { IsInOrder self.old
-            → IfErr result (λ fault. fault ≡ NotAllowed → IsRefused self.old number t) }
+        ensures admitted { OnOk result (IsAdmitted self.old number t) }
+        ensures refused { IfErr result (λ fault. fault ≡ NotAllowed → IsRefused self.old number t) }
         ensures unchanged { IfErr result (λ fault. fault ≡ NotAllowed → self.new ≡ self.old) }
         ensures clock { OnOk result (self.new.clock ≡ clock_after t self.old.clock) }
-        ensures store { OnOk result (StoreAfter t self.old.store.catalog self.new.store.catalog) }
+        ensures store { OnOk result (StoreAfter t self.old.store self.new.store) }
         ensures keys { OnOk result (KeysAfter self.old t self.new) }
         ensures kept_number { OnOk result (self.new.kept_number
             ≡ last_number self.old.kept number self.old.kept_number) }

@@ -1,6 +1,6 @@
 //! Replies to queries and to transactions.
 ghost use Rattle.std.specs.Prelude.{◌≡◌, ◌++◌, Some, OnOk, IfOk};
-ghost use Rattle.process_rules.specs.Imports.{IsIndexed, latest_person};
+ghost use Rattle.process_rules.specs.Imports.{latest_person};
 ghost use Rattle.flow_core.specs.Replies.{note_text, applied_text, refusal_text};
 ghost use Rattle.flow_core.specs.Answers.{templates_text as text_of_templates, queue_answer, audit_answer, instance_of};
 ghost use Rattle.flow_core.specs.Answers.{mode_now, IsShown, IsListed};
@@ -67,7 +67,7 @@ impl Core {
     }
 
     fn view_of(&self, root: u64, instance: &Instance) -> Result<Vec<u8>, AllocError>
-        ensures { IfOk result (λ out. IsShown self.now.store.catalog.library root (Some instance.now) out.items) }
+        ensures { IfOk result (λ out. IsShown self.now.store root (Some instance.now) out.items) }
     {
         let rows = self.rows_in(self.alloc, instance)?;
         let mut out = Vec::new(self.alloc);
@@ -76,7 +76,7 @@ impl Core {
     }
 
     fn show(&self, root: u64) -> Result<Vec<u8>, AllocError>
-        ensures { IfOk result (λ out. IsShown self.now.store.catalog.library root
+        ensures { IfOk result (λ out. IsShown self.now.store root
             (instance_of self.now root) out.items) }
     {
         match self.instance(root) {
@@ -181,8 +181,7 @@ impl Core {
     }
 
     fn worklist_text(&self, name: &Name) -> Result<Vec<u8>, AllocError>
-        ensures { IfOk result (λ out. IsIndexed self.now.store.catalog
-            → IsListed self.now name.now (latest_person self.now.store.catalog.library name.now) out.items) }
+        ensures { IfOk result (λ out. IsListed self.now name.now (latest_person self.now.store name.now) out.items) }
     {
         match self.store.person(name) {
             None => self.refused(&Refusal::Person(name.copy(self.alloc)?)),
@@ -214,7 +213,7 @@ impl Core {
     }
 
     fn templates_text(&self) -> Result<Vec<u8>, AllocError>
-        ensures { IfOk result (λ out. out.items ≡ text_of_templates self.now.store.catalog.library.templates) }
+        ensures { IfOk result (λ out. out.items ≡ text_of_templates self.now.store.templates) }
     {
         let mut out = Vec::new(self.alloc);
         write_templates(&mut out, self.library().templates.as_slice())?;

@@ -4,7 +4,6 @@ ghost use Rattle.std.specs.Prelude.{IsTrue, if◌then◌else◌};
 ghost use Rattle.flow_model.specs.declared.instances.Message.{Message as MessageOf};
 ghost use Rattle.flow_model.specs.declared.instances.Mode.TheVariants as modes;
 ghost use Rattle.flow_core.specs.Verdicts.{fate_now, IsNoteOf, IsFront};
-ghost use Rattle.process_rules.specs.Imports.{IsIndexed};
 ghost use Rattle.template_check.specs.Judged.{IsFaultless};
 ghost use Rattle.flow_core.specs.declared.applying.Note.TheVariants as notes;
 ghost use Rattle.containers.specs.Settings.{filled};
@@ -209,15 +208,14 @@ impl Core {
 
     /// Adds a text to the library.
     fn import(&mut self, text: &Bytes) -> Result<Note, AllocError>
-        requires { IsFaultless self.old.store.catalog.library text.now }
+        requires { IsFaultless self.old.store text.now }
         ensures kept { noted self.new ≡ noted self.old }
         ensures rest { self.new ≡ record self.old { store = self.new.store } }
         ensures library { OnOk result (LibraryAfter (made.Import text.now) (templates self.old) (templates self.new)) }
-        ensures indexed { OnOk result (IsIndexed self.old.store.catalog → IsIndexed self.new.store.catalog) }
         ensures shelves { SameStanding (stands self.new) (stands self.old) }
         ensures note { IfOk result (IsNoteOf self.old (made.Import text.now) self.new) }
         ensures clock { OnOk result (self.new.clock ≡ self.old.clock) }
-        ensures store { OnOk result (StoreAfter (made.Import text.now) self.old.store.catalog self.new.store.catalog) }
+        ensures store { OnOk result (StoreAfter (made.Import text.now) self.old.store self.new.store) }
         ensures keys { KeepsKeys self.old self.new }
     {
         match self.store.import(self.alloc, text.as_slice()) {
@@ -243,7 +241,7 @@ impl Core {
     /// The place of this version of a process; it is mostly the newest.
     fn version_place(&self, process: &Name, version: u32) -> Option<u32>
         ensures version { IsVersionPlace (templates self.now) process.now version result }
-        ensures newest { IfNewest self.now.store.catalog process.now version (λ place. result ≡ Some place) }
+        ensures newest { IfNewest self.now.store process.now version (λ place. result ≡ Some place) }
     {
         match self.store.newest(process) {
             Some(place) if self.is_version(place, process, version) => Some(place),
@@ -262,7 +260,7 @@ impl Core {
     ) -> Result<Option<Instance>, AllocError>
         ensures made { IfOk result
             (λ made. IsMade (templates self.now) root process.now version starter.now settings.now made) }
-        ensures placed { IfNewest self.now.store.catalog process.now version (λ place. IfOk result (RunsAt place)) }
+        ensures placed { IfNewest self.now.store process.now version (λ place. IfOk result (RunsAt place)) }
     {
         let Some(place) = self.version_place(process, version) else {
             return Ok(None);
@@ -324,10 +322,10 @@ impl Core {
         ensures shelves { OnOk result (SameStanding (stands self.new) (stands self.old)) }
         ensures note { IfOk result (λ n. n ≡ notes.Rooted root) }
         ensures clock { OnOk result (self.new.clock ≡ self.old.clock) }
-        ensures store { OnOk result (self.new.store.catalog ≡ self.old.store.catalog) }
-        ensures keys { OnOk result (IfNewest self.old.store.catalog process.now version
+        ensures store { OnOk result (self.new.store ≡ self.old.store) }
+        ensures keys { OnOk result (IfNewest self.old.store process.now version
             (λ place. StartsKey root (option_copied key.entry) self.old self.new)) }
-        ensures placed { IfNewest self.old.store.catalog process.now version
+        ensures placed { IfNewest self.old.store process.now version
             (λ place. OnOk result (RunsAt place (instance_of self.new root))) }
     {
         let made = self.new_instance(root, process, version, starter, settings)?;
@@ -399,7 +397,7 @@ impl Core {
         ensures shelves { OnOk result ((message : MessageOf) → IsFront self.old queue message
             → TurnShelves self.old message self.new) }
         ensures clock { OnOk result (self.new.clock ≡ self.old.clock) }
-        ensures store { OnOk result (self.new.store.catalog ≡ self.old.store.catalog) }
+        ensures store { OnOk result (self.new.store ≡ self.old.store) }
         ensures keys { OnOk result (KeepsKeys self.old self.new) }
         ensures exact { OnOk result ((message : MessageOf) → IsFront self.old queue message
             → ExactTurn self.old queue message self.new) }
@@ -468,7 +466,7 @@ impl Core {
             (item_of self.old item.now) self.new) }
         ensures note { IfOk result (λ n. n ≡ notes.Fated (fate_now self.new item.now)) }
         ensures clock { OnOk result (self.new.clock ≡ self.old.clock) }
-        ensures store { OnOk result (self.new.store.catalog ≡ self.old.store.catalog) }
+        ensures store { OnOk result (self.new.store ≡ self.old.store) }
         ensures keys { OnOk result (KeepsKeys self.old self.new) }
         ensures exact { OnOk result
             (CompletesExactly self.old item.now performer settings.now (item_of self.old item.now) self.new) }
@@ -522,7 +520,7 @@ impl Core {
         ensures shelves { OnOk result (HoldShelves self.old item.now self.new) }
         ensures note { IfOk result (λ n. n ≡ notes.Fated (fate_now self.new item.now)) }
         ensures clock { OnOk result (self.new.clock ≡ self.old.clock) }
-        ensures store { OnOk result (self.new.store.catalog ≡ self.old.store.catalog) }
+        ensures store { OnOk result (self.new.store ≡ self.old.store) }
         ensures keys { OnOk result (KeepsKeys self.old self.new) }
     {
         let who = who.copy(self.alloc)?;
@@ -536,7 +534,7 @@ impl Core {
         ensures shelves { OnOk result (HoldShelves self.old item.now self.new) }
         ensures note { IfOk result (λ n. n ≡ notes.Taken take) }
         ensures clock { OnOk result (self.new.clock ≡ self.old.clock) }
-        ensures store { OnOk result (self.new.store.catalog ≡ self.old.store.catalog) }
+        ensures store { OnOk result (self.new.store ≡ self.old.store) }
         ensures keys { OnOk result (KeepsKeys self.old self.new) }
     {
         self.change_hold(item, HoldChange::Agent)?;
@@ -549,7 +547,7 @@ impl Core {
         ensures shelves { OnOk result (HoldShelves self.old item.now self.new) }
         ensures note { IfOk result (λ n. n ≡ notes.Fated (fate_now self.new item.now)) }
         ensures clock { OnOk result (self.new.clock ≡ self.old.clock) }
-        ensures store { OnOk result (self.new.store.catalog ≡ self.old.store.catalog) }
+        ensures store { OnOk result (self.new.store ≡ self.old.store) }
         ensures keys { OnOk result (KeepsKeys self.old self.new) }
     {
         self.change_hold(item, HoldChange::Nobody)?;
@@ -588,7 +586,7 @@ impl Core {
         ensures shelves { OnOk result (SameStanding (stands self.new) (without_items root (stands self.old))) }
         ensures note { IfOk result (λ n. n ≡ notes.Moded modes.Terminated) }
         ensures clock { OnOk result (self.new.clock ≡ self.old.clock) }
-        ensures store { OnOk result (self.new.store.catalog ≡ self.old.store.catalog) }
+        ensures store { OnOk result (self.new.store ≡ self.old.store) }
         ensures keys { OnOk result (KeepsKeys self.old self.new) }
     {
         self.terminate_root(root);
@@ -602,7 +600,7 @@ impl Core {
         ensures shelves { SameStanding (stands self.new) (stands self.old) }
         ensures note { result ≡ notes.Moded modes.Suspended }
         ensures clock { self.new.clock ≡ self.old.clock }
-        ensures store { self.new.store.catalog ≡ self.old.store.catalog }
+        ensures store { self.new.store ≡ self.old.store }
         ensures keys { KeepsKeys self.old self.new }
     {
         self.set_suspended(root, true);
@@ -615,7 +613,7 @@ impl Core {
         ensures shelves { SameStanding (stands self.new) (stands self.old) }
         ensures note { result ≡ notes.Moded modes.Active }
         ensures clock { self.new.clock ≡ self.old.clock }
-        ensures store { self.new.store.catalog ≡ self.old.store.catalog }
+        ensures store { self.new.store ≡ self.old.store }
         ensures keys { KeepsKeys self.old self.new }
     {
         self.set_suspended(root, false);
@@ -650,7 +648,7 @@ impl Core {
         ensures shelves { SameStanding (stands self.new) (stands self.old) }
         ensures note { result ≡ notes.Deleted }
         ensures clock { self.new.clock ≡ self.old.clock }
-        ensures store { self.new.store.catalog ≡ self.old.store.catalog }
+        ensures store { self.new.store ≡ self.old.store }
         ensures keys { FreesKey root self.old self.new }
     {
         self.remove_root(root);
@@ -665,7 +663,7 @@ impl Core {
             (item_of self.old item.now) self.new) }
         ensures note { IfOk result (λ n. n ≡ notes.Fated (fate_now self.new item.now)) }
         ensures clock { OnOk result (self.new.clock ≡ self.old.clock) }
-        ensures store { OnOk result (self.new.store.catalog ≡ self.old.store.catalog) }
+        ensures store { OnOk result (self.new.store ≡ self.old.store) }
         ensures keys { OnOk result (KeepsKeys self.old self.new) }
         ensures exact { OnOk result (CompletesExactly self.old item.now (performer_named who.now) settings.now
             (item_of self.old item.now) self.new) }
@@ -683,7 +681,7 @@ impl Core {
         ensures shelves { SameStanding (stands self.new) (stands self.old) }
         ensures note { result ≡ notes.Clocked minutes }
         ensures clock { self.new.clock ≡ minutes }
-        ensures store { self.new.store.catalog ≡ self.old.store.catalog }
+        ensures store { self.new.store ≡ self.old.store }
         ensures keys { KeepsKeys self.old self.new }
     {
         self.clock = minutes;
@@ -691,14 +689,14 @@ impl Core {
     }
 
     fn change_by(&mut self, t: &Transaction) -> Result<Note, AllocError>
-        requires faultless { IsFaultlessImport self.old.store.catalog.library t.now }
+        requires faultless { IsFaultlessImport self.old.store t.now }
         requires front { IsFrontOf self.old t.now }
         ensures kept { noted self.new ≡ noted self.old }
         ensures note { IfOk result (IsNoteOf self.old t.now self.new) }
         ensures drives { OnOk result (Drives self.old t.now self.new) }
         ensures shelves { OnOk result (Shelves self.old t.now self.new) }
         ensures clock { OnOk result (self.new.clock ≡ clock_after t.now self.old.clock) }
-        ensures store { OnOk result (StoreAfter t.now self.old.store.catalog self.new.store.catalog) }
+        ensures store { OnOk result (StoreAfter t.now self.old.store self.new.store) }
         ensures keys { OnOk result (KeysAfter self.old t.now self.new) }
         ensures exact { OnOk result (IsExact self.old t.now self.new) }
     {
@@ -773,7 +771,7 @@ impl Core {
 
     /// Applies a transaction under a number, and keeps it where it is live.
     pub(crate) fn apply_as(&mut self, number: u64, t: &Transaction) -> Result<Applied, AllocError>
-        requires faultless { IsFaultlessImport self.old.store.catalog.library t.now }
+        requires faultless { IsFaultlessImport self.old.store t.now }
         requires front { IsFrontOf self.old t.now }
         ensures numbered { IfOk result (λ applied. applied.number ≡ number) }
         ensures note { IfOk result (λ applied. IsNoteOf self.old t.now self.new applied.note) }
@@ -788,7 +786,7 @@ impl Core {
         ensures drives { OnOk result (Drives self.old t.now self.new) }
         ensures shelves { OnOk result (Shelves self.old t.now self.new) }
         ensures clock { OnOk result (self.new.clock ≡ clock_after t.now self.old.clock) }
-        ensures store { OnOk result (StoreAfter t.now self.old.store.catalog self.new.store.catalog) }
+        ensures store { OnOk result (StoreAfter t.now self.old.store self.new.store) }
         ensures keys { OnOk result (KeysAfter self.old t.now self.new) }
         ensures exact { OnOk result (IsExact self.old t.now self.new) }
     {
@@ -810,7 +808,7 @@ impl Core {
         ensures shelves { OnOk result (Shelves self.old t self.new) }
         ensures counts { OnOk result (CountsRoot self.old t self.new) }
         ensures clock { OnOk result (self.new.clock ≡ clock_after t self.old.clock) }
-        ensures store { OnOk result (StoreAfter t self.old.store.catalog self.new.store.catalog) }
+        ensures store { OnOk result (StoreAfter t self.old.store self.new.store) }
         ensures keys { OnOk result (KeysAfter self.old t self.new) }
         ensures exact { OnOk result (IsExact self.old t self.new) }
     {

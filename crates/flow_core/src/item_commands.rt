@@ -8,7 +8,7 @@ ghost use Rattle.flow_model.specs.declared.transactions.Transaction.TheVariants 
 ghost use Rattle.flow_core.specs.Allowing.{subject_of, IsKnown, IsOpen, IsAllowed};
 ghost use Rattle.flow_core.specs.Refusals.{first_of, full_test, who_test, claim_test, release_test, transfer_test};
 ghost use Rattle.flow_core.specs.Refusals.{taking_test, completing_test, outcome_test, forcing_test, restart_test};
-ghost use Rattle.flow_core.specs.Refusals.{IsInOrder, IsFirstRefusal, StopsBy, StopsAs};
+ghost use Rattle.flow_core.specs.Refusals.{IsFirstRefusal, StopsBy, StopsAs};
 ghost use Rattle.flow_core.specs.Verdicts.{IsFor};
 
 use crate::items::Found;
@@ -40,7 +40,7 @@ impl Core {
         ensures room { OnOk result (self.now.number < self.now.limit) }
         ensures made { IfOk result (IsFor self.now (asked.Claim token.now name.now)) }
         ensures allowed { IfOk result (IsAllowed self.now) }
-        ensures stops { IsInOrder self.now → StopsAs (IsFirstRefusal self.now (asked.Claim token.now name.now)) result }
+        ensures stops { StopsAs (IsFirstRefusal self.now (asked.Claim token.now name.now)) result }
     {
         let found = self.found(token)?;
         let person = self.needs_person(name)?;
@@ -65,7 +65,7 @@ impl Core {
         ensures room { OnOk result (self.now.number < self.now.limit) }
         ensures made { IfOk result (IsFor self.now (asked.Release token.now name.now)) }
         ensures allowed { IfOk result (IsAllowed self.now) }
-        ensures stops { IsInOrder self.now → StopsAs (IsFirstRefusal self.now
+        ensures stops { StopsAs (IsFirstRefusal self.now
             (asked.Release token.now name.now)) result }
     {
         let found = self.found(token)?;
@@ -102,7 +102,7 @@ impl Core {
         ensures room { OnOk result (self.now.number < self.now.limit) }
         ensures made { IfOk result (IsFor self.now (asked.Transfer token.now from.now to.now)) }
         ensures allowed { IfOk result (IsAllowed self.now) }
-        ensures stops { IsInOrder self.now → StopsAs (IsFirstRefusal self.now
+        ensures stops { StopsAs (IsFirstRefusal self.now
             (asked.Transfer token.now from.now to.now)) result }
     {
         let found = self.found(token)?;
@@ -139,7 +139,7 @@ impl Core {
 
     /// Who completes an item, where a person is declared.
     fn needs_who(&self, who: &Who) -> Result<(), Stop>
-        ensures { IsInOrder self.now → StopsBy (who_test self.now who.now) result }
+        ensures { StopsBy (who_test self.now who.now) result }
     {
         match who {
             Who::Agent(_) => Ok(()),
@@ -187,7 +187,7 @@ impl Core {
         ensures room { OnOk result (self.now.number < self.now.limit) }
         ensures made { IfOk result (IsFor self.now (asked.Done token.now who.now outcome.now)) }
         ensures allowed { IfOk result (IsAllowed self.now) }
-        ensures stops { IsInOrder self.now → StopsAs (IsFirstRefusal self.now
+        ensures stops { StopsAs (IsFirstRefusal self.now
             (asked.Done token.now who.now outcome.now)) result }
     {
         let found = self.found(token)?;

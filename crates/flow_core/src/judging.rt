@@ -11,8 +11,8 @@ ghost use Rattle.flow_core.specs.Answers.{instance_of};
 ghost use Rattle.flow_core.specs.Refusals.{first_of, full_test, number_test, person_of, person_test, newest_of};
 ghost use Rattle.flow_core.specs.Refusals.{process_test, value_test, input_test, outcome_test, minutes_test};
 ghost use Rattle.flow_core.specs.Refusals.{clock_test, queue_test, message_test, is_active, is_suspended, is_going};
-ghost use Rattle.flow_core.specs.Refusals.{is_over, root_test, queued_test, IsInOrder, IsRuleOf, IsFirstRefusal};
-ghost use Rattle.flow_core.specs.Refusals.{IsOrderFor, same_root as root_with_key, StopsBy, StopsAs, IsStop};
+ghost use Rattle.flow_core.specs.Refusals.{is_over, root_test, queued_test, IsRuleOf, IsFirstRefusal};
+ghost use Rattle.flow_core.specs.Refusals.{same_root as root_with_key, StopsBy, StopsAs, IsStop};
 ghost use Rattle.flow_core.specs.declared.refusals.Refusal.TheVariants as refused;
 ghost use Rattle.flow_core.specs.Judgements.{IsVerdict};
 ghost use Rattle.flow_core.specs.Verdicts.{IsFor, IsFront, next_root};
@@ -76,8 +76,8 @@ impl Core {
 
     /// The person whom a name means, or PERSON.
     pub(crate) fn needs_person(&self, name: &Name) -> Result<&PersonDef, Stop>
-        ensures stops { IsInOrder self.now → StopsBy (person_test self.now name.now) result }
-        ensures person { IsInOrder self.now → IfOk result (λ person. person_of self.now name.now ≡ Some person.now) }
+        ensures stops { StopsBy (person_test self.now name.now) result }
+        ensures person { IfOk result (λ person. person_of self.now name.now ≡ Some person.now) }
     {
         match self.store.person(name) {
             Some(person) => Ok(person),
@@ -96,15 +96,15 @@ impl Core {
 
     /// The newest template of a process.
     pub(crate) fn newest(&self, process: &Name) -> Option<&Template>
-        ensures { IsInOrder self.now → option_copied result ≡ newest_of self.now process.now }
+        ensures { option_copied result ≡ newest_of self.now process.now }
     {
         self.store.template(self.store.newest(process)?)
     }
 
     /// The newest template of a process, or PROCESS.
     fn needs_process(&self, process: &Name) -> Result<&Template, Stop>
-        ensures stops { IsInOrder self.now → StopsBy (process_test self.now process.now) result }
-        ensures newest { IsInOrder self.now → IfOk result (λ t. newest_of self.now process.now ≡ Some t.now) }
+        ensures stops { StopsBy (process_test self.now process.now) result }
+        ensures newest { IfOk result (λ t. newest_of self.now process.now ≡ Some t.now) }
     {
         match self.newest(process) {
             Some(template) => Ok(template),
@@ -146,7 +146,7 @@ impl Core {
     /// A text that breaks no rule, or RULE.
     fn needs_rules(&mut self, text: &Bytes) -> Result<(), Stop>
         ensures same { self.new ≡ self.old }
-        ensures stops { IsInOrder self.old → StopsAs (IsRuleOf self.old text.now) result }
+        ensures stops { StopsAs (IsRuleOf self.old text.now) result }
     {
         match self.store.check(self.alloc, text.as_slice()) {
             Ok(()) => Ok(()),
@@ -162,7 +162,7 @@ impl Core {
         ensures room { OnOk result (self.old.number < self.old.limit) }
         ensures made { IfOk result (IsFor self.old (asked.Import text.now)) }
         ensures allowed { IfOk result (IsAllowed self.old) }
-        ensures stops { IsInOrder self.old → StopsAs (IsFirstRefusal self.old (asked.Import text.now)) result }
+        ensures stops { StopsAs (IsFirstRefusal self.old (asked.Import text.now)) result }
     {
         self.needs_rules(text)?;
         self.needs_room()?;
@@ -219,7 +219,7 @@ impl Core {
         ensures made { IfOk result (IsFor self.now
             (asked.Start process.now starter.now (option_copied key.entry) written.now)) }
         ensures allowed { IfOk result (IsAllowed self.now) }
-        ensures stops { IsInOrder self.now → StopsAs (IsFirstRefusal self.now
+        ensures stops { StopsAs (IsFirstRefusal self.now
             (asked.Start process.now starter.now (option_copied key.entry) written.now)) result }
     {
         self.needs_person(starter)?;
@@ -413,7 +413,7 @@ impl Core {
         ensures room { OnOk result (self.old.number < self.old.limit) }
         ensures made { IfOk result (IsFor self.old command.now) }
         ensures allowed { IfOk result (IsAllowed self.old) }
-        ensures stops { IsOrderFor self.old command.now → StopsAs (IsFirstRefusal self.old command.now) result }
+        ensures stops { StopsAs (IsFirstRefusal self.old command.now) result }
     {
         match command {
             Command::Import(text) => self.judge_import(text),

@@ -122,7 +122,7 @@ impl Core {
         alloc: Global,
         instance: &Instance,
     ) -> Result<List<FateRow>, AllocError>
-        ensures { IfOk result (AreRowsOf self.now.store.catalog.library instance.now) }
+        ensures { IfOk result (AreRowsOf self.now.store instance.now) }
     {
         instance.rows(alloc, self.library())
     }

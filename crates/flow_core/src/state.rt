@@ -159,7 +159,7 @@ impl Core {
 
     /// The library of the imports so far.
     pub fn library(&self) -> &Library
-        ensures { result.now ≡ self.now.store.catalog.library }
+        ensures { result.now ≡ self.now.store }
     {
         self.store.library()
     }

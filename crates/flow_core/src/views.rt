@@ -67,7 +67,7 @@ impl Core {
     /// The rows of the begun scopes of a root, in show order; None exactly where there is no live root of
     /// that number.
     pub fn begun_rows(&self, alloc: Global, root: u64) -> Result<Option<List<FateRow>>, AllocError>
-        ensures { IfOk result (AreBegun self.now.store.catalog.library (instance_of self.now root)) }
+        ensures { IfOk result (AreBegun self.now.store (instance_of self.now root)) }
     {
         let Some(instance) = self.instance(root) else {
             return Ok(None);

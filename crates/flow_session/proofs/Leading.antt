@@ -4,7 +4,6 @@ use Rattle.core_laws.proofs.Making.{core_right}
 use Rattle.flow_core.specs.Admitting.{IsAdmitted}
 use Rattle.flow_core.specs.Allowing.{IsAllowed, CountsRoot}
 use Rattle.flow_core.specs.Judgements.{IsVerdict}
-use Rattle.flow_core.specs.Refusals.{IsInOrder}
 use Rattle.flow_core.specs.Summaries.{Summary, summary}
 use Rattle.flow_core.specs.declared.judging.Verdict.{Verdict}
 use Rattle.flow_core.specs.declared.judging.Verdict.TheVariants.{Do}
@@ -86,12 +85,12 @@ leads_one c c' command t is applied counts = record {
   }) right;
   steps = λ right. (
     view c',
-    applied_step c c' right.0 right.1 t is.2 (holds_asked c t (verdict_asks c command t is right.1.indexed))
-        (verdict_good c command t right.1.indexed is) applied,
+    applied_step c c' right.0 right.1 t is.2 (holds_asked c t (verdict_asks c command t is))
+        (verdict_good c command t is) applied,
     refl,
   );
   keyed = λ right keyed.
-      applied_keyed c c' t right.0 right.1 is.2 (verdict_good c command t right.1.indexed is)
+      applied_keyed c c' t right.0 right.1 is.2 (verdict_good c command t is)
       (verdict_free c command t is) keyed applied;
 }
 
@@ -101,7 +100,7 @@ leads_by c c' command v t verdict is applied counts =
     leads_one c c' command t (subst (IsVerdict c command) is verdict) applied counts
 
 -- the transaction of a record that is admitted, adopted as the next one
-pub leads_adopted : (c c' : Core) (number : ℕ) (t : Transaction) → (IsInOrder c → IsAdmitted c number t)
+pub leads_adopted : (c c' : Core) (number : ℕ) (t : Transaction) → IsAdmitted c number t
     → IsAllowed c t → Applied c t c' → CountsRoot c t c' → LeadsBy c (t ∷ []) c'
 leads_adopted c c' number t admitted is applied counts = record {
   came = applied.came;
@@ -111,15 +110,15 @@ leads_adopted c c' number t admitted is applied counts = record {
     counts = counts;
     lives = (c.number + 1, ap (λ (s : Summary). s.live) applied.came);
   }) right;
-  steps = λ right. (let due = admitted right.1.indexed in (
+  steps = λ right. (
     view c',
-    applied_step c c' right.0 right.1 t is (holds_asked c t (admitted_asks c number t due))
-        (admitted_good c number t due) applied,
+    applied_step c c' right.0 right.1 t is (holds_asked c t (admitted_asks c number t admitted))
+        (admitted_good c number t admitted) applied,
     refl,
-  ));
-  keyed = λ right keyed. (let due = admitted right.1.indexed in
-      applied_keyed c c' t right.0 right.1 is (admitted_good c number t due) (admitted_free c number t due) keyed
-      applied);
+  );
+  keyed = λ right keyed.
+      applied_keyed c c' t right.0 right.1 is (admitted_good c number t admitted) (admitted_free c number t admitted)
+      keyed applied;
 }
 
 -- ---- calls

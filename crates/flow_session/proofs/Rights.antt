@@ -27,4 +27,4 @@ whatever (Err e) holds = tt
 
 -- a command that is judged to a transaction has asked that its item is open
 pub asks_open : (c : Core) (command : Command) (v : Verdict) (t : Transaction) → IsVerdict c command v → v ≡ Do t → IsRightAndListed c → AsksOpen c t
-asks_open c command v t verdict is right = verdict_asks c command t (subst (IsVerdict c command) is verdict) right.0.1.indexed
+asks_open c command v t verdict is right = verdict_asks c command t (subst (IsVerdict c command) is verdict)

@@ -36,10 +36,10 @@ module _ (c : Core) (whole : IsWhole c) where
       → machine.IsObeyed (view c) (view c) command reply
   unmade_seen command reply (inl (refusal, is, told)) =
       subst (machine.IsObeyed (view c) (view c) command) (sym told)
-      (refusal_obeyed c command refusal whole.right.0.1.indexed whole.keyed is)
+      (refusal_obeyed c command refusal whole.keyed is)
   unmade_seen command reply (inr (root, is, told)) =
       subst (machine.IsObeyed (view c) (view c) command) (sym told)
-      (same_obeyed c command root whole.right.0.1.indexed whole.keyed is)
+      (same_obeyed c command root whole.keyed is)
 
   obeyed_seen : (c' : Core) (command : Command) (reply : List ℕ) → IsObeyed c c' command reply
       → machine.IsObeyed (view c) (view c') command reply

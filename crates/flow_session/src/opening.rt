@@ -6,7 +6,6 @@ ghost use Rattle.flow_txn.specs.Ranges.{IsInRange};
 ghost use Rattle.flow_txn.specs.Records.{record_bytes};
 ghost use Rattle.txn_log.specs.Opening.{IsOpened};
 ghost use Rattle.worklist_laws.specs.Shelved.{IsRightAndListed};
-ghost use Rattle.flow_core.specs.Refusals.{IsInOrder};
 ghost use Rattle.flow_core.specs.Summaries.{summary, taken_up, Follows};
 ghost use Rattle.flow_session.specs.Inputs.{unended};
 ghost use Rattle.flow_session.specs.Keeping.{IsOpen, ComesTo};
@@ -35,8 +34,8 @@ fn adopt(
         × (summary core.new ≡ taken_up core.old.kept n (summary core.old))) }
     ensures kept { OnOk result (core.new.kept ≡ core.old.kept) }
     ensures right { IsRightAndListed core.old → OnOk result (IsRightAndListed core.new) }
-    ensures admitted { IsInOrder core.old → OnOk result (AdmitsOne core.old payload.now core.new) }
-    ensures refused { IsInOrder core.old → IfErr result (StopsAt slot place core.old payload.now) }
+    ensures admitted { OnOk result (AdmitsOne core.old payload.now core.new) }
+    ensures refused { IfErr result (StopsAt slot place core.old payload.now) }
     ensures silent { IfErr result (λ stop. (count : ℕ) → IsOpenCause count count stop) }
 {
     let Numbered {

@@ -132,7 +132,7 @@ has_finished_b (Some rows) = list_any finishes_b rows
 abbrev pub AreFinished : Core → ℕ → ℕ → Type 0
 AreFinished c zero count = count ≡ 0
 AreFinished c (suc root) count = (before : ℕ) × (shown : Option (List FateRow)) × AreFinished c root before
-    × AreBegun c.store.catalog.library (instance_of c (suc root)) shown
+    × AreBegun c.store (instance_of c (suc root)) shown
     × (count ≡ before + (if has_finished_b shown then 1 else 0))
 
 -- ---- the line

@@ -5,8 +5,6 @@ use Rattle.flow_model.specs.declared.graphs.PersonDef.{PersonDef}
 use Rattle.flow_model.specs.declared.graphs.Template.{Template}
 use Rattle.flow_model.specs.declared.transactions.Transaction.{Transaction}
 use Rattle.flow_model.specs.declared.transactions.Transaction.TheVariants.{Import}
-use Rattle.process_rules.specs.Imports.{IsIndexed}
-use Rattle.process_rules.specs.declared.catalog.Catalog.{Catalog}
 use Rattle.template_check.specs.Compiling.{HasPeopleOf, IsNamedBy, IsMeantBy}
 use Rattle.template_check.specs.Judged.{IsFaultless}
 
@@ -31,10 +29,7 @@ with_added added library = record {
 pub record IsMeaning (library : Library) (text : List ℕ) (added : Added) : Type 0 where
   pub faultless : IsFaultless library text
   pub named : IsNamedBy text added.templates
-  pub catalog : Catalog
-  pub of : catalog.library ≡ library
-  pub indexed : IsIndexed catalog
-  pub meant : IsMeantBy text catalog added.templates
+  pub meant : IsMeantBy text library added.templates
   pub people : HasPeopleOf text added.people
 
 -- what a transaction adds: an Import what its text means, every other one nothing

@@ -133,7 +133,6 @@ module _ (c : Core) (n : ℕ) where
     kept = (let same : n ≤ n = omega arith in same);
     queued = right.queued;
     sound = right.sound;
-    indexed = right.indexed;
   }
 
 -- ---- what a transaction does, under other numbers
@@ -150,7 +149,6 @@ module _ (c c' : Core) (n n' : ℕ) where
     roots = roots_then t so.given (root_about t) so.roots;
     queues = so.queues;
     library = so.library;
-    indexed = so.indexed;
   }
 
   completes_then : (item : Path) (performer : Option Name) (settings : List Setting) (o : Option Entry)

@@ -24,7 +24,6 @@ use Rattle.machine.specs.Imports.{Added, nothing_added, with_added}
 use Rattle.machine.specs.Steps.{Steps, clock_after as clock_seen}
 use Rattle.navigator.specs.Items.{Entry}
 use Rattle.navigator.specs.declared.instance.Instance.{Instance}
-use Rattle.process_rules.specs.declared.catalog.Catalog.{Catalog}
 use Rattle.recover_queue.specs.Queues.{root_of as root_of_message}
 use Rattle.view_laws.specs.Runs.{Event}
 use Rattle.machine_laws.specs.Applied.{Applied, IsGood}
@@ -73,13 +72,13 @@ completes_so ts clock item c given items (Some i) (Some i') so = record { items 
 
 module _ (c c' : Core) (runs : ℕ → List Event) (right : IsRightState c runs) where
   -- a transaction that adds nothing
-  abbrev plain : (t : Transaction) → Applied c t c' → (drives : Drives c t c') → c'.store.catalog ≡ c.store.catalog
+  abbrev plain : (t : Transaction) → Applied c t c' → (drives : Drives c t c') → c'.store ≡ c.store
       → Does c t nothing_added c'
   plain t applied drives store = record {
     drives = drives;
     came = applied.came;
     clock = applied.clock ∙ clock_so t c.clock;
-    library = ap (λ (k : Catalog). k.library) store ∙ nothing_behind c.store.catalog.library;
+    library = store ∙ nothing_behind c.store;
   }
 
   whole : (item : Path) (performer : Option Name) (settings : List Setting) (e : Entry) → item_of c item ≡ Some e
@@ -123,9 +122,6 @@ module _ (c c' : Core) (runs : ℕ → List Event) (right : IsRightState c runs)
         adds = record {
           faultless = good;
           named = applied.store.named;
-          catalog = c.store.catalog;
-          of = refl;
-          indexed = right.indexed;
           meant = applied.store.meant;
           people = applied.store.people;
         };
@@ -144,7 +140,7 @@ module _ (c c' : Core) (runs : ℕ → List Event) (right : IsRightState c runs)
         adds = refl;
         next = allowed c runs right c' (Start root process version starter key settings) nothing_added is opens refl
             (plain (Start root process version starter key settings) applied applied.drives applied.store)
-            (record { place = good.0; newest = good.1; runs = applied.exact right.indexed good.0 good.1 });
+            (record { place = good.0; newest = good.1; runs = applied.exact good.0 good.1 });
       }
   applied_step (Turn number message) is opens good applied =
       let so = applied.exact in
@@ -153,7 +149,6 @@ module _ (c c' : Core) (runs : ℕ → List Event) (right : IsRightState c runs)
         roots = so.roots;
         queues = so.queues;
         library = applied.drives.library;
-        indexed = applied.drives.indexed;
       } in
       record {
         added = nothing_added;
@@ -172,7 +167,6 @@ module _ (c c' : Core) (runs : ℕ → List Event) (right : IsRightState c runs)
         roots = roots_so item (performer_named who) settings e is.asked.there so;
         queues = so.queues;
         library = applied.drives.library;
-        indexed = applied.drives.indexed;
       } in
       record {
         added = nothing_added;
@@ -190,7 +184,6 @@ module _ (c c' : Core) (runs : ℕ → List Event) (right : IsRightState c runs)
         roots = roots_so item None settings e is.asked.there so;
         queues = so.queues;
         library = applied.drives.library;
-        indexed = applied.drives.indexed;
       } in
       record {
         added = nothing_added;

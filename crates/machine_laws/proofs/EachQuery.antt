@@ -17,8 +17,7 @@ answer_seen c (ask.Show root) text right is = show_seen c right.0.0 root text ri
 answer_seen c (ask.Output root) text right is = output_seen c right.0.0 root text right.0.1 is
 answer_seen c (ask.Input token) text right is = input_seen c right.0.0 right.0.1 token text is
 answer_seen c (ask.Worklist name) text right is =
-    worklist_seen c right.0.0 name text right.0.1 right.1 (latest_person c.store.catalog.library name)
-    (is right.0.1.indexed)
+    worklist_seen c right.0.0 name text right.0.1 right.1 (latest_person c.store name) is
 answer_seen c (ask.Queue number) text right is = is
 answer_seen c (ask.Audit root) text right is = audit_seen c root text is
 answer_seen c ask.Templates text right is = is

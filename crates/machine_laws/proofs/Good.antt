@@ -8,7 +8,7 @@ use Rattle.std.proofs.lemmas.Slice.Eq.{bytes_eq-Decides}
 use Rattle.flow_core.specs.Admitting.{IsAdmitted}
 use Rattle.flow_core.specs.Driving.{IsNewestVersion}
 use Rattle.flow_core.specs.Judgements.{IsVerdict}
-use Rattle.flow_core.specs.Refusals.{first_of, full_test, IsInOrder, IsRuleOf}
+use Rattle.flow_core.specs.Refusals.{first_of, full_test, IsRuleOf}
 use Rattle.flow_core.specs.Verdicts.{IsNewestFor}
 use Rattle.flow_core.specs.declared.judging.Verdict.TheVariants.{Do}
 use Rattle.flow_core.specs.declared.refusals.Refusal.{Refusal}
@@ -74,42 +74,42 @@ newest_version library process version t is number = go (newest_place library pr
 
 -- a text whose tests don't refuse breaks no rule
 no_rule : (c : Core) (text : List ℕ) (rule : Option Refusal) → IsRuleOf c text rule
-    → None ≡ first_of (rule ∷ full_test c ∷ []) → IsFaultless c.store.catalog.library text
+    → None ≡ first_of (rule ∷ full_test c ∷ []) → IsFaultless c.store text
 no_rule c text None is none = is
 no_rule c text (Some r) is none = absurd (none-some r none)
 
 -- ---- what was tested
 
-pub verdict_good : (c : Core) (command : Command) (t : Transaction) → IsInOrder c → IsVerdict c command (Do t)
+pub verdict_good : (c : Core) (command : Command) (t : Transaction) → IsVerdict c command (Do t)
     → IsGood c t
-verdict_good c (asked.Import text) t order is =
-    let found = is.4 order in
+verdict_good c (asked.Import text) t is =
+    let found = is.4 in
     subst (IsGood c) (sym is.1) (no_rule c text found.0 found.1 found.2)
-verdict_good c (asked.Start process starter key written) t order is =
-    let newest : IsNewestFor c process written is.1.0 is.1.1 = is.1.2 order in
+verdict_good c (asked.Start process starter key written) t is =
+    let newest : IsNewestFor c process written is.1.0 is.1.1 = is.1.2 in
     subst (IsGood c) (sym is.1.3)
-    (newest_version c.store.catalog.library process is.1.0 newest.template newest.newest newest.number)
-verdict_good c (asked.Turn queue) t order is = subst (IsGood c) (sym is.1.2) tt
-verdict_good c asked.Drain t order is = absurd is.1
-verdict_good c (asked.Claim token who) t order is = subst (IsGood c) (sym is.1.2) tt
-verdict_good c (asked.Release token who) t order is = subst (IsGood c) (sym is.1.2) tt
-verdict_good c (asked.Transfer token who to) t order is = subst (IsGood c) (sym is.1.2) tt
-verdict_good c (asked.Take token) t order is = subst (IsGood c) (sym is.1.4) tt
-verdict_good c (asked.Done token who outcome) t order is = subst (IsGood c) (sym is.1.4) tt
-verdict_good c (asked.Force token outcome) t order is = subst (IsGood c) (sym is.1.4) tt
-verdict_good c (asked.Restart token) t order is = subst (IsGood c) (sym is.1.2) tt
-verdict_good c (asked.Suspend root) t order is = subst (IsGood c) (sym is.1) tt
-verdict_good c (asked.Resume root) t order is = subst (IsGood c) (sym is.1) tt
-verdict_good c (asked.Terminate root) t order is = subst (IsGood c) (sym is.1) tt
-verdict_good c (asked.Delete root) t order is = subst (IsGood c) (sym is.1) tt
-verdict_good c (asked.Clock minutes) t order is = subst (IsGood c) (sym is.1) tt
-verdict_good c asked.Checkpoint t order is = absurd is.1
-verdict_good c (asked.Ask query) t order is = absurd is.1
+    (newest_version c.store process is.1.0 newest.template newest.newest newest.number)
+verdict_good c (asked.Turn queue) t is = subst (IsGood c) (sym is.1.2) tt
+verdict_good c asked.Drain t is = absurd is.1
+verdict_good c (asked.Claim token who) t is = subst (IsGood c) (sym is.1.2) tt
+verdict_good c (asked.Release token who) t is = subst (IsGood c) (sym is.1.2) tt
+verdict_good c (asked.Transfer token who to) t is = subst (IsGood c) (sym is.1.2) tt
+verdict_good c (asked.Take token) t is = subst (IsGood c) (sym is.1.4) tt
+verdict_good c (asked.Done token who outcome) t is = subst (IsGood c) (sym is.1.4) tt
+verdict_good c (asked.Force token outcome) t is = subst (IsGood c) (sym is.1.4) tt
+verdict_good c (asked.Restart token) t is = subst (IsGood c) (sym is.1.2) tt
+verdict_good c (asked.Suspend root) t is = subst (IsGood c) (sym is.1) tt
+verdict_good c (asked.Resume root) t is = subst (IsGood c) (sym is.1) tt
+verdict_good c (asked.Terminate root) t is = subst (IsGood c) (sym is.1) tt
+verdict_good c (asked.Delete root) t is = subst (IsGood c) (sym is.1) tt
+verdict_good c (asked.Clock minutes) t is = subst (IsGood c) (sym is.1) tt
+verdict_good c asked.Checkpoint t is = absurd is.1
+verdict_good c (asked.Ask query) t is = absurd is.1
 
 pub admitted_good : (c : Core) (number : ℕ) (t : Transaction) → IsAdmitted c number t → IsGood c t
 admitted_good c number (made.Import text) is = is.due
 admitted_good c number (made.Start root process version starter key settings) is =
-    newest_version c.store.catalog.library process version is.due.template is.due.newest is.due.number
+    newest_version c.store process version is.due.template is.due.newest is.due.number
 admitted_good c number (made.Turn queue message) is = tt
 admitted_good c number (made.Claim item who) is = tt
 admitted_good c number (made.Release item who) is = tt

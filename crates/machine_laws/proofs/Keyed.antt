@@ -385,7 +385,7 @@ module _ (c c' : Core) (keyed : AreKeyed c) where
       kept (record { number = number; transaction = Import text }) (λ key. refl) tt keys lives
   keyed_after runs number right (Start root process version starter key settings) is good free keys lives =
       begun number root process version starter key settings (unstarted runs right root is.free) free
-      (keys right.indexed good.0 good.1) lives
+      (keys good.0 good.1) lives
   keyed_after runs number right (Turn queue message) is good free keys lives =
       kept (record { number = number; transaction = Turn queue message }) (λ key. refl) tt keys lives
   keyed_after runs number right (Claim item who) is good free keys lives =

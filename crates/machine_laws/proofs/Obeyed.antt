@@ -5,7 +5,6 @@ use Rattle.flow_core.specs.Admitting.{IsAdmitted}
 use Rattle.flow_core.specs.Allowing.{IsAllowed}
 use Rattle.flow_core.specs.Judgements.{IsVerdict}
 use Rattle.flow_core.specs.Replies.{applied_text, refusal_text}
-use Rattle.flow_core.specs.Refusals.{IsInOrder}
 use Rattle.flow_core.specs.Verdicts.{IsNoteOf}
 use Rattle.flow_core.specs.declared.applying.Note.{Note}
 use Rattle.flow_core.specs.declared.judging.Verdict.TheVariants.{Do, Same, Refused}
@@ -52,25 +51,25 @@ pub command_obeyed : (c c' : Core) (command : Command) (t : Transaction) (n : No
     → IsRightState c runs → AreKeyed c → IsVerdict c command (Do t) → Applied c t c' → IsNoteOf c t c' n
     → IsObeyed (view c) (view c') command (applied_text (record { number = c.number + 1; note = n })) × AreKeyed c'
 command_obeyed c c' command t n runs right keyed is applied names =
-    let good = verdict_good c command t right.indexed is in
-    let opens = holds_open c t (verdict_asks c command t is right.indexed) in (
+    let good = verdict_good c command t is in
+    let opens = holds_open c t (verdict_asks c command t is) in (
       (
         Do t,
-        verdict_seen c command (Do t) right.indexed keyed is,
+        verdict_seen c command (Do t) keyed is,
         (n, applied_step c c' runs right t is.2 opens good applied, note_seen c c' t n is.2 names, refl),
       ),
       applied_keyed c c' t runs right is.2 good (verdict_free c command t is) keyed applied,
     )
 
-pub refusal_obeyed : (c : Core) (command : Command) (refusal : Refusal) → IsInOrder c → AreKeyed c
+pub refusal_obeyed : (c : Core) (command : Command) (refusal : Refusal) → AreKeyed c
     → IsVerdict c command (Refused refusal) → IsObeyed (view c) (view c) command (refusal_text refusal)
-refusal_obeyed c command refusal order keyed is =
-    (Refused refusal, verdict_seen c command (Refused refusal) order keyed is, (refl, refl))
+refusal_obeyed c command refusal keyed is =
+    (Refused refusal, verdict_seen c command (Refused refusal) keyed is, (refl, refl))
 
-pub same_obeyed : (c : Core) (command : Command) (root : ℕ) → IsInOrder c → AreKeyed c
+pub same_obeyed : (c : Core) (command : Command) (root : ℕ) → AreKeyed c
     → IsVerdict c command (Same root) → IsObeyed (view c) (view c) command (same_text root)
-same_obeyed c command root order keyed is =
-    (Same root, verdict_seen c command (Same root) order keyed is, (refl, refl))
+same_obeyed c command root keyed is =
+    (Same root, verdict_seen c command (Same root) keyed is, (refl, refl))
 
 pub record_adopted : (c c' : Core) (number : ℕ) (t : Transaction) (runs : ℕ → List Event) → IsRightState c runs
     → AreKeyed c → IsAllowed c t → IsAdmitted c number t → Adopted c number t c'

@@ -79,7 +79,7 @@ more_levels ts (suc depth) (suc n) le g s path served =
 
 module _ (c : Core) (root : ℕ) (h : List Event) (i : Instance) (was : IsRightRoot c root h i) where
   -- the rows with as many levels as its process has
-  rows_so : (rows : List FateRow) → AreRowsOf c.store.catalog.library i rows
+  rows_so : (rows : List FateRow) → AreRowsOf c.store i rows
       → rows ≡ machine.rows_within (templates c) (suc was.right.depth) was.right.graph (scopes_of i.scope)
       (machine.root_path root)
   rows_so rows are =
@@ -99,16 +99,16 @@ module _ (c : Core) (root : ℕ) (h : List Event) (i : Instance) (was : IsRightR
       are ∙ sym (more_levels (templates c) was.right.depth n (omega (arith, enough)) was.right.graph
       (scopes_of i.scope) (machine.root_path root) was.right.served.served)
 
-  view_so : (rows : List FateRow) → AreRowsOf c.store.catalog.library i rows
+  view_so : (rows : List FateRow) → AreRowsOf c.store i rows
       → machine.AreAllRows (templates c) was.right.graph (scopes_of i.scope) (machine.root_path root) rows
   view_so rows are = record { enough = suc was.right.depth; all = all_so rows (rows_so rows are) }
 
 pub show_seen : (c : Core) (runs : ℕ → List Event) (root : ℕ) (text : List ℕ) → IsRightState c runs
-    → IsShown c.store.catalog.library root (instance_of c root) text
+    → IsShown c.store root (instance_of c root) text
     → machine.ShowSays (templates c) root ((view c).roots root) text
 show_seen c runs root text right is = by (instance_of c root) refl is
   where
-    by : (o : Option Instance) → instance_of c root ≡ o → IsShown c.store.catalog.library root o text
+    by : (o : Option Instance) → instance_of c root ≡ o → IsShown c.store root o text
         → machine.ShowSays (templates c) root (option_map root_of o) text
     by None absent told = told
     by (Some i) live told =

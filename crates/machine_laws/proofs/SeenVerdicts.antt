@@ -7,7 +7,6 @@ use Rattle.flow_core.specs.Answers.{instance_of}
 use Rattle.flow_core.specs.Driving.{item_of}
 use Rattle.flow_core.specs.Judgements as engine
 use Rattle.flow_core.specs.Refusals as tests
-use Rattle.flow_core.specs.Refusals.{IsInOrder, IsOrderFor}
 use Rattle.flow_core.specs.Verdicts as named
 use Rattle.flow_core.specs.declared.applying.Note.{Note}
 use Rattle.flow_core.specs.declared.applying.Note.TheVariants as note
@@ -148,28 +147,28 @@ newest_seen c process written version settings is = record {
 }
 
 -- the transaction that a command names
-for_seen : (c : Core) (command : Command) (t : Transaction) → IsInOrder c → named.IsFor c command t
+for_seen : (c : Core) (command : Command) (t : Transaction) → named.IsFor c command t
     → machine.IsFor (view c) command t
-for_seen c (asked.Import text) t order is = is
-for_seen c (asked.Start process starter key written) t order is =
-    (is.0, is.1, newest_seen c process written is.0 is.1 (is.2 order), is.3)
-for_seen c (asked.Turn queue) t order is = is
-for_seen c asked.Drain t order is = absurd is
-for_seen c (asked.Claim token who) t order is = is
-for_seen c (asked.Release token who) t order is = is
-for_seen c (asked.Transfer token who to) t order is = is
-for_seen c (asked.Take token) t order is = (is.0, is.1, is.2, take_seen c is.0 is.1 is.3, is.4)
-for_seen c (asked.Done token who outcome) t order is =
+for_seen c (asked.Import text) t is = is
+for_seen c (asked.Start process starter key written) t is =
+    (is.0, is.1, newest_seen c process written is.0 is.1 is.2, is.3)
+for_seen c (asked.Turn queue) t is = is
+for_seen c asked.Drain t is = absurd is
+for_seen c (asked.Claim token who) t is = is
+for_seen c (asked.Release token who) t is = is
+for_seen c (asked.Transfer token who to) t is = is
+for_seen c (asked.Take token) t is = (is.0, is.1, is.2, take_seen c is.0 is.1 is.3, is.4)
+for_seen c (asked.Done token who outcome) t is =
     (is.0, is.1, is.2, settings_seen c is.0 outcome is.1 is.3, is.4)
-for_seen c (asked.Force token outcome) t order is = (is.0, is.1, is.2, settings_seen c is.0 outcome is.1 is.3, is.4)
-for_seen c (asked.Restart token) t order is = is
-for_seen c (asked.Suspend root) t order is = is
-for_seen c (asked.Resume root) t order is = is
-for_seen c (asked.Terminate root) t order is = is
-for_seen c (asked.Delete root) t order is = is
-for_seen c (asked.Clock minutes) t order is = is
-for_seen c asked.Checkpoint t order is = absurd is
-for_seen c (asked.Ask query) t order is = absurd is
+for_seen c (asked.Force token outcome) t is = (is.0, is.1, is.2, settings_seen c is.0 outcome is.1 is.3, is.4)
+for_seen c (asked.Restart token) t is = is
+for_seen c (asked.Suspend root) t is = is
+for_seen c (asked.Resume root) t is = is
+for_seen c (asked.Terminate root) t is = is
+for_seen c (asked.Delete root) t is = is
+for_seen c (asked.Clock minutes) t is = is
+for_seen c asked.Checkpoint t is = absurd is
+for_seen c (asked.Ask query) t is = absurd is
 
 -- ---- the verdict
 
@@ -196,38 +195,17 @@ same_root_seen c (asked.Clock number) keyed = refl
 same_root_seen c asked.Checkpoint keyed = refl
 same_root_seen c (asked.Ask query) keyed = refl
 
--- what is asked of a state in order
-order_for : (c : Core) (command : Command) → IsInOrder c → IsOrderFor c command
-order_for c (asked.Import text) order = order
-order_for c (asked.Start process starter key written) order = order
-order_for c (asked.Turn queue) order = tt
-order_for c asked.Drain order = tt
-order_for c (asked.Claim token name) order = order
-order_for c (asked.Release token name) order = order
-order_for c (asked.Transfer token from to) order = order
-order_for c (asked.Take token) order = tt
-order_for c (asked.Done token by outcome) order = order
-order_for c (asked.Force token outcome) order = tt
-order_for c (asked.Restart token) order = tt
-order_for c (asked.Suspend root) order = tt
-order_for c (asked.Resume root) order = tt
-order_for c (asked.Terminate root) order = tt
-order_for c (asked.Delete root) order = tt
-order_for c (asked.Clock number) order = tt
-order_for c asked.Checkpoint order = tt
-order_for c (asked.Ask query) order = tt
-
-pub verdict_seen : (c : Core) (command : Command) (v : Verdict) → IsInOrder c → AreKeyed c
+pub verdict_seen : (c : Core) (command : Command) (v : Verdict) → AreKeyed c
     → engine.IsVerdict c command v → machine.IsVerdict (view c) command v
-verdict_seen c command (verdict.Do t) order keyed is = (
+verdict_seen c command (verdict.Do t) keyed is = (
   same_root_seen c command keyed ∙ is.3,
-  refusal_seen c command None (is.4 (order_for c command order)),
-  for_seen c command t order is.1,
+  refusal_seen c command None is.4,
+  for_seen c command t is.1,
 )
-verdict_seen c command (verdict.Same root) order keyed is = same_root_seen c command keyed ∙ is
-verdict_seen c command (verdict.Refused refusal) order keyed is = (
+verdict_seen c command (verdict.Same root) keyed is = same_root_seen c command keyed ∙ is
+verdict_seen c command (verdict.Refused refusal) keyed is = (
   same_root_seen c command keyed ∙ is.0,
-  refusal_seen c command (Some refusal) (is.1 (order_for c command order)),
+  refusal_seen c command (Some refusal) is.1,
 )
 
 -- ---- the reply

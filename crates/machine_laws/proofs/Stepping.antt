@@ -53,11 +53,11 @@ use Rattle.machine_laws.specs.Viewed.{HasGraph, IfThere}
 
 -- a library to which nothing is added
 pub library_kept : (c c' : Core) (t : Transaction) → Does c t nothing_added c'
-    → c'.store.catalog.library ≡ c.store.catalog.library
+    → c'.store ≡ c.store
 library_kept c c' t does =
     does.library ∙ (λ i. record {
-      templates = append-nil c.store.catalog.library.templates i;
-      people = append-nil c.store.catalog.library.people i;
+      templates = append-nil c.store.templates i;
+      people = append-nil c.store.people i;
     })
 
 -- the pieces of a state
@@ -452,8 +452,8 @@ start_option ts root process version starter settings place given before (Some i
 
 -- the newest template, where it is this version
 placed : (c : Core) (process : Name) (version place : ℕ)
-    → IsNewestVersion c.store.catalog.library process version place
-    → version_place c.store.catalog.library process version ≡ Some place
+    → IsNewestVersion c.store process version place
+    → version_place c.store process version ≡ Some place
 placed c process version place is =
     let at = is.version_at in
     ap (option_and_then (λ p. if_version version p (slice_get (templates c) p))) is.newest
@@ -466,7 +466,7 @@ placed c process version place is =
 
 pub starts : (c c' : Core) (root : ℕ) (process : Name) (version : ℕ) (starter : Name) (key : Option Name)
     (settings : List Setting) → Does c (Start root process version starter key settings) nothing_added c'
-    → instance_of c root ≡ None → (place : ℕ) → IsNewestVersion c.store.catalog.library process version place
+    → instance_of c root ≡ None → (place : ℕ) → IsNewestVersion c.store process version place
     → RunsAt place (instance_of c' root)
     → view c' ≡ after nothing_added (Start root process version starter key settings) (view c)
 starts c c' root process version starter key settings does unused place newest runs =

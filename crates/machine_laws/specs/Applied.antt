@@ -6,7 +6,6 @@ use Rattle.flow_core.specs.Allowing.{IsAllowed}
 use Rattle.flow_core.specs.Driving.{Drives, StoreAfter, clock_after, IsNewestVersion}
 use Rattle.flow_core.specs.Judgements.{IsVerdict}
 use Rattle.flow_core.specs.Keys.{KeysAfter}
-use Rattle.flow_core.specs.Refusals.{IsInOrder}
 use Rattle.flow_core.specs.Shelving.{IsExact}
 use Rattle.flow_core.specs.Summaries.{summary, next, taken_up, last_kept, last_number}
 use Rattle.flow_core.specs.declared.judging.Verdict.TheVariants.{Do}
@@ -26,7 +25,7 @@ pub record Applied (c : Core) (t : Transaction) (c' : Core) : Type 0 where
   pub drives : Drives c t c'
   pub came : summary c' ≡ next t (summary c)
   pub clock : c'.clock ≡ clock_after t c.clock
-  pub store : StoreAfter t c.store.catalog c'.store.catalog
+  pub store : StoreAfter t c.store c'.store
   pub keys : KeysAfter c t c'
   pub exact : IsExact c t c'
 
@@ -37,15 +36,15 @@ pub record Adopted (c : Core) (number : ℕ) (t : Transaction) (c' : Core) : Typ
   pub kept_number : c'.kept_number ≡ last_number c.kept number c.kept_number
   pub kept_root : c'.kept_root ≡ last_kept c.kept (record { number = number; transaction = t }) c.kept_root
   pub clock : c'.clock ≡ clock_after t c.clock
-  pub store : StoreAfter t c.store.catalog c'.store.catalog
+  pub store : StoreAfter t c.store c'.store
   pub keys : KeysAfter c t c'
   pub exact : IsExact c t c'
 
 -- what `judge` and `adopt` have tested: the text of an Import breaks no rule, a Start has the newest version
 abbrev pub IsGood : Core → Transaction → Type 0
-IsGood c (Import text) = IsFaultless c.store.catalog.library text
+IsGood c (Import text) = IsFaultless c.store text
 IsGood c (Start root process version starter key settings) =
-    (place : ℕ) × IsNewestVersion c.store.catalog.library process version place
+    (place : ℕ) × IsNewestVersion c.store process version place
 IsGood c t = Unit {0}
 
 -- in a right state, what `apply` does with a transaction that may come is a step of the machine
@@ -57,7 +56,7 @@ AppliedAreSteps =
 -- in a state in order, the transaction to which a command is judged has been tested so
 abbrev pub VerdictsAreGood : Type 0
 VerdictsAreGood =
-    (c : Core) (command : Command) (t : Transaction) → IsInOrder c → IsVerdict c command (Do t) → IsGood c t
+    (c : Core) (command : Command) (t : Transaction) → IsVerdict c command (Do t) → IsGood c t
 
 -- so has the transaction of a record that is admitted
 abbrev pub AdmittedAreGood : Type 0

@@ -103,7 +103,7 @@ abbrev pub StartsAreSteps : Type 0
 StartsAreSteps =
     (c c' : Core) (root : ℕ) (process : Name) (version : ℕ) (starter : Name) (key : Option Name)
     (settings : List Setting) → Does c (Start root process version starter key settings) nothing_added c'
-    → instance_of c root ≡ None → (place : ℕ) → IsNewestVersion c.store.catalog.library process version place
+    → instance_of c root ≡ None → (place : ℕ) → IsNewestVersion c.store process version place
     → RunsAt place (instance_of c' root) → IsStep c (Start root process version starter key settings) c'
 
 -- the scope of the item is there

@@ -6,7 +6,6 @@ use Rattle.flow_core.specs.Admitting.{IsAdmitted}
 use Rattle.flow_core.specs.Allowing.{IsAllowed}
 use Rattle.flow_core.specs.Judgements.{IsVerdict}
 use Rattle.flow_core.specs.Replies.{applied_text, refusal_text}
-use Rattle.flow_core.specs.Refusals.{IsInOrder}
 use Rattle.flow_core.specs.Verdicts.{IsNoteOf}
 use Rattle.flow_core.specs.declared.applying.Note.{Note}
 use Rattle.flow_core.specs.declared.judging.Verdict.TheVariants.{Do, Same, Refused}
@@ -31,13 +30,13 @@ CommandsAreObeyed =
 -- a command that is refused changes nothing, and is replied to as the machine replies
 abbrev pub RefusalsAreObeyed : Type 0
 RefusalsAreObeyed =
-    (c : Core) (command : Command) (refusal : Refusal) → IsInOrder c → AreKeyed c
+    (c : Core) (command : Command) (refusal : Refusal) → AreKeyed c
     → IsVerdict c command (Refused refusal) → IsObeyed (view c) (view c) command (refusal_text refusal)
 
 -- nor does a START with the key of a live root
 abbrev pub SamesAreObeyed : Type 0
 SamesAreObeyed =
-    (c : Core) (command : Command) (root : ℕ) → IsInOrder c → AreKeyed c → IsVerdict c command (Same root)
+    (c : Core) (command : Command) (root : ℕ) → AreKeyed c → IsVerdict c command (Same root)
     → IsObeyed (view c) (view c) command (same_text root)
 
 -- in a right state whose keys are the machine's, what is made of a record that is admitted is a step of the machine

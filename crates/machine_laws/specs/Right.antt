@@ -25,7 +25,7 @@ use Rattle.machine_laws.specs.Viewed.{view, Does, TakesExactly, CompletesExactly
 -- the newest template of the name of a Start has its version, and the root that it starts runs that template
 pub record IsPlaced (c : Core) (root : ℕ) (process : Name) (version : ℕ) (c' : Core) : Type 0 where
   pub place : ℕ
-  pub newest : IsNewestVersion c.store.catalog.library process version place
+  pub newest : IsNewestVersion c.store process version place
   pub runs : RunsAt place (instance_of c' root)
 
 -- an item that is there is completed so, and these messages follow

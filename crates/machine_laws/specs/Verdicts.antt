@@ -1,7 +1,6 @@
 -- The verdict of a command over the engine's state is its verdict over the state of the machine.
 use Rattle.flow_core.specs.Allowing.{IsAllowed}
 use Rattle.flow_core.specs.Judgements as engine
-use Rattle.flow_core.specs.Refusals.{IsInOrder}
 use Rattle.flow_core.specs.Verdicts as engine_notes
 use Rattle.flow_core.specs.declared.applying.Note.{Note}
 use Rattle.flow_core.specs.declared.judging.Verdict.{Verdict}
@@ -16,7 +15,7 @@ use Rattle.machine_laws.specs.Keyed.{AreKeyed}
 -- the verdict of a command is its verdict over the machine's state
 abbrev pub VerdictsAreSeen : Type 0
 VerdictsAreSeen =
-    (c : Core) (command : Command) (v : Verdict) → IsInOrder c → AreKeyed c → engine.IsVerdict c command v
+    (c : Core) (command : Command) (v : Verdict) → AreKeyed c → engine.IsVerdict c command v
     → machine.IsVerdict (view c) command v
 
 -- what a reply names of a transaction that may be, by the engine's states before and after it, it names by those of

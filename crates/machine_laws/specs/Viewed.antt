@@ -35,7 +35,7 @@ root_of i = record {
 -- a state of the engine, as the machine sees it: how it is kept is left out
 abbrev pub view : Core → State
 view c = record {
-  library = c.store.catalog.library;
+  library = c.store;
   clock = c.clock;
   roots = λ root. option_map root_of (instance_of c root);
   queues = c.queues;
@@ -61,7 +61,7 @@ pub record Does (c : Core) (t : Transaction) (added : Added) (c' : Core) : Type 
   pub drives : Drives c t c'
   pub came : summary c' ≡ next t (summary c)
   pub clock : c'.clock ≡ clock_after t c.clock
-  pub library : c'.store.catalog.library ≡ with_added added c.store.catalog.library
+  pub library : c'.store ≡ with_added added c.store
 
 -- ---- the messages that follow from a turn and a completion
 

@@ -9,8 +9,6 @@ use Rattle.flow_model.specs.declared.graphs.Library.{Library}
 use Rattle.graph_check.specs.Walks.{HasEdge, IsWalk, AreNodes}
 use Rattle.machine.specs.Imports.{Added, IsMeaning}
 use Rattle.name_rules.specs.Names.{IsInsideAgain, IsTwice}
-use Rattle.process_rules.specs.Imports.{IsIndexed}
-use Rattle.process_rules.specs.declared.catalog.Catalog.{Catalog}
 use Rattle.template_check.proofs.FirstBroken.{none_then}
 use Rattle.template_check.specs.Compiling.{HasTree}
 use Rattle.template_check.specs.Judged.{IsFaultless}
@@ -157,5 +155,5 @@ faultless library = record {
 }
 
 -- behind each library the empty text means something
-meaning : (catalog : Catalog) → IsIndexed catalog → (added : Added) × IsMeaning catalog.library [] added
-meaning catalog indexed = text_meant catalog catalog.library [] refl indexed (faultless catalog.library)
+meaning : (library : Library) → (added : Added) × IsMeaning library [] added
+meaning library = text_meant library [] (faultless library)

@@ -10,6 +10,7 @@ use Rattle.flow_model.specs.declared.graphs.Activity.{Activity}
 use Rattle.flow_model.specs.declared.graphs.Control.{Control}
 use Rattle.flow_model.specs.declared.graphs.DataLine.{DataLine}
 use Rattle.flow_model.specs.declared.graphs.Graph.{Graph, roll-Graph}
+use Rattle.flow_model.specs.declared.graphs.Library.{Library}
 use Rattle.flow_model.specs.declared.graphs.LoopLine.{LoopLine}
 use Rattle.flow_model.specs.declared.graphs.MapEnd.{MapEnd}
 use Rattle.flow_model.specs.declared.graphs.MapEnd.TheVariants.{Border, Activity as At}
@@ -32,7 +33,6 @@ use Rattle.leaf_rules.specs.StructureLeaves.{Leafing, leaves_in}
 use Rattle.process_rules.specs.Callees.{IsNoProcess, named_by, process_named}
 use Rattle.process_rules.specs.Calling.{place_among}
 use Rattle.process_rules.specs.Knowing.{callee_named}
-use Rattle.process_rules.specs.declared.catalog.Catalog.{Catalog}
 use Rattle.process_rules.specs.declared.people.Callee.{Callee}
 use Rattle.template_check.proofs.Found.{HasNames, output_of}
 use Rattle.template_check.proofs.Meaning.{graph_meant}
@@ -154,16 +154,16 @@ edges_same leaves elements (OnePart {x = c} {y = m} {xs = cs} here rest) =
 
 -- ---- a graph of a text
 
-module _ (catalog : Catalog) (items : List ItemTree) (g : GraphAt) (h : IsUnbroken catalog.library items g) where
+module _ (library : Library) (items : List ItemTree) (g : GraphAt) (h : IsUnbroken library items g) where
   abbrev reading : Reading
-  reading = reading_behind catalog items
+  reading = reading_behind library items
 
   abbrev leaves : Leafing
   leaves = leaves_in (structures_in items)
 
   -- its containers have leaves, and its lines name activities of it
   known : HasNames leaves g
-  known = names catalog.library items g h
+  known = names library items g h
 
   -- if an activity is a block, its graph is meant
   abbrev IsMeantInside : ActivityTree → Type 0
@@ -172,9 +172,9 @@ module _ (catalog : Catalog) (items : List ItemTree) (g : GraphAt) (h : IsUnbrok
 
   -- what a name runs has a place in the library
   place_there : (calls : Option Callee) → (calls ≡ None → ⊥)
-      → (place : ℕ) × (option_map (place_among catalog) calls ≡ Some place)
+      → (place : ℕ) × (option_map (place_among library) calls ≡ Some place)
   place_there None full = absurd (full refl)
-  place_there (Some callee) full = (place_among catalog callee, refl)
+  place_there (Some callee) full = (place_among library callee, refl)
 
   -- what an activity does, by its form
   work_by : (a : ActivityTree) → Contains (activities_in g.elements) a → IsMeantInside a
@@ -184,7 +184,7 @@ module _ (catalog : Catalog) (items : List ItemTree) (g : GraphAt) (h : IsUnbrok
     ProgramOf (sym (roll-out-WorkTree a.work) ∙ ap roll-WorkTree out ∙ rolls-Program) refl,
   )
   work_by a has inside (WorkTree-F.Process name) out =
-      let calls = callee_named catalog.library (processes_in items) in
+      let calls = callee_named library (processes_in items) in
       let is : a.work ≡ work.Process name =
       sym (roll-out-WorkTree a.work) ∙ ap roll-WorkTree out ∙ rolls-Process name in
       let full : calls g.process name.name ≡ None → ⊥ =
@@ -207,7 +207,7 @@ module _ (catalog : Catalog) (items : List ItemTree) (g : GraphAt) (h : IsUnbrok
       let works = work_by a has inside (out-WorkTree a.work) refl in
       let input = (known.containers a has).0 in
       let output = output_of leaves g known a has in
-      let exit = exit_there catalog.library items g h a has in (
+      let exit = exit_there library items g h a has in (
         record {
           name = a.name.name;
           work = works.0;
@@ -238,11 +238,11 @@ module _ (catalog : Catalog) (items : List ItemTree) (g : GraphAt) (h : IsUnbrok
       let activities = ones_there (IsActivity (IsMeant reading) reading (text_at g)) acts
       (λ k d less. activity_there (get_or acts k d) (Contains-get_or acts k d less) (inside k d less)) in
       let controls = ones_there (IsControl leaves g.elements) cs
-      (λ k d less. control_there catalog.library items g h (get_or cs k d) (Contains-get_or cs k d less)) in
+      (λ k d less. control_there library items g h (get_or cs k d) (Contains-get_or cs k d less)) in
       let lines = parts_there (IsDataLine leaves (text_at g)) ls
-      (λ k d less. data_there catalog.library items g h (get_or ls k d) (Contains-get_or ls k d less)) in
+      (λ k d less. data_there library items g h (get_or ls k d) (Contains-get_or ls k d less)) in
       let loops = parts_there (IsLoopLine leaves (text_at g)) ls
-      (λ k d less. loop_there catalog.library items g h (get_or ls k d) (Contains-get_or ls k d less)) in
+      (λ k d less. loop_there library items g h (get_or ls k d) (Contains-get_or ls k d less)) in
       let long = ones_long (IsActivity (IsMeant reading) reading (text_at g)) activities.1 in
       let same = edges_same leaves g.elements controls.1 in
       let bound : AreWithin (length acts) controls.0 lines.0 loops.0 = record {
@@ -277,8 +277,8 @@ module _ (catalog : Catalog) (items : List ItemTree) (g : GraphAt) (h : IsUnbrok
 
 -- ---- all graphs of a text
 
-module _ (catalog : Catalog) (items : List ItemTree)
-    (none : IsFirstBroken (later_rules catalog.library items) None) where
+module _ (library : Library) (items : List ItemTree)
+    (none : IsFirstBroken (later_rules library items) None) where
   -- the graph where it stands
   abbrev standing : (t : GraphText) → StandsIn items t → GraphAt
   standing t stands = record {
@@ -296,19 +296,19 @@ module _ (catalog : Catalog) (items : List ItemTree)
 
   -- a graph in which fewer than this many blocks nest is meant
   graph_to : (depth : ℕ) (t : GraphText) → depth_of t.elements < depth → StandsIn items t
-      → (made : Graph) × IsMeant (reading_behind catalog items) t made
+      → (made : Graph) × IsMeant (reading_behind library items) t made
   graph_to zero t less stands = absurd (omega (arith, less))
   graph_to (suc depth) t less stands =
       let acts = activities_in t.elements in
-      let unbroken = graph_unbroken catalog.library items none (standing t stands)
+      let unbroken = graph_unbroken library items none (standing t stands)
       (t.process, stands.process, stands.listed, stands.stands) in
-      let made = graph_there catalog items (standing t stands) unbroken
+      let made = graph_there library items (standing t stands) unbroken
       (λ k d inside inner is. graph_to depth (block_text t.process (get_or acts k d) inner)
       (let lower = shallower t.elements k d inside inner is in omega (arith, lower, less))
       (block_stands items t (get_or acts k d) inner (Contains-get_or acts k d inside) is stands)) in
-      (made.0, subst (λ (u : GraphText). IsMeant (reading_behind catalog items) u made.0) (text_same t stands) made.1)
+      (made.0, subst (λ (u : GraphText). IsMeant (reading_behind library items) u made.0) (text_same t stands) made.1)
 
   -- a graph of the text is meant, with all blocks inside it
   pub graph_meant_there : (t : GraphText) → StandsIn items t
-      → (made : Graph) × IsMeant (reading_behind catalog items) t made
+      → (made : Graph) × IsMeant (reading_behind library items) t made
   graph_meant_there t stands = graph_to (suc (depth_of t.elements)) t (omega arith) stands

@@ -9,9 +9,8 @@ use Rattle.flow_model.specs.declared.trees.ItemTree.{ItemTree}
 use Rattle.flow_model.specs.declared.trees.ProcessTree.{ProcessTree}
 use Rattle.machine.proofs.Meaning.{means_one}
 use Rattle.machine.specs.Imports.{Added, IsMeaning}
-use Rattle.process_rules.specs.Imports.{IsIndexed, next_version}
+use Rattle.process_rules.specs.Imports.{next_version}
 use Rattle.process_rules.specs.Shapes.{shape_at, shapes_of}
-use Rattle.process_rules.specs.declared.catalog.Catalog.{Catalog}
 use Rattle.process_rules.specs.declared.sizes.Shape.{Shape}
 use Rattle.template_check.specs.Compiling.{HasShape, HaveNumbers, IsReading, declared_people}
 use Rattle.template_check.specs.Judged.{IsFaultless}
@@ -25,17 +24,17 @@ use Rattle.meaning_laws.proofs.Graphs.{graph_meant_there}
 
 -- ---- templates
 
-module _ (catalog : Catalog) (items : List ItemTree)
-    (none : IsFirstBroken (later_rules catalog.library items) None) where
+module _ (library : Library) (items : List ItemTree)
+    (none : IsFirstBroken (later_rules library items) None) where
   abbrev shapes : List Shape
-  shapes = shapes_of catalog.library (processes_in items)
+  shapes = shapes_of library (processes_in items)
 
   -- templates for processes of which the first has this number: named, numbered and meant as they ask
   record AreTemplatesFrom (number : ℕ) (ps : List ProcessTree) (ts : List Template) : Type 0 where
     pub named : map (λ t. t.name) ts ≡ map (λ p. p.name.name) ps
-    pub versions : map (λ t. t.version) ts ≡ map (λ p. next_version catalog.library p.name.name) ps
+    pub versions : map (λ t. t.version) ts ≡ map (λ p. next_version library p.name.name) ps
     pub shaped : (k : ℕ) (t : Template) → slice_get ts k ≡ Some t → HasShape t (shape_at shapes (number + k))
-    pub meant : AreMeantFrom (reading_behind catalog items) number ps ts
+    pub meant : AreMeantFrom (reading_behind library items) number ps ts
 
   -- there are such
   templates_from : (number : ℕ) (ps : List ProcessTree)
@@ -49,10 +48,10 @@ module _ (catalog : Catalog) (items : List ItemTree)
       let first : number + 0 ≡ number = omega arith in
       let here : StandsIn items (process_text number p) =
       subst (λ (n : ℕ). StandsIn items (process_text n p)) first (stands 0 p refl) in
-      let graph = graph_meant_there catalog items none (process_text number p) here in
+      let graph = graph_meant_there library items none (process_text number p) here in
       let t : Template = record {
         name = p.name.name;
-        version = next_version catalog.library p.name.name;
+        version = next_version library p.name.name;
         graph = graph.0;
         depth = min (shape_at shapes number).depth (2 ^ 32 - 1);
         size = min (shape_at shapes number).size (2 ^ 32 - 1);
@@ -63,7 +62,7 @@ module _ (catalog : Catalog) (items : List ItemTree)
         t ∷ rest.0,
         record {
           named = ap (λ (ns : List (List ℕ)). p.name.name ∷ ns) rest.1.named;
-          versions = ap (λ (ns : List ℕ). next_version catalog.library p.name.name ∷ ns) rest.1.versions;
+          versions = ap (λ (ns : List ℕ). next_version library p.name.name ∷ ns) rest.1.versions;
           shaped = shaped_next number t rest.0 (record { depth = refl; size = refl }) rest.1.shaped;
           meant = (graph.1, rest.1.meant);
         },
@@ -89,7 +88,7 @@ module _ (catalog : Catalog) (items : List ItemTree)
       (process_stands items k p is))
 
   -- they have its versions, depths and sizes
-  numbered : HaveNumbers catalog.library (processes_in items) templates_there.0
+  numbered : HaveNumbers library (processes_in items) templates_there.0
   numbered = record {
     versions = templates_there.1.versions;
     shaped = λ k t there.
@@ -98,51 +97,46 @@ module _ (catalog : Catalog) (items : List ItemTree)
   }
 
   -- the reading is one of the text
-  read : IsReading catalog items (reading_behind catalog items)
+  read : IsReading library items (reading_behind library items)
   read = record {
     leaves = λ g is. record { input = refl; output = refl; activities = λ k d less. (refl, refl) };
-    places = λ indexed number name. refl;
+    places = λ number name. refl;
   }
 
 -- ---- texts
 
 -- each process of a text that breaks no rule means a graph
-pub process_meant : (catalog : Catalog) (items : List ItemTree) (number : ℕ) (process : ProcessTree)
-    → IsFirstBroken (later_rules catalog.library items) None → slice_get (processes_in items) number ≡ Some process
-    → (made : Graph) × IsMeant (reading_behind catalog items) (process_text number process) made
-process_meant catalog items number process none is =
-    graph_meant_there catalog items none (process_text number process) (process_stands items number process is)
+pub process_meant : (library : Library) (items : List ItemTree) (number : ℕ) (process : ProcessTree)
+    → IsFirstBroken (later_rules library items) None → slice_get (processes_in items) number ≡ Some process
+    → (made : Graph) × IsMeant (reading_behind library items) (process_text number process) made
+process_meant library items number process none is =
+    graph_meant_there library items none (process_text number process) (process_stands items number process is)
 
 -- a text that breaks no rule has a meaning
-pub text_meant : (catalog : Catalog) (library : Library) (text : List ℕ) → catalog.library ≡ library → IsIndexed catalog
-    → IsFaultless library text → (added : Added) × IsMeaning library text added
-text_meant catalog library text same indexed faultless =
+pub text_meant : (library : Library) (text : List ℕ) → IsFaultless library text
+    → (added : Added) × IsMeaning library text added
+text_meant library text faultless =
     let items = faultless.tree.items in
-    let none = subst (λ (l : Library). IsFirstBroken (later_rules l items) None) (sym same) faultless.none in
-    let made = templates_there catalog items none in (
+    let made = templates_there library items faultless.none in (
       record { templates = made.0; people = declared_people items },
       record {
         faultless = faultless;
         named = record { tree = faultless.tree; has = faultless.has; named = made.1.named };
-        catalog = catalog;
-        of = same;
-        indexed = indexed;
         meant = record {
           tree = faultless.tree;
           has = faultless.has;
-          reading = reading_behind catalog items;
-          read = read catalog items none;
+          reading = reading_behind library items;
+          read = read library items faultless.none;
           meant = made.1.meant;
-          numbered = λ is. numbered catalog items none;
+          numbered = numbered library items faultless.none;
         };
         people = record { tree = faultless.tree; has = faultless.has; declared = refl };
       },
     )
 
 -- and it means one thing
-pub text_meant_once : (catalog : Catalog) (library : Library) (text : List ℕ) → catalog.library ≡ library
-    → IsIndexed catalog → IsFaultless library text
+pub text_meant_once : (library : Library) (text : List ℕ) → IsFaultless library text
     → (added : Added) × IsMeaning library text added × ((other : Added) → IsMeaning library text other → other ≡ added)
-text_meant_once catalog library text same indexed faultless =
-    let found = text_meant catalog library text same indexed faultless in
+text_meant_once library text faultless =
+    let found = text_meant library text faultless in
     (found.0, found.1, λ other is. means_one library text other found.0 is found.1)

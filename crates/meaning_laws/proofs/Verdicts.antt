@@ -10,8 +10,6 @@ use Rattle.machine.specs.Imports.{Added, nothing_added, Adds}
 use Rattle.machine.specs.States.{State}
 use Rattle.machine.specs.Steps.{Steps, after}
 use Rattle.machine.specs.Verdicts.{IsRuleOf, IsVerdict, first_of, full_test}
-use Rattle.process_rules.specs.Imports.{IsIndexed}
-use Rattle.process_rules.specs.declared.catalog.Catalog.{Catalog}
 use Rattle.template_check.specs.Judged.{IsFaultless}
 use Rattle.meaning_laws.proofs.Texts.{text_meant}
 
@@ -21,7 +19,7 @@ no_rule : (s : State) (text : List ℕ) (rule : Option Refusal) → IsRuleOf s t
 no_rule s text None is none = is
 no_rule s text (Some refusal) is none = absurd (none-some refusal none)
 
-module _ (s : State) (catalog : Catalog) (same : catalog.library ≡ s.library) (indexed : IsIndexed catalog) where
+module _ (s : State) where
   -- what a transaction adds is there
   abbrev IsAdding : Transaction → Type 0
   IsAdding t = (added : Added) × Adds s.library t added
@@ -34,7 +32,7 @@ module _ (s : State) (catalog : Catalog) (same : catalog.library ≡ s.library) 
   verdict_adds : (command : Command) (t : Transaction) → IsVerdict s command (Do t) → IsAdding t
   verdict_adds (asked.Import text) t is =
       let rule = is.1 in
-      subst IsAdding (sym is.2) (text_meant catalog s.library text same indexed (no_rule s text rule.0 rule.1 rule.2))
+      subst IsAdding (sym is.2) (text_meant s.library text (no_rule s text rule.0 rule.1 rule.2))
   verdict_adds (asked.Start process starter key written) t is = nothing _ t is.2.3 refl
   verdict_adds (asked.Turn queue) t is = nothing _ t is.2.2 refl
   verdict_adds asked.Drain t is = absurd is.2

@@ -18,9 +18,7 @@ use Rattle.machine.specs.Imports.{Added, IsMeaning}
 use Rattle.machine.specs.States.{State}
 use Rattle.machine.specs.Steps.{Steps}
 use Rattle.machine.specs.Verdicts.{IsVerdict}
-use Rattle.process_rules.specs.Imports.{IsIndexed}
 use Rattle.process_rules.specs.Knowing.{place_named}
-use Rattle.process_rules.specs.declared.catalog.Catalog.{Catalog}
 use Rattle.template_check.specs.Judged.{IsFaultless}
 use Rattle.template_check.specs.Meant.{IsMeant, Reading}
 use Rattle.template_check.specs.Rules.{IsFirstBroken, later_rules}
@@ -42,34 +40,31 @@ AcyclicGraphsHaveOrders =
 
 -- the reading of the names of a text behind a library: the leaves of each structure by its members, and the place of
 -- the process that a name stands for
-abbrev pub reading_behind : Catalog → List ItemTree → Reading
-reading_behind catalog items = record {
+abbrev pub reading_behind : Library → List ItemTree → Reading
+reading_behind library items = record {
   leaves = leaves_in (structures_in items);
-  place = place_named catalog (processes_in items);
+  place = place_named library (processes_in items);
 }
 
 -- by that reading each process of a text that breaks no rule means a graph
 abbrev pub FaultlessGraphsMean : Type 0
 FaultlessGraphsMean =
-    (catalog : Catalog) (items : List ItemTree) (number : ℕ) (process : ProcessTree)
-    → IsFirstBroken (later_rules catalog.library items) None → slice_get (processes_in items) number ≡ Some process
-    → (made : Graph) × IsMeant (reading_behind catalog items) (process_text number process) made
+    (library : Library) (items : List ItemTree) (number : ℕ) (process : ProcessTree)
+    → IsFirstBroken (later_rules library items) None → slice_get (processes_in items) number ≡ Some process
+    → (made : Graph) × IsMeant (reading_behind library items) (process_text number process) made
 
--- behind a library that is indexed right, each text that breaks no rule has a meaning
+-- behind a library each text that breaks no rule has a meaning
 abbrev pub FaultlessTextsMean : Type 0
 FaultlessTextsMean =
-    (catalog : Catalog) (library : Library) (text : List ℕ) → catalog.library ≡ library → IsIndexed catalog
-    → IsFaultless library text → (added : Added) × IsMeaning library text added
+    (library : Library) (text : List ℕ) → IsFaultless library text → (added : Added) × IsMeaning library text added
 
 -- and it means one thing
 abbrev pub FaultlessTextsMeanOnce : Type 0
 FaultlessTextsMeanOnce =
-    (catalog : Catalog) (library : Library) (text : List ℕ) → catalog.library ≡ library → IsIndexed catalog
-    → IsFaultless library text
+    (library : Library) (text : List ℕ) → IsFaultless library text
     → (added : Added) × IsMeaning library text added × ((other : Added) → IsMeaning library text other → other ≡ added)
 
--- so in a state whose library is indexed right, each transaction that a command is judged to has a step
+-- so each transaction that a command is judged to has a step
 abbrev pub VerdictsHaveSteps : Type 0
 VerdictsHaveSteps =
-    (s : State) (catalog : Catalog) → catalog.library ≡ s.library → IsIndexed catalog
-    → (command : Command) (t : Transaction) → IsVerdict s command (Do t) → (s' : State) × Steps s t s'
+    (s : State) (command : Command) (t : Transaction) → IsVerdict s command (Do t) → (s' : State) × Steps s t s'

@@ -15,8 +15,8 @@ use Rattle.flow_model.specs.declared.trees.NameAt.{NameAt}
 use Rattle.flow_model.specs.declared.trees.PersonTree.{PersonTree}
 use Rattle.flow_model.specs.declared.trees.ProcessTree.{ProcessTree}
 use Rattle.process_rules.specs.Doers.{is_person}
-use Rattle.process_rules.specs.Calling.{before_this, text_or, place_among, place_meant, stored_meant, callee_meant}
-use Rattle.process_rules.specs.Imports.{last_place, latest_person, IsIndexed}
+use Rattle.process_rules.specs.Calling.{before_this, text_or, place_among, place_meant, stored_named, callee_meant}
+use Rattle.process_rules.specs.Imports.{last_place, latest_person}
 use Rattle.process_rules.specs.Knowing.{AreLast, IsKnowing, ArePeople, callee_named, place_named}
 use Rattle.process_rules.specs.declared.people.Callee.{Callee}
 use Rattle.process_rules.specs.declared.people.Callee.TheVariants as callee
@@ -103,16 +103,14 @@ pub person_second : (known : Known) (people : List PersonTree) → ArePeople kno
 person_second known people are name met = ap (λ (b : Bool). b || is_some (latest_person known.catalog.now.library name)) (sym met) ∙ person_known known people are name
 
 -- what a name stands for by what is known, it stands for by the text and the library
-pub callee_known : (known : Known) (ps : List ProcessTree) → IsKnowing known ps → IsIndexed known.catalog.now → (number : ℕ) (name : List ℕ) → callee_meant known number name ≡ callee_named known.catalog.now.library ps number name
-callee_known known ps h indexed number name =
-    ap (λ (o : Option ℕ). text_or (before_this number o) (stored_meant known.catalog.now name)) (h.numbered name)
-    ∙ ap (λ (o : Option ℕ). text_or (before_this number (last_place (λ p. bytes_eq p.name.name name) ps))
-    (option_and_then (λ place. option_map (λ t. callee.Library place) (slice_get known.catalog.now.library.templates place)) o)) (indexed.0 name)
+pub callee_known : (known : Known) (ps : List ProcessTree) → IsKnowing known ps → (number : ℕ) (name : List ℕ) → callee_meant known number name ≡ callee_named known.catalog.now.library ps number name
+callee_known known ps h number name =
+    ap (λ (o : Option ℕ). text_or (before_this number o) (stored_named known.catalog.now.library name)) (h.numbered name)
 
 -- so do all names
-pub calls_known : (known : Known) (ps : List ProcessTree) → IsKnowing known ps → IsIndexed known.catalog.now → callee_meant known ≡ callee_named known.catalog.now.library ps
-calls_known known ps h indexed = λ j number name. callee_known known ps h indexed number name j
+pub calls_known : (known : Known) (ps : List ProcessTree) → IsKnowing known ps → callee_meant known ≡ callee_named known.catalog.now.library ps
+calls_known known ps h = λ j number name. callee_known known ps h number name j
 
 -- and where it leads
-pub place_known : (known : Known) (ps : List ProcessTree) → IsKnowing known ps → IsIndexed known.catalog.now → (number : ℕ) (name : List ℕ) → place_meant known number name ≡ place_named known.catalog.now ps number name
-place_known known ps h indexed number name = ap (λ (o : Option Callee). option_map (place_among known.catalog.now) o) (callee_known known ps h indexed number name)
+pub place_known : (known : Known) (ps : List ProcessTree) → IsKnowing known ps → (number : ℕ) (name : List ℕ) → place_meant known number name ≡ place_named known.catalog.now.library ps number name
+place_known known ps h number name = ap (λ (o : Option Callee). option_map (place_among known.catalog.now.library) o) (callee_known known ps h number name)

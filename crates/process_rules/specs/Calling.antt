@@ -3,15 +3,15 @@ use Rattle.std.specs.Prelude.{◌≡◌, ℕ, zero, suc, ◌+◌, ◌<◌, nat_l
 use Rattle.std.specs.Prelude.{bytes_eq, length, slice_get}
 use Rattle.std.specs.Option.{option_map, option_and_then}
 use Rattle.std.specs.HashMap as hash
-use Rattle.process_rules.specs.Imports.{newest_listed}
+use Rattle.process_rules.specs.Imports.{newest_place}
 use Rattle.process_rules.specs.declared.people.Known.{Known}
 use Rattle.std.specs.List.{All}
 use Rattle.fate_laws.specs.Layout.{OfInside}
 use Rattle.flow_model.specs.ScopeContainers.{graph_in}
 use Rattle.flow_model.specs.declared.graphs.Graph.{Graph, out-Graph}
+use Rattle.flow_model.specs.declared.graphs.Library.{Library}
 use Rattle.flow_model.specs.declared.graphs.Template.{Template}
 use Rattle.flow_model.specs.declared.graphs.Work.{Work, Program, Block, Process}
-use Rattle.process_rules.specs.declared.catalog.Catalog.{Catalog}
 use Rattle.process_rules.specs.declared.people.Callee.{Callee}
 use Rattle.process_rules.specs.declared.people.Callee.TheVariants as callee
 
@@ -45,13 +45,13 @@ abbrev pub AreOrdered : ℕ → List Template → Type 0
 AreOrdered before ts = (k : ℕ) (t : Template) → slice_get ts k ≡ Some t → IsCalling (before + k) t.graph
 
 -- the place that the process of this number of a text has behind the templates of a library
-abbrev pub place_behind : Catalog → ℕ → ℕ
-place_behind earlier number = length earlier.library.templates + number
+abbrev pub place_behind : Library → ℕ → ℕ
+place_behind library number = length library.templates + number
 
 -- what the process of this number runs is there before it: an earlier process of the text, or a template of the library
-abbrev pub IsBefore : Catalog → ℕ → Callee → Type 0
-IsBefore earlier number (callee.Text t) = t < number
-IsBefore earlier number (callee.Library place) = place < length earlier.library.templates
+abbrev pub IsBefore : Library → ℕ → Callee → Type 0
+IsBefore library number (callee.Text t) = t < number
+IsBefore library number (callee.Library place) = place < length library.templates
 
 -- the number of the process of a name in the text, where it stands before this one
 abbrev pub before_this : ℕ → Option ℕ → Option ℕ
@@ -61,10 +61,10 @@ before_this process (Some number) = if nat_lt number process then Some number el
 abbrev pub earlier_meant : Known → ℕ → List ℕ → Option ℕ
 earlier_meant known process name = before_this process (hash.get_by (λ key. bytes_eq name key.now) known.numbers)
 
--- the newest template of a name, where it is in the library
-abbrev pub stored_meant : Catalog → List ℕ → Option Callee
-stored_meant c name = option_and_then (λ place. option_map (λ t. callee.Library place)
-    (slice_get c.library.templates place)) (newest_listed c name)
+-- the newest template of a name in the library
+abbrev pub stored_named : Library → List ℕ → Option Callee
+stored_named library name = option_and_then (λ place. option_map (λ t. callee.Library place)
+    (slice_get library.templates place)) (newest_place library name)
 
 -- a process of the text where there is one, else what is in the library
 abbrev pub text_or : Option ℕ → Option Callee → Option Callee
@@ -73,12 +73,12 @@ text_or (Some number) stored = Some (callee.Text number)
 
 -- what an activity in the process of this number runs by a name
 abbrev pub callee_meant : Known → ℕ → List ℕ → Option Callee
-callee_meant known process name = text_or (earlier_meant known process name) (stored_meant known.catalog.now name)
+callee_meant known process name = text_or (earlier_meant known process name) (stored_named known.catalog.now.library name)
 
 -- where it is in the library once the text is added
-abbrev pub place_among : Catalog → Callee → ℕ
-place_among earlier (callee.Text number) = place_behind earlier number
-place_among earlier (callee.Library place) = place
+abbrev pub place_among : Library → Callee → ℕ
+place_among library (callee.Text number) = place_behind library number
+place_among library (callee.Library place) = place
 
 abbrev pub place_meant : Known → ℕ → List ℕ → Option ℕ
-place_meant known process name = option_map (place_among known.catalog.now) (callee_meant known process name)
+place_meant known process name = option_map (place_among known.catalog.now.library) (callee_meant known process name)

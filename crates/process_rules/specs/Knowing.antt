@@ -8,9 +8,8 @@ use Rattle.std.specs.HashMap.{HashMap}
 use Rattle.flow_model.specs.declared.graphs.Library.{Library}
 use Rattle.flow_model.specs.declared.trees.PersonTree.{PersonTree}
 use Rattle.flow_model.specs.declared.trees.ProcessTree.{ProcessTree}
-use Rattle.process_rules.specs.Calling.{before_this, text_or, place_among}
-use Rattle.process_rules.specs.Imports.{last_place, newest_place}
-use Rattle.process_rules.specs.declared.catalog.Catalog.{Catalog}
+use Rattle.process_rules.specs.Calling.{before_this, text_or, stored_named, place_among}
+use Rattle.process_rules.specs.Imports.{last_place}
 use Rattle.process_rules.specs.declared.people.Callee.{Callee}
 use Rattle.process_rules.specs.declared.people.Callee.TheVariants as callee
 use Rattle.process_rules.specs.declared.people.Known.{Known}
@@ -31,17 +30,12 @@ abbrev pub ArePeople : Known → List PersonTree → Type 0
 ArePeople known people = (name : List ℕ) → list_any (λ k. bytes_eq name k.now) known.people.keys
     ≡ list_any (λ n. bytes_eq name n.name) (map (λ q. q.name) people)
 
--- the newest template of a name in the library
-abbrev pub stored_named : Library → List ℕ → Option Callee
-stored_named library name = option_and_then (λ place. option_map (λ t. callee.Library place)
-    (slice_get library.templates place)) (newest_place library name)
-
 -- what an activity in the process of this number runs by a name: the process of the text, where it stands before
 abbrev pub callee_named : Library → List ProcessTree → ℕ → List ℕ → Option Callee
 callee_named library processes number name = text_or
     (before_this number (last_place (λ p. bytes_eq p.name.name name) processes)) (stored_named library name)
 
 -- its place in the library, once the text is added
-abbrev pub place_named : Catalog → List ProcessTree → ℕ → List ℕ → Option ℕ
-place_named earlier processes number name = option_map (place_among earlier)
-    (callee_named earlier.library processes number name)
+abbrev pub place_named : Library → List ProcessTree → ℕ → List ℕ → Option ℕ
+place_named library processes number name = option_map (place_among library)
+    (callee_named library processes number name)

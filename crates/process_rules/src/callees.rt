@@ -9,7 +9,6 @@ ghost use Rattle.process_rules.specs.Callees.{process_named, IsNoProcess, NamesN
 ghost use Rattle.process_rules.specs.Callees.{callee_input, callee_output, AreAlike, IsFitting, HasMisfit};
 ghost use Rattle.process_rules.specs.Callees.{call_at, call_of, calls_in, calls_among, AreCallsInOrder, IsMisfitOf};
 ghost use Rattle.process_rules.specs.Calling.{callee_meant};
-ghost use Rattle.process_rules.specs.Imports.{IsIndexed};
 ghost use Rattle.process_rules.specs.Knowing.{IsKnowing};
 ghost use Rattle.process_rules.specs.Seen.{AreMatches, AreSeen, template_inputs, template_outputs};
 ghost use Rattle.text_graphs.specs.Graphs.{graph_at, graphs_in};
@@ -69,10 +68,10 @@ fn unknown_in_graphs<'a>(known: &Known<'a>, scopes: &[Scope<'a>]) -> Option<u32>
 
 /// Rule 17: a PROCESS_ACTIVITY names a process that isn't there yet.
 ///
-/// `known` says it of what the names lead to in `known`, whatever the index of the library is.
+/// `known` says it of what the names lead to in `known`, whatever list that was made of.
 pub fn unknown_processes<'a>(known: &Known<'a>, scopes: &[Scope<'a>]) -> Option<u32>
     ensures known { IsLeastOf (AnyAt (λ s. NamesNone (callee_meant known.now) (graph_at s)) scopes.now) result }
-    ensures named { (processes : List ProcessTree) → IsKnowing known.now processes → IsIndexed known.now.catalog.now
+    ensures named { (processes : List ProcessTree) → IsKnowing known.now processes
         → IsLeastOf (AnyAt (λ s. NamesNoProcess known.now.catalog.now.library processes (graph_at s)) scopes.now)
         result }
 {
@@ -271,7 +270,7 @@ pub fn mismatched_containers<'a>(
     table: &LeafTable<'a>,
     scopes: &[Scope<'a>],
 ) -> Result<Option<u32>, AllocError>
-    ensures { (processes : List ProcessTree) → IsKnowing known.now processes → IsIndexed known.now.catalog.now
+    ensures { (processes : List ProcessTree) → IsKnowing known.now processes
         → IfOk result (IsLeastOf (AnyAt (λ s. HasMisfit (table_leaves table.now) known.now.catalog.now.library processes
         (graph_at s)) scopes.now)) }
 {

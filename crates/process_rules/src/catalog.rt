@@ -13,6 +13,7 @@ pub struct Catalog {
     library: Library,
     templates: IndexMap<Vec<u8>, u32>,
     people: IndexMap<Vec<u8>, u32>,
+    pub ghost few: { length library.templates ≤ 2 ^ 32 },
     pub ghost templates_indexed: { AreIndexed (λ t. t.name) library.templates templates },
     pub ghost people_indexed: { AreIndexed (λ q. q.name) library.people people },
 }
@@ -28,13 +29,12 @@ fn next_place(len: usize) -> Result<u32, AllocError>
 }
 
 impl Catalog {
-    ghost use Rattle.process_rules.specs.Imports.{IsIndexed, newest_place, next_version, newest_listed, latest_place};
+    ghost use Rattle.process_rules.specs.Imports.{newest_place, next_version, latest_place};
     ghost use Rattle.process_rules.specs.Imports.{latest_person};
 
     /// An empty library.
     pub fn new(alloc: Global) -> Catalog
-        ensures indexed { IsIndexed result }
-        ensures empty { result.library ≡ record { templates = []; people = [] } }
+        ensures { result.library ≡ record { templates = []; people = [] } }
     {
         Catalog {
             library: Library {
@@ -55,8 +55,7 @@ impl Catalog {
 
     /// The place of the newest template of this name; None exactly where there is none.
     pub fn newest(&self, name: &Name) -> Option<u32>
-        ensures newest { IsIndexed self.now → result ≡ newest_place self.now.library name.now }
-        ensures listed { result ≡ newest_listed self.now name.now }
+        ensures { result ≡ newest_place self.now.library name.now }
     {
         self.templates.get(name.as_slice()).copied()
     }
@@ -70,7 +69,7 @@ impl Catalog {
 
     /// The version that the next template of this name has.
     pub fn next_version(&self, name: &Name) -> u32
-        ensures { IsIndexed self.now → result ≡ next_version self.now.library name.now }
+        ensures { result ≡ next_version self.now.library name.now }
     {
         match self.newest(name) {
             None => 1,
@@ -83,7 +82,7 @@ impl Catalog {
 
     /// The latest declaration of the person of this name; None exactly where there is none.
     pub fn person(&self, name: &Name) -> Option<&PersonDef>
-        ensures { IsIndexed self.now → option_copied result ≡ latest_person self.now.library name.now }
+        ensures { option_copied result ≡ latest_person self.now.library name.now }
     {
         match self.latest(name) {
             None => None,
@@ -93,7 +92,7 @@ impl Catalog {
 
     /// The place of the latest declaration of a name.
     fn latest(&self, name: &Name) -> Option<u32>
-        ensures { IsIndexed self.now → result ≡ latest_place self.now.library name.now }
+        ensures { result ≡ latest_place self.now.library name.now }
     {
         self.people.get(name.as_slice()).copied()
     }
@@ -112,8 +111,6 @@ impl Catalog {
               ++ template ∷ [];
           people = self.old.library.people;
         }) }
-        ensures indexed { OnOk result (length self.old.library.templates < 2 ^ 32 → IsIndexed self.old
-            → IsIndexed self.new) }
         ensures unchanged { OnErr result (self.new.library ≡ self.old.library) }
     {
         let place = next_place(self.library.templates.len())?;
@@ -133,8 +130,6 @@ impl Catalog {
           people =
               self.old.library.people ++ person ∷ [];
         }) }
-        ensures indexed { OnOk result (length self.old.library.people < 2 ^ 32 → IsIndexed self.old
-            → IsIndexed self.new) }
         ensures unchanged { OnErr result (self.new.library ≡ self.old.library) }
     {
         let place = next_place(self.library.people.len())?;

@@ -6,7 +6,6 @@ ghost use Rattle.flow_model.specs.declared.trees.PersonTree.{PersonTree};
 ghost use Rattle.connector_rules.specs.Walking.{AreWalksOf};
 ghost use Rattle.process_rules.specs.Doers.{IsNoPerson, NamesNoPerson, is_person, Leads, IsManual, IsPerformer};
 ghost use Rattle.process_rules.specs.Doers.{IsWrongName, IsNoPerformer, NamesNoPerformer, is_performer};
-ghost use Rattle.process_rules.specs.Imports.{IsIndexed};
 ghost use Rattle.process_rules.specs.Knowing.{ArePeople};
 ghost use Rattle.text_graphs.specs.Attributes.{is_start_manual};
 ghost use Rattle.text_graphs.specs.Graphs.{graph_at};
@@ -21,7 +20,7 @@ use text_graphs::{Scope, lesser, narrow};
 
 /// The place of the name of somebody who isn't known.
 fn unknown_name<'a>(known: &Known<'a>, what: &'a AttrTree) -> Option<u32>
-    ensures { (people : List PersonTree) → ArePeople known.now people → IsIndexed known.now.catalog.now
+    ensures { (people : List PersonTree) → ArePeople known.now people
         → IsLeastOf (IsNoPerson (is_person known.now.catalog.now.library people) what.now) result }
 {
     match what {
@@ -43,7 +42,7 @@ fn unknown_name<'a>(known: &Known<'a>, what: &'a AttrTree) -> Option<u32>
 }
 
 fn unknown_in_activity<'a>(known: &Known<'a>, activity: &'a ActivityTree) -> Option<u32>
-    ensures { (people : List PersonTree) → ArePeople known.now people → IsIndexed known.now.catalog.now
+    ensures { (people : List PersonTree) → ArePeople known.now people
         → IsLeastOf (AnyAt (λ x. IsNoPerson (is_person known.now.catalog.now.library people) x.what) activity.now.attrs)
         result }
 {
@@ -55,7 +54,7 @@ fn unknown_in_activity<'a>(known: &Known<'a>, activity: &'a ActivityTree) -> Opt
 }
 
 fn unknown_in_graph<'a>(known: &Known<'a>, scope: &Scope<'a>) -> Option<u32>
-    ensures { (people : List PersonTree) → ArePeople known.now people → IsIndexed known.now.catalog.now
+    ensures { (people : List PersonTree) → ArePeople known.now people
         → IsLeastOf (NamesNoPerson known.now.catalog.now.library people (graph_at scope.now)) result }
 {
     let mut least = None;
@@ -67,7 +66,7 @@ fn unknown_in_graph<'a>(known: &Known<'a>, scope: &Scope<'a>) -> Option<u32>
 
 /// Rule 19: DONE_BY PERSON names no person.
 pub fn unknown_people<'a>(known: &Known<'a>, scopes: &[Scope<'a>]) -> Option<u32>
-    ensures { (people : List PersonTree) → ArePeople known.now people → IsIndexed known.now.catalog.now
+    ensures { (people : List PersonTree) → ArePeople known.now people
         → IsLeastOf (AnyAt (λ s. NamesNoPerson known.now.catalog.now.library people (graph_at s)) scopes.now) result }
 {
     let mut least = None;

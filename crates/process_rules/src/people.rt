@@ -5,10 +5,9 @@ ghost use Rattle.std.specs.List.{cons_option};
 ghost use Rattle.flow_model.specs.declared.trees.PersonTree.{PersonTree};
 ghost use Rattle.flow_model.specs.declared.trees.ProcessTree.{ProcessTree};
 ghost use Rattle.process_rules.specs.Doers.{is_person};
-ghost use Rattle.process_rules.specs.Imports.{IsIndexed};
 ghost use Rattle.process_rules.specs.Knowing.{IsKnowing, ArePeople};
 ghost use Rattle.text_graphs.specs.Texts.{process_of, processes_in, person_of, people_in};
-ghost use Rattle.process_rules.specs.Calling.{IsBefore, earlier_meant, stored_meant, callee_meant};
+ghost use Rattle.process_rules.specs.Calling.{IsBefore, earlier_meant, stored_named, callee_meant};
 
 use crate::catalog::Catalog;
 use flow_model::{ItemTree, NameAt, PersonTree, ProcessTree, Tree};
@@ -112,7 +111,7 @@ impl<'a> Known<'a> {
     /// What an activity in the process of this number runs: a process that stands before it in the text,
     /// else the newest version that was imported earlier.
     pub fn callee(&self, process: u32, name: &'a NameAt) -> Option<Callee>
-        ensures before { IfSome result (IsBefore self.now.catalog.now process) }
+        ensures before { IfSome result (IsBefore self.now.catalog.now.library process) }
         ensures meant { result ≡ callee_meant self.now process name.now.name }
     {
         match self.earlier(process, name) {
@@ -134,8 +133,8 @@ impl<'a> Known<'a> {
 
     /// The newest version of a process in the library.
     fn stored(&self, name: &'a NameAt) -> Option<Callee>
-        ensures before { IfSome result (λ found. (number : ℕ) → IsBefore self.now.catalog.now number found) }
-        ensures meant { result ≡ stored_meant self.now.catalog.now name.now.name }
+        ensures before { IfSome result (λ found. (number : ℕ) → IsBefore self.now.catalog.now.library number found) }
+        ensures meant { result ≡ stored_named self.now.catalog.now.library name.now.name }
     {
         match self.catalog.newest(&name.name) {
             None => None,
@@ -148,7 +147,7 @@ impl<'a> Known<'a> {
 
     /// Whether a name is a person's of the text or of an earlier import.
     pub fn is_person(&self, name: &'a NameAt) -> bool
-        ensures { (people : List PersonTree) → ArePeople self.now people → IsIndexed self.now.catalog.now
+        ensures { (people : List PersonTree) → ArePeople self.now people
             → result ≡ is_person self.now.catalog.now.library people name.now.name }
     {
         self.people.contains(&name.name.as_slice()) || self.catalog.person(&name.name).is_some()

@@ -2,7 +2,6 @@
 ghost use Rattle.std.specs.Prelude.{◌≡◌, ◌<◌, ◌+◌, ◌-◌, ◌^◌, ℕ, List, Some, min, max, map, IfOk};
 ghost use Rattle.flow_model.specs.declared.trees.ProcessTree.{ProcessTree};
 ghost use Rattle.process_rules.specs.Calling.{callee_meant};
-ghost use Rattle.process_rules.specs.Imports.{IsIndexed};
 ghost use Rattle.process_rules.specs.Knowing.{IsKnowing};
 ghost use Rattle.process_rules.specs.Shapes.{nothing, callee_shape, named_shape, element_adds, work_adds, graph_shape};
 ghost use Rattle.process_rules.specs.Shapes.{shape_at, shapes_by, shapes_of, told_shape, IsDeep, IsLargeProcess};
@@ -172,8 +171,7 @@ fn shapes_meant(alloc: Global, known: &Known<'_>) -> Result<Vec<Shape>, AllocErr
 /// The shapes of the processes of a text; a depth is told as far as 32 bits do, a size as far as 64 bits.
 pub fn shapes(alloc: Global, known: &Known<'_>) -> Result<Vec<Shape>, AllocError>
     ensures { IfOk result (λ shapes. (processes : List ProcessTree) → IsKnowing known.now processes
-        → IsIndexed known.now.catalog.now → shapes.items
-        ≡ map told_shape (shapes_of known.now.catalog.now.library processes)) }
+        → shapes.items ≡ map told_shape (shapes_of known.now.catalog.now.library processes)) }
 {
     shapes_meant(alloc, known)
 }

@@ -116,7 +116,7 @@ module _ (c : Core) (right : IsRightCore c) (keyed : AreKeyed c) where
         → Asks c command ts → LeadsBy c ts c' → MadeByWords (view c) ts (view c')
     asks_worded _ _ fine NoneAsked leads = leads.steps right
     asks_worded _ _ fine (JudgedSo {command} {t} is) leads =
-        let judged = verdict_seen c command (Do t) right.1.indexed keyed is in
+        let judged = verdict_seen c command (Do t) keyed is in
         one_worded (view c) command t (view c') (fine (judged_from_one (view c) command t from_one judged)) judged
         (leads.steps right)
     asks_worded _ _ fine (TurnsSoFar {ts} {from} {c' = d} turns) leads =
@@ -141,7 +141,7 @@ module _ (c : Core) (right : IsRightCore c) (keyed : AreKeyed c) where
         → Asks c command ts → AreInRangeBehind c.number ts
     asks_in_range _ _ fine NoneAsked = tt
     asks_in_range _ _ fine (JudgedSo {command} {t} is) =
-        let judged = verdict_seen c command (Do t) right.1.indexed keyed is in
+        let judged = verdict_seen c command (Do t) keyed is in
         (next_in_range (view c) ok command t (fine (judged_from_one (view c) command t ok.from_one judged)) judged, tt)
     asks_in_range _ _ fine (TurnsSoFar {ts} {from} {c' = d} turns) =
         words_in_range (view c) ts (view d) ok (turns_worded c ts from d turns right).0

@@ -27,11 +27,10 @@ use Rattle.leaf_rules.specs.ReturnCodes.{return_code}
 use Rattle.leaf_rules.specs.StructureLeaves.{leaves_in}
 use Rattle.machine.specs.Imports.{Added, IsMeaning}
 use Rattle.machine_scopes.proofs.Lists.{map_read, map_found, within}
-use Rattle.process_rules.specs.Calling.{before_this, text_or, place_among}
-use Rattle.process_rules.specs.Imports.{IsIndexed, last_place, newest_place, version_behind, next_version}
-use Rattle.process_rules.specs.Knowing.{stored_named, callee_named}
+use Rattle.process_rules.specs.Calling.{before_this, text_or, stored_named, place_among}
+use Rattle.process_rules.specs.Imports.{last_place, newest_place, version_behind, next_version}
+use Rattle.process_rules.specs.Knowing.{callee_named}
 use Rattle.process_rules.specs.Shapes.{nothing, shape_at, callee_shape, named_shape, shapes_to, shapes_of, work_adds, graph_shape}
-use Rattle.process_rules.specs.declared.catalog.Catalog.{Catalog}
 use Rattle.process_rules.specs.declared.people.Callee.{Callee}
 use Rattle.process_rules.specs.declared.people.Callee.TheVariants as callee
 use Rattle.process_rules.specs.declared.sizes.Shape.{Shape}
@@ -134,15 +133,12 @@ module _ (library : Library) (ps : List ProcessTree) (us : List Template) (numbe
 
 -- ---- a text
 
-module _ (catalog : Catalog) (indexed : IsIndexed catalog) (items : List ItemTree) (r : Reading)
-    (read : IsReading catalog items r) (us : List Template)
-    (numbers : HaveNumbers catalog.library (processes_in items) us) (none : FindNone catalog.library items)
+module _ (library : Library) (items : List ItemTree) (r : Reading)
+    (read : IsReading library items r) (us : List Template)
+    (numbers : HaveNumbers library (processes_in items) us) (none : FindNone library items)
     (named : All (λ p. AreAllNamed p.elements) (processes_in items))
     (meant : AreMeantFrom r 0 (processes_in items) us)
-    (before : All (IsBounded catalog.library.templates) catalog.library.templates) where
-  abbrev library : Library
-  library = catalog.library
-
+    (before : All (IsBounded library.templates) library.templates) where
   abbrev ps : List ProcessTree
   ps = processes_in items
 
@@ -296,7 +292,7 @@ module _ (catalog : Catalog) (indexed : IsIndexed catalog) (items : List ItemTre
 
     callee_bounded : (number : ℕ) → number < length ps → (c : Callee) → IsThereBefore number c
         → (callee_shape library (shapes_to (callee_named library ps) library ps number) (Some c)).depth + 1 ≤ d
-        → IsBoundedAt d (place_among catalog c)
+        → IsBoundedAt d (place_among library c)
     callee_bounded number inside (callee.Text k) less deep = text_bounded number k inside less deep
     callee_bounded number inside (callee.Library place) found deep =
         let shape : (callee_shape library (shapes_to (callee_named library ps) library ps number)
@@ -310,17 +306,17 @@ module _ (catalog : Catalog) (indexed : IsIndexed catalog) (items : List ItemTre
     name_bounded : (number : ℕ) (name : List ℕ) (place : ℕ) → number < length ps → r.place number name ≡ Some place
         → (runs number name).depth + 1 ≤ d → IsBoundedAt d place
     name_bounded number name place inside is deep =
-        go (callee_named library ps number name) refl (sym (read.places indexed number name) ∙ is)
+        go (callee_named library ps number name) refl (sym (read.places number name) ∙ is)
       where
         go : (o : Option Callee) → callee_named library ps number name ≡ o
-            → option_map (place_among catalog) o ≡ Some place → IsBoundedAt d place
+            → option_map (place_among library) o ≡ Some place → IsBoundedAt d place
         go None so none' = absurd (none-some place none')
         go (Some c) so found =
             let shape : (runs number name).depth
             ≡ (callee_shape library (shapes_to (callee_named library ps) library ps number) (Some c)).depth =
             ap (λ (o : Option Callee). (callee_shape library (shapes_to (callee_named library ps) library ps number)
             o).depth) so in
-            subst (IsBoundedAt d) (some_is (place_among catalog c) place found)
+            subst (IsBoundedAt d) (some_is (place_among library c) place found)
             (callee_bounded number inside c (callee_there number name c so) (omega (arith, deep, shape)))
 
     module _ (g : GraphText) (stands : StandsIn items g) (named' : AreAllNamed g.elements)
@@ -455,8 +451,5 @@ meaning_bounded library text added is before =
     let none : FindNone library meant.tree.items =
     subst (λ (t : Tree). FindNone library t.items) tree
     (find_none library is.faultless.tree.items is.faultless.none) in
-    subst (λ (l : Library). AreBounded (l.templates ++ added.templates)) is.of
-    (all_bounded is.catalog is.indexed meant.tree.items meant.reading meant.read added.templates
-    (meant.numbered is.indexed) (subst (λ (l : Library). FindNone l meant.tree.items) (sym is.of) none)
-    (text_named text meant.tree meant.has) meant.meant
-    (subst (λ (l : Library). AreBounded l.templates) (sym is.of) before))
+    all_bounded library meant.tree.items meant.reading meant.read added.templates meant.numbered none
+    (text_named text meant.tree meant.has) meant.meant before

@@ -109,7 +109,7 @@ module _ (c c' : Core) (right : IsRightCore c) (keyed : AreKeyed c) where
       → MadeByCommands (view c) ts (view c')
   asks_made _ _ NoneAsked leads = leads.steps right
   asks_made _ _ (JudgedSo {command} {t} is) leads =
-      made_one (view c) command t (view c') (verdict_seen c command (Do t) right.1.indexed keyed is) (leads.steps right)
+      made_one (view c) command t (view c') (verdict_seen c command (Do t) keyed is) (leads.steps right)
   asks_made _ _ (TurnsSoFar {ts} {from} {c' = d} turns) leads =
       let all = (turns_made c ts from d turns right).0 in
       let same : view d ≡ view c' =

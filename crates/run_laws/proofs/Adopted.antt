@@ -71,7 +71,7 @@ adopts_next : (c : Core) (t : Transaction) (c' : Core) → IsRightAndAnew c → 
     → ((command : Command) × IsVerdict (view c) command (Do t)) × IsRightAndAnew c'
 adopts_next c t c' is (range, adopts) =
     let judged = commanded c t is range adopts.admitted in
-    let leads = leads_adopted c c' (c.number + 1) t (λ order. adopts.admitted) adopts.makes.allowed adopts.applied
+    let leads = leads_adopted c c' (c.number + 1) t adopts.admitted adopts.makes.allowed adopts.applied
     adopts.makes.counts in (
       judged,
       record {

@@ -31,7 +31,7 @@ none_made s ts none = (s, subst (λ (xs : List Transaction). MadeByCommands s xs
 judged_made : (c : Core) → IsRightCore c → (command : Command) (t : Transaction) → IsVerdict (view c) command (Do t)
     → IsMadeFrom (view c) (t ∷ [])
 judged_made c right command t judged =
-    let next = verdict_steps (view c) c.store.catalog refl right.1.indexed command t judged in
+    let next = verdict_steps (view c) command t judged in
     (next.0, (command, next.0, judged, next.1, refl))
 
 -- one turn more
@@ -49,7 +49,7 @@ module _ (c : Core) (right : IsRightCore c) (keyed : AreKeyed c) where
   command_asks : (command : Command) (ts : List Transaction) → Asks c command ts → IsMadeFrom (view c) ts
   command_asks _ _ NoneAsked = none_made (view c) [] refl
   command_asks _ _ (JudgedSo {command} {t} is) =
-      judged_made c right command t (verdict_seen c command (Do t) right.1.indexed keyed is)
+      judged_made c right command t (verdict_seen c command (Do t) keyed is)
   command_asks _ _ (TurnsSoFar {ts} {from} {c' = d} turns) = (view d, (turns_made c ts from d turns right).0)
   command_asks _ _ (OneMoreTurn {ts} {from} {queue} {c' = d} {message} turns next front room) =
       let taken = turns_made c ts from d turns right in

@@ -4,7 +4,6 @@ use Rattle.std.specs.Io.KnownBytes.{Keeps, prepend_known}
 use Rattle.std.specs.Result.{IsErrAnd}
 use Rattle.std.proofs.KnownBytes.{Keeps-refl, prepend_known-nil}
 use Rattle.core_laws.specs.RightStates.{IsRightCore}
-use Rattle.flow_core.specs.Refusals.{IsInOrder}
 use Rattle.flow_core.specs.Summaries.{Summary, summary}
 use Rattle.flow_core.specs.declared.state.Core.{Core}
 use Rattle.flow_disk.specs.Images.{Image}
@@ -28,12 +27,6 @@ use Rattle.standby.specs.Waiting.{IsKeptBy, StandsUpTo, TakesUpTo}
 use Rattle.standby.proofs.Ahead.{gives_kept, gives_none, hands_block}
 use Rattle.standby.proofs.Framed.{frame_long}
 use Rattle.standby.proofs.Waiting.{reaches_on}
-
--- ---- states
-
--- a state that is right is in order
-pub in_order : (c : Core) → IsRightCore c → IsInOrder c
-in_order c right = right.1.indexed
 
 -- ---- the end of the frames
 

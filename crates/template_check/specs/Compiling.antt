@@ -12,10 +12,9 @@ use Rattle.flow_model.specs.declared.trees.PersonTree.{PersonTree}
 use Rattle.flow_model.specs.declared.trees.ProcessTree.{ProcessTree}
 use Rattle.flow_model.specs.declared.trees.Tree.{Tree}
 use Rattle.template_check.specs.Built.{AreSoundBehind}
-use Rattle.process_rules.specs.Imports.{IsIndexed, next_version}
+use Rattle.process_rules.specs.Imports.{next_version}
 use Rattle.process_rules.specs.Knowing.{place_named}
 use Rattle.process_rules.specs.Shapes.{shape_at, shapes_of}
-use Rattle.process_rules.specs.declared.catalog.Catalog.{Catalog}
 use Rattle.process_rules.specs.declared.sizes.Shape.{Shape}
 use Rattle.template_check.specs.Meant.{Reading, AreMeantFrom}
 use Rattle.leaf_rules.specs.StructureLeaves.{Leafing, leaves_in}
@@ -43,12 +42,11 @@ abbrev pub AreLeavesOf : List ItemTree → Leafing → Type 0
 AreLeavesOf items leaves = (g : GraphAt) → IsGraphOf items g → HasContainers (leaves_in (structures_in items)) leaves g
 
 -- a reading of the names of a text, behind a library: the structures of containers have the leaves of their members; a
--- process
--- is the one that stands before in the text, else the newest that was imported, where the index of the library is right
-pub record IsReading (earlier : Catalog) (items : List ItemTree) (reading : Reading) : Type 0 where
+-- process is the one that stands before in the text, else the newest that was imported
+pub record IsReading (library : Library) (items : List ItemTree) (reading : Reading) : Type 0 where
   pub leaves : AreLeavesOf items reading.leaves
-  pub places : IsIndexed earlier → (number : ℕ) (name : List ℕ)
-      → reading.place number name ≡ place_named earlier (processes_in items) number name
+  pub places : (number : ℕ) (name : List ℕ)
+      → reading.place number name ≡ place_named library (processes_in items) number name
 
 -- a template has the depth and the size of this shape, as far as 32 bits tell them
 pub record HasShape (t : Template) (shape : Shape) : Type 0 where
@@ -71,13 +69,13 @@ declared_people items = map declared_person (people_in items)
 
 -- what a tree compiles to behind a library: templates that are sound, named as the processes and numbered, whose graphs
 -- are meant by them, and the persons that it declares
-pub record AreBuilt (earlier : Catalog) (items : List ItemTree) (compiled : Compiled) : Type 0 where
+pub record AreBuilt (library : Library) (items : List ItemTree) (compiled : Compiled) : Type 0 where
   pub people : compiled.people ≡ declared_people items
-  pub numbered : IsIndexed earlier → HaveNumbers earlier.library (processes_in items) compiled.templates
-  pub sound : AreSoundBehind (length earlier.library.templates) compiled.templates
+  pub numbered : HaveNumbers library (processes_in items) compiled.templates
+  pub sound : AreSoundBehind (length library.templates) compiled.templates
   pub named : template_names compiled.templates ≡ process_names items
   pub reading : Reading
-  pub read : IsReading earlier items reading
+  pub read : IsReading library items reading
   pub meant : AreMeantFrom reading 0 (processes_in items) compiled.templates
 
 -- what a text compiles to is named as its processes
@@ -87,16 +85,15 @@ pub record IsNamedBy (text : List ℕ) (ts : List Template) : Type 0 where
   pub named : template_names ts ≡ process_names tree.items
 
 -- the graphs of what a text compiles to are those of its processes, in order: there is one reading of its names, the
--- same
--- for all of them, by which each is meant; their versions, depths and sizes are those that the library and the text
--- give
-pub record IsMeantBy (text : List ℕ) (earlier : Catalog) (ts : List Template) : Type 0 where
+-- same for all of them, by which each is meant; their versions, depths and sizes are those that the library and the
+-- text give
+pub record IsMeantBy (text : List ℕ) (library : Library) (ts : List Template) : Type 0 where
   pub tree : Tree
   pub has : HasTree text tree
   pub reading : Reading
-  pub read : IsReading earlier tree.items reading
+  pub read : IsReading library tree.items reading
   pub meant : AreMeantFrom reading 0 (processes_in tree.items) ts
-  pub numbered : IsIndexed earlier → HaveNumbers earlier.library (processes_in tree.items) ts
+  pub numbered : HaveNumbers library (processes_in tree.items) ts
 
 -- the persons of what a text compiles to are those that it declares
 pub record HasPeopleOf (text : List ℕ) (people : List PersonDef) : Type 0 where

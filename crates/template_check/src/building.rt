@@ -7,7 +7,7 @@ ghost use Rattle.template_check.specs.Built.{end_in, IsDrawn, IsSound, IsSoundAl
 ghost use Rattle.conditions.specs.Resolving.{IsClear, IsResolved};
 ghost use Rattle.text_graphs.specs.Attributes.{first_said, join_said, joined_by, expires_said, expires_by, exit_said};
 ghost use Rattle.text_graphs.specs.Attributes.{doer_said, done_by, program_by};
-ghost use Rattle.process_rules.specs.Imports.{IsIndexed, next_version};
+ghost use Rattle.process_rules.specs.Imports.{next_version};
 ghost use Rattle.template_check.specs.Compiling.{declared_person};
 ghost use Rattle.template_check.specs.Numbered.{HasToldShape};
 ghost use Rattle.process_rules.specs.Calling.{place_behind, place_meant, IsCalling, IsCallingWork};
@@ -261,7 +261,7 @@ impl<'a> Builder<'a> {
     /// The place in the library of the process that an activity runs.
     fn callee(&self, process: u32, name: &'a NameAt) -> Result<u32, AllocError>
         requires { IsSome (place_meant self.now.known process name.now.name) }
-        ensures before { IfOk result (λ place. place < place_behind self.now.known.catalog.now process) }
+        ensures before { IfOk result (λ place. place < place_behind self.now.known.catalog.now.library process) }
         ensures meant { IfOk result (λ place. place_meant self.now.known process name.now.name ≡ Some place) }
     {
         match self.known.callee(process, name) {
@@ -456,7 +456,8 @@ impl<'a> Builder<'a> {
         requires found { IsActivityFound (reading_of self.now) (text_of scope.now) activity.now }
         requires inside { AreFoundInside (reading_of self.now) scope.now.process activity.now }
         ensures sound { IfOk result IsSoundWork }
-        ensures calls { IfOk result (IsCallingWork (place_behind self.now.known.catalog.now scope.now.process)) }
+        ensures calls { IfOk result
+            (IsCallingWork (place_behind self.now.known.catalog.now.library scope.now.process)) }
         ensures meant { IfOk result (λ made. (depth : ℕ)
             → IsWork (MeantTo (reading_of self.now) depth) (reading_of self.now)
             (text_of scope.now) activity.now made) }
@@ -485,7 +486,7 @@ impl<'a> Builder<'a> {
         ensures named { IfOk result (λ built. built.name ≡ activity.now.name.name) }
         ensures sound { IfOk result (λ built. IsSoundWork built.work) }
         ensures calls { IfOk result (λ built. IsCallingWork
-            (place_behind self.now.known.catalog.now scope.now.process) built.work) }
+            (place_behind self.now.known.catalog.now.library scope.now.process) built.work) }
         ensures meant { IfOk result (λ built. (depth : ℕ)
             → IsActivity (MeantTo (reading_of self.now) depth) (reading_of self.now)
             (text_of scope.now) activity.now built) }
@@ -512,7 +513,7 @@ impl<'a> Builder<'a> {
         ensures named { IfOk result (λ built. map (λ a. a.name) built ≡ names_in elements.now) }
         ensures sound { IfOk result (All (λ built. IsSoundWork built.work)) }
         ensures calls { IfOk result (All (λ built. IsCallingWork
-            (place_behind self.now.known.catalog.now scope.now.process) built.work)) }
+            (place_behind self.now.known.catalog.now.library scope.now.process) built.work)) }
         ensures meant { IfOk result (λ built. (depth : ℕ)
             → AreParts (IsOne (IsActivity (MeantTo (reading_of self.now) depth) (reading_of self.now)
             (text_of scope.now))) (activities_in elements.now) built) }
@@ -548,7 +549,7 @@ impl<'a> Builder<'a> {
           elements = elements.now;
         }) }
         ensures sound { IfOk result IsSoundAlone }
-        ensures calls { IfOk result (IsCalling (place_behind self.now.known.catalog.now process)) }
+        ensures calls { IfOk result (IsCalling (place_behind self.now.known.catalog.now.library process)) }
         ensures meant { IfOk result (IsMeant (reading_of self.now)
             (record { process = process; input = input.now.name; output = output.now.name; elements = elements.now })) }
     {
@@ -587,12 +588,11 @@ impl<'a> Builder<'a> {
         ensures named { IfOk result (λ template. template.name ≡ process.now.name.name) }
         ensures sound { IfOk result (λ template. IsSoundAlone template.graph) }
         ensures calls { IfOk result (λ template. IsCalling
-            (place_behind self.now.known.catalog.now number) template.graph) }
+            (place_behind self.now.known.catalog.now.library number) template.graph) }
         ensures meant { IfOk result (λ template. IsMeant (reading_of self.now)
             (process_text number process.now) template.graph) }
-        ensures version { IsIndexed self.now.known.catalog.now
-            → IfOk result (λ template. template.version ≡ next_version self.now.known.catalog.now.library
-            process.now.name.name) }
+        ensures version { IfOk result (λ template.
+            template.version ≡ next_version self.now.known.catalog.now.library process.now.name.name) }
         ensures shape { IfOk result (λ template. HasToldShape template shape) }
     {
         let (input, output) = (&process.input, &process.output);

@@ -9,7 +9,6 @@ ghost use Rattle.leaf_rules.specs.Tables.{HasContainers};
 ghost use Rattle.process_rules.specs.Callees.{NamesNone};
 ghost use Rattle.process_rules.specs.Calling.{callee_meant};
 ghost use Rattle.process_rules.specs.Doers.{NamesNoPerformer};
-ghost use Rattle.process_rules.specs.Imports.{IsIndexed};
 ghost use Rattle.process_rules.specs.Knowing.{IsKnowing};
 ghost use Rattle.process_rules.specs.Shapes.{shape_at, shapes_of, told_shape};
 ghost use Rattle.template_check.specs.Built.{AreSoundBehind, AreSoundWithin, IsSound};
@@ -107,9 +106,9 @@ fn built<'a>(
     requires leaves { AreLeavesOf tree.now.items (table_leaves builder.now.table) }
     requires found { AreGraphsFound (reading_of builder.now) tree.now.items }
     requires knowing { IsKnowing builder.now.known (processes_in tree.now.items) }
-    requires shapes { IsIndexed builder.now.known.catalog.now
-        → shapes.now ≡ map told_shape (shapes_of builder.now.known.catalog.now.library (processes_in tree.now.items)) }
-    ensures { IfOk result (AreBuilt builder.now.known.catalog.now tree.now.items) }
+    requires shapes { shapes.now
+        ≡ map told_shape (shapes_of builder.now.known.catalog.now.library (processes_in tree.now.items)) }
+    ensures { IfOk result (AreBuilt builder.now.known.catalog.now.library tree.now.items) }
 {
     let mut templates = List::new(builder.alloc);
     let mut people = List::new(builder.alloc);
@@ -157,12 +156,12 @@ fn sized_and_built<'a>(
     requires structures { behind builder.now.table.structures.definitions.items ≡ structures_in tree.now.items }
     requires leaves { AreLeavesOf tree.now.items (table_leaves builder.now.table) }
     requires knowing { IsKnowing builder.now.known (processes_in tree.now.items) }
-    requires shapes { IsIndexed builder.now.known.catalog.now
-        → shapes.now ≡ map told_shape (shapes_of builder.now.known.catalog.now.library (processes_in tree.now.items)) }
-    ensures built { IfOk result (λ judged. IfOk judged (AreBuilt builder.now.known.catalog.now tree.now.items)) }
-    ensures first { IsIndexed builder.now.known.catalog.now
-        → IfOk result (λ judged. IsFirstBroken (from_sizes builder.now.known.catalog.now.library tree.now.items)
-        (fault_in judged)) }
+    requires shapes { shapes.now
+        ≡ map told_shape (shapes_of builder.now.known.catalog.now.library (processes_in tree.now.items)) }
+    ensures built { IfOk result (λ judged.
+        IfOk judged (AreBuilt builder.now.known.catalog.now.library tree.now.items)) }
+    ensures first { IfOk result (λ judged.
+        IsFirstBroken (from_sizes builder.now.known.catalog.now.library tree.now.items) (fault_in judged)) }
 {
     let known = &builder.known;
     if let Some(fault) = first_of_sizes(known, tree, shapes) {
@@ -189,9 +188,9 @@ fn called_and_built<'a>(
     requires structures { behind table.structures.definitions.items ≡ structures_in tree.now.items }
     requires leaves { All (λ s. HasContainers (leaves_in (structures_in tree.now.items)) (table_leaves table)
         (graph_at s)) scopes.now }
-    ensures built { IfOk result (λ judged. IfOk judged (AreBuilt earlier.now tree.now.items)) }
-    ensures first { IsIndexed earlier.now → IfOk result
-        (λ judged. IsFirstBroken (from_callees earlier.now.library tree.now.items) (fault_in judged)) }
+    ensures built { IfOk result (λ judged. IfOk judged (AreBuilt earlier.now.library tree.now.items)) }
+    ensures first { IfOk result (λ judged.
+        IsFirstBroken (from_callees earlier.now.library tree.now.items) (fault_in judged)) }
 {
     let known = Known::new(alloc, tree, earlier)?;
     if let Some(fault) = first_of_callees(alloc, &known, tree, &table, scopes)? {
@@ -225,9 +224,9 @@ fn read_and_built<'a>(
     requires connected { All (λ s. IsConnected s.elements.now) scopes.now }
     requires names { IsFirstBroken (rules_on_names tree.now.items) None }
     requires connectors { IsFirstBroken (rules_on_connectors tree.now.items) None }
-    ensures built { IfOk result (λ judged. IfOk judged (AreBuilt earlier.now tree.now.items)) }
-    ensures first { IsIndexed earlier.now → IfOk result
-        (λ judged. IsFirstBroken (from_leaves earlier.now.library tree.now.items) (fault_in judged)) }
+    ensures built { IfOk result (λ judged. IfOk judged (AreBuilt earlier.now.library tree.now.items)) }
+    ensures first { IfOk result (λ judged.
+        IsFirstBroken (from_leaves earlier.now.library tree.now.items) (fault_in judged)) }
 {
     let table = LeafTable::new(alloc, structures)?;
     if let Some(fault) = first_of_leaves(tree, &table, scopes) {
@@ -253,9 +252,9 @@ fn connected_and_built<'a>(
     requires covered { All (λ p. IsCovered (lists_of scopes.now) p.elements) (processes_in tree.now.items) }
     requires named { All (λ s. AreNamesApart s.elements.now) scopes.now }
     requires names { IsFirstBroken (rules_on_names tree.now.items) None }
-    ensures built { IfOk result (λ judged. IfOk judged (AreBuilt earlier.now tree.now.items)) }
-    ensures first { IsIndexed earlier.now → IfOk result
-        (λ judged. IsFirstBroken (from_connectors earlier.now.library tree.now.items) (fault_in judged)) }
+    ensures built { IfOk result (λ judged. IfOk judged (AreBuilt earlier.now.library tree.now.items)) }
+    ensures first { IfOk result (λ judged.
+        IsFirstBroken (from_connectors earlier.now.library tree.now.items) (fault_in judged)) }
 {
     match first_of_connectors(alloc, tree, scopes)? {
         Some(fault) => Ok(Err(fault)),
@@ -265,9 +264,9 @@ fn connected_and_built<'a>(
 
 /// What a tree adds to the library, or the first rule from 4 on that it breaks.
 fn compile_tree(alloc: Global, tree: &Tree, earlier: &Catalog) -> Result<Judged, AllocError>
-    ensures built { IfOk result (λ judged. IfOk judged (AreBuilt earlier.now tree.now.items)) }
-    ensures first { IsIndexed earlier.now → IfOk result
-        (λ judged. IsFirstBroken (later_rules earlier.now.library tree.now.items) (fault_in judged)) }
+    ensures built { IfOk result (λ judged. IfOk judged (AreBuilt earlier.now.library tree.now.items)) }
+    ensures first { IfOk result (λ judged.
+        IsFirstBroken (later_rules earlier.now.library tree.now.items) (fault_in judged)) }
 {
     let scopes = text_scopes(alloc, tree)?;
     let mut structures = Structures::new(alloc, tree)?;
@@ -286,9 +285,9 @@ fn compile_tree(alloc: Global, tree: &Tree, earlier: &Catalog) -> Result<Judged,
 pub fn compile(alloc: Global, text: &[u8], earlier: &Catalog) -> Result<Compiled, ImportFault>
     ensures sound { IfOk result (λ compiled. AreSoundBehind (length earlier.now.library.templates) compiled.templates) }
     ensures named { IfOk result (λ compiled. IsNamedBy text.now compiled.templates) }
-    ensures meant { IfOk result (λ compiled. IsMeantBy text.now earlier.now compiled.templates) }
+    ensures meant { IfOk result (λ compiled. IsMeantBy text.now earlier.now.library compiled.templates) }
     ensures people { IfOk result (λ compiled. HasPeopleOf text.now compiled.people) }
-    ensures judged { IsIndexed earlier.now → IsJudged earlier.now.library text.now result }
+    ensures judged { IsJudged earlier.now.library text.now result }
 {
     let tree = syntax_tree(alloc, text)?;
     match compile_tree(alloc, &tree, earlier)? {

@@ -10,7 +10,6 @@ ghost use Rattle.leaf_rules.specs.Tables.{HasContainers};
 ghost use Rattle.process_rules.specs.Callees.{NamesNone};
 ghost use Rattle.process_rules.specs.Calling.{callee_meant};
 ghost use Rattle.process_rules.specs.Doers.{NamesNoPerformer};
-ghost use Rattle.process_rules.specs.Imports.{IsIndexed};
 ghost use Rattle.process_rules.specs.Knowing.{ArePeople, IsKnowing};
 ghost use Rattle.process_rules.specs.Shapes.{shapes_of, told_shape};
 ghost use Rattle.template_check.specs.Rules.{rules_on_names, rules_on_structures, rules_on_connectors, rules_on_leaves};
@@ -158,8 +157,7 @@ pub fn first_of_callees<'a>(
     requires knowing { IsKnowing known.now (processes_in tree.now.items) }
     ensures called { IfOk result (λ fault. fault ≡ None
         → (p : ℕ) → InGraphs tree.now.items (NamesNone (callee_meant known.now)) p → ⊥) }
-    ensures first { IsIndexed known.now.catalog.now
-        → IfOk result (IsFirstBroken (rules_on_callees known.now.catalog.now.library tree.now.items)) }
+    ensures first { IfOk result (IsFirstBroken (rules_on_callees known.now.catalog.now.library tree.now.items)) }
 {
     if let Some(place) = unknown_processes(known, scopes) {
         return Ok(Some((17, place)));
@@ -181,8 +179,7 @@ pub fn first_of_people<'a>(
     requires people { ArePeople known.now (people_in tree.now.items) }
     ensures performers { IfOk result (λ fault. fault ≡ None → (p : ℕ) → InGraphs tree.now.items NamesNoPerformer p
         → ⊥) }
-    ensures first { IsIndexed known.now.catalog.now
-        → IfOk result (IsFirstBroken (rules_on_people known.now.catalog.now.library tree.now.items)) }
+    ensures first { IfOk result (IsFirstBroken (rules_on_people known.now.catalog.now.library tree.now.items)) }
 {
     if let Some(place) = unknown_people(known, scopes) {
         return Ok(Some((19, place)));
@@ -196,10 +193,9 @@ pub fn first_of_people<'a>(
 /// Rules 21 and 22.
 pub fn first_of_sizes(known: &Known<'_>, tree: &Tree, shapes: &[Shape]) -> Broken
     requires knowing { IsKnowing known.now (processes_in tree.now.items) }
-    requires shapes { IsIndexed known.now.catalog.now
-        → shapes.now ≡ map told_shape (shapes_of known.now.catalog.now.library (processes_in tree.now.items)) }
-    ensures { IsIndexed known.now.catalog.now → IsFirstBroken
-        (rules_on_sizes known.now.catalog.now.library tree.now.items) result }
+    requires shapes { shapes.now
+        ≡ map told_shape (shapes_of known.now.catalog.now.library (processes_in tree.now.items)) }
+    ensures { IsFirstBroken (rules_on_sizes known.now.catalog.now.library tree.now.items) result }
 {
     if let Some(place) = deep_processes(known, shapes) {
         return Some((21, place));

@@ -5,15 +5,9 @@ use Rattle.flow_model.specs.declared.graphs.Library.{Library}
 use Rattle.template_check.specs.Built.{AreSoundBehind}
 use Rattle.template_check.specs.Compiling.{HasPeopleOf, IsNamedBy, IsMeantBy}
 use Rattle.template_check.specs.Judged.{IsFaultless}
-use Rattle.process_rules.specs.Imports.{IsIndexed}
-use Rattle.process_rules.specs.declared.catalog.Catalog.{Catalog}
 use Rattle.template_check.specs.declared.faults.ImportFault.{ImportFault}
 use Rattle.template_check.specs.declared.faults.ImportFault.TheVariants.{Rule, NoMemory}
 use Rattle.template_check.specs.declared.compiling.Compiled.{Compiled}
-
--- what a store holds
-pub record Imports : Type 0 where
-  pub catalog : Catalog
 
 -- the first place of this version of a name
 abbrev pub version_place : Library → List ℕ → ℕ → Option ℕ
@@ -28,35 +22,26 @@ with_compiled library added = record {
 }
 
 -- A library gets what a text compiles to behind what it has: the templates of its processes, named as these, whose
--- graphs
--- are what the text means, where its names are looked up in it and then in the library before, with their versions,
--- depths and sizes; and the persons that it declares.
-pub record AddsText (text : List ℕ) (old : Catalog) (new : Library) : Type 0 where
+-- graphs are what the text means, where its names are looked up in it and then in the library before, with their
+-- versions, depths and sizes; and the persons that it declares.
+pub record AddsText (text : List ℕ) (old : Library) (new : Library) : Type 0 where
   pub added : Compiled
   pub named : IsNamedBy text added.templates
   pub meant : IsMeantBy text old added.templates
   pub people : HasPeopleOf text added.people
-  pub behind : new ≡ with_compiled old.library added
+  pub behind : new ≡ with_compiled old added
 
--- A text may be imported behind a catalog, and this is what it compiles to: templates that are sound behind those that
+-- A text may be imported behind a library, and this is what it compiles to: templates that are sound behind those that
 -- are there, and are named and mean what the text says, and the persons that it declares.
-pub record CompilesTo (catalog : Catalog) (text : List ℕ) (compiled : Compiled) : Type 0 where
-  pub sound : AreSoundBehind (length catalog.library.templates) compiled.templates
+pub record CompilesTo (library : Library) (text : List ℕ) (compiled : Compiled) : Type 0 where
+  pub sound : AreSoundBehind (length library.templates) compiled.templates
   pub named : IsNamedBy text compiled.templates
-  pub meant : IsMeantBy text catalog compiled.templates
+  pub meant : IsMeantBy text library compiled.templates
   pub people : HasPeopleOf text compiled.people
-  pub faultless : IsIndexed catalog → IsFaultless catalog.library text
+  pub faultless : IsFaultless library text
 
 -- a text is refused for a rule that it breaks
 abbrev pub is_refusal : {X : Type 0} → Result X ImportFault → Bool
 is_refusal (Ok x) = false
 is_refusal (Err (Rule fault)) = true
 is_refusal (Err NoMemory) = false
-
--- places of 32 bits tell all elements of the library apart
-abbrev pub IsSmall : Library → Type 0
-IsSmall library = (length library.templates ≤ 2 ^ 32) × (length library.people ≤ 2 ^ 32)
-
--- where the second catalog is small, its names lead to the newest if those of the first did
-abbrev pub KeepsIndex : Catalog → Catalog → Type 0
-KeepsIndex old new = IsSmall new.library → IsIndexed old → IsIndexed new

@@ -3,9 +3,9 @@ ghost use Rattle.std.specs.Prelude.{◌≡◌, ◌-◌, ◌^◌, ◌<◌, ◌≤
 ghost use Rattle.std.specs.Prelude.{Some, OnOk, IfOk, IfSome, ◌==◌, ◌&&◌, position, bytes_eq, true};
 ghost use Rattle.template_check.specs.Built.{AreSound};
 ghost use Rattle.template_check.specs.Judged.{IsJudged};
-ghost use Rattle.process_rules.specs.Imports.{IsIndexed, newest_place, latest_person};
+ghost use Rattle.process_rules.specs.Imports.{newest_place, latest_person};
 ghost use Rattle.template_check.specs.declared.compiling.Compiled.{Compiled as Added};
-ghost use Rattle.template_store.specs.Store.{version_place, with_compiled, is_refusal, AddsText, IsSmall, KeepsIndex};
+ghost use Rattle.template_store.specs.Store.{version_place, with_compiled, is_refusal, AddsText};
 ghost use Rattle.template_store.specs.Store.{CompilesTo};
 
 use flow_model::{Library, Name, PersonDef, Template};
@@ -27,9 +27,9 @@ fn compiled_text(
     accepted: Option<Accepted>,
     catalog: &Catalog,
 ) -> Result<Compiled, ImportFault>
-    requires { IfSome accepted (λ last. CompilesTo catalog.now last.text.items last.compiled) }
-    ensures compiled { IfOk result (CompilesTo catalog.now text.now) }
-    ensures judged { IsIndexed catalog.now → IsJudged catalog.now.library text.now result }
+    requires { IfSome accepted (λ last. CompilesTo catalog.now.library last.text.items last.compiled) }
+    ensures compiled { IfOk result (CompilesTo catalog.now.library text.now) }
+    ensures judged { IsJudged catalog.now.library text.now result }
 {
     if let Some(accepted) = accepted {
         let Accepted {
@@ -43,7 +43,7 @@ fn compiled_text(
     compile(alloc, text, catalog)
 }
 
-/// The library of the imports so far.
+/// The library of the imports so far, which is its value.
 #[derive(Drop)]
 pub struct TemplateStore {
     catalog: Catalog,
@@ -53,26 +53,25 @@ pub struct TemplateStore {
 
 impl Model for TemplateStore {
     ghost use Rattle.std.specs.Prelude.{IfSome};
-    ghost use Rattle.template_store.specs.Store.{Imports, CompilesTo};
-    ghost use Rattle.process_rules.specs.contracts.catalog.Catalog as of_catalog;
-    ghost use Rattle.std.specs.Coded.{codes};
+    ghost use Rattle.flow_model.specs.declared.graphs.Library.{Library};
+    ghost use Rattle.flow_model.specs.contracts.graphs.Library as of_library;
+    ghost use Rattle.template_store.specs.Store.{CompilesTo};
 
-    ghost Value = { Imports };
+    ghost Value = { Library };
 
-    ghost coded = { Prim.hlevel (codes, of_catalog.the_row.coded) };
+    ghost coded = { of_library.the_row.coded };
 
-    ghost view = { λ store. record { catalog = store.catalog } };
+    ghost view = { λ store. store.catalog.library };
 
     ghost invariant = { λ store.
-        IfSome store.accepted (λ accepted. CompilesTo store.catalog accepted.text.items accepted.compiled) };
+        IfSome store.accepted (λ accepted. CompilesTo store.catalog.library accepted.text.items accepted.compiled) };
 }
 
 impl TemplateStore {
     /// No imports yet.
     pub fn new(alloc: Global) -> TemplateStore
-        ensures indexed { IsIndexed result.catalog }
-        ensures empty { result.catalog.library ≡ record { templates = []; people = [] } }
-        ensures sound { AreSound result.catalog.library.templates }
+        ensures empty { result ≡ record { templates = []; people = [] } }
+        ensures sound { AreSound result.templates }
     {
         TemplateStore {
             catalog: Catalog::new(alloc),
@@ -84,7 +83,7 @@ impl TemplateStore {
     /// and `NoMemory` where there is none for what it compiles to, or to keep that. The library stays as it is.
     pub fn check(&mut self, alloc: Global, text: &[u8]) -> Result<(), ImportFault>
         ensures same { self.new ≡ self.old }
-        ensures judged { IsIndexed self.old.catalog → IsJudged self.old.catalog.library text.now result }
+        ensures judged { IsJudged self.old text.now result }
     {
         self.accepted = None;
         let compiled = compile(alloc, text, &self.catalog)?;
@@ -98,60 +97,42 @@ impl TemplateStore {
     /// been added.
     pub fn import(&mut self, alloc: Global, text: &[u8]) -> Result<u32, ImportFault>
         ensures added { IfOk result (λ count. (added : Added) × (count ≡ min (length added.templates) (2 ^ 32 - 1))
-            × (self.new.catalog.library ≡ with_compiled self.old.catalog.library added)) }
-        ensures of_text { OnOk result (AddsText text.now self.old.catalog self.new.catalog.library) }
-        ensures indexed { OnOk result (IsIndexed self.old.catalog → IsIndexed self.new.catalog) }
+            × (self.new ≡ with_compiled self.old added)) }
+        ensures of_text { OnOk result (AddsText text.now self.old self.new) }
         ensures refused { is_refusal result ≡ true → self.new ≡ self.old }
-        ensures judged { IsIndexed self.old.catalog → IsJudged self.old.catalog.library text.now result }
-        ensures sound { OnOk result (AreSound self.old.catalog.library.templates
-            → AreSound self.new.catalog.library.templates) }
+        ensures judged { IsJudged self.old text.now result }
+        ensures sound { OnOk result (AreSound self.old.templates
+            → AreSound self.new.templates) }
     {
         let accepted = self.accepted.take();
         let compiled = compiled_text(alloc, text, accepted, &self.catalog)?;
-        let count = add(&mut self.catalog, alloc, compiled)?;
-        self.needs_room()?;
-        Ok(count)
-    }
-
-    /// An error where places of 32 bits don't tell all elements of the library apart, since nothing that large has
-    /// room.
-    fn needs_room(&self) -> Result<(), AllocError>
-        ensures { OnOk result (IsSmall self.now.catalog.library) }
-    {
-        let library = self.catalog.library();
-        let (templates, people) = (library.templates.len(), library.people.len());
-        if templates > u32::MAX as usize || people > u32::MAX as usize {
-            return Err(AllocError);
-        }
-        Ok(())
+        Ok(add(&mut self.catalog, alloc, compiled)?)
     }
 
     /// The library.
     pub fn library(&self) -> &Library
-        ensures { result.now ≡ self.now.catalog.library }
+        ensures { result.now ≡ self.now }
     {
         self.catalog.library()
     }
 
     /// The place of the newest template of this name; None exactly where there is none.
     pub fn newest(&self, name: &Name) -> Option<u32>
-        ensures { IsIndexed self.now.catalog → result ≡ newest_place self.now.catalog.library name.now }
+        ensures { result ≡ newest_place self.now name.now }
     {
         self.catalog.newest(name)
     }
 
     /// The template at a place.
     pub fn template(&self, place: u32) -> Option<&Template>
-        ensures { option_copied result ≡ slice_get self.now.catalog.library.templates place }
+        ensures { option_copied result ≡ slice_get self.now.templates place }
     {
         self.catalog.template(place)
     }
 
     /// The place of this version of a name; None exactly where there is none.
     pub fn version(&self, name: &Name, version: u32) -> Option<u32>
-        ensures exact { length self.now.catalog.library.templates ≤ 2 ^ 32
-            → result ≡ version_place self.now.catalog.library name.now version }
-        ensures there { IfSome result (λ place. version_place self.now.catalog.library name.now version ≡ Some place) }
+        ensures { result ≡ version_place self.now name.now version }
     {
         let templates = self.catalog.library().templates.as_slice();
         let place = position_of(templates, name, version)?;
@@ -163,7 +144,7 @@ impl TemplateStore {
 
     /// The latest declaration of the person of this name; None exactly where there is none.
     pub fn person(&self, name: &Name) -> Option<&PersonDef>
-        ensures { IsIndexed self.now.catalog → option_copied result ≡ latest_person self.now.catalog.library name.now }
+        ensures { option_copied result ≡ latest_person self.now name.now }
     {
         self.catalog.person(name)
     }
@@ -180,7 +161,6 @@ fn position_of(templates: &[Template], name: &Name, version: u32) -> Option<usiz
 
 /// Adds what a text compiled to; answers the number of processes.
 fn add(catalog: &mut Catalog, alloc: Global, compiled: Compiled) -> Result<u32, AllocError>
-    ensures indexed { OnOk result (KeepsIndex catalog.old catalog.new) }
     ensures added { IfOk result (λ count. (count ≡ min (length compiled.templates) (2 ^ 32 - 1))
         × (catalog.new.library ≡ with_compiled catalog.old.library compiled)) }
 {
@@ -196,7 +176,6 @@ fn add_templates(
     alloc: Global,
     templates: Vec<Template>,
 ) -> Result<(), AllocError>
-    ensures indexed { OnOk result (KeepsIndex catalog.old catalog.new) }
     ensures added { OnOk result (catalog.new.library ≡ record {
       templates = catalog.old.library.templates ++ templates.items;
       people = catalog.old.library.people;
@@ -213,7 +192,6 @@ fn add_people(
     alloc: Global,
     people: Vec<PersonDef>,
 ) -> Result<(), AllocError>
-    ensures indexed { OnOk result (KeepsIndex catalog.old catalog.new) }
     ensures added { OnOk result (catalog.new.library ≡ record {
       templates = catalog.old.library.templates;
       people = catalog.old.library.people ++ people.items;

@@ -1,20 +1,13 @@
 -- A text means one list of templates, and declares one list of people.
 use Rattle.std.proofs.Common.{◌≡◌, ℕ, suc, ◌+◌, Option, Some, None, List, [], ◌∷◌, length, map, refl, sym, ap, ◌∙◌, subst, arith}
 use Rattle.std.specs.Prelude.{slice_get}
-use Rattle.std.specs.Option.{option_map}
 use Rattle.flow_model.specs.declared.graphs.Library.{Library}
 use Rattle.flow_model.specs.declared.graphs.PersonDef.{PersonDef}
 use Rattle.flow_model.specs.declared.graphs.Template.{Template}
 use Rattle.flow_model.specs.declared.trees.ItemTree.{ItemTree}
 use Rattle.flow_model.specs.declared.trees.ProcessTree.{ProcessTree}
 use Rattle.flow_model.specs.declared.trees.Tree.{Tree}
-use Rattle.process_rules.specs.Calling.{place_among}
-use Rattle.process_rules.specs.Imports.{IsIndexed}
-use Rattle.process_rules.specs.Knowing.{callee_named, place_named}
 use Rattle.process_rules.specs.Shapes.{shape_at, shapes_of}
-use Rattle.process_rules.specs.declared.catalog.Catalog.{Catalog}
-use Rattle.process_rules.specs.declared.people.Callee.{Callee}
-use Rattle.process_rules.specs.declared.people.Callee.TheVariants as callee
 use Rattle.process_rules.specs.declared.sizes.Shape.{Shape}
 use Rattle.template_check.specs.Compiling.{AreLeavesOf, IsReading, HasShape, HaveNumbers, IsNamedBy, IsMeantBy, HasPeopleOf, template_names, process_names, declared_people}
 use Rattle.template_check.specs.Meant.{Reading, AreMeantFrom}
@@ -23,23 +16,6 @@ use Rattle.text_graphs.specs.Texts.{processes_in}
 use Rattle.text_laws.proofs.Graphs.{meant_one}
 use Rattle.text_laws.proofs.Inside.{StandsIn, process_stands}
 use Rattle.text_laws.proofs.Trees.{tree_one}
-
--- ---- what a name runs
-
--- behind one library a name runs one process, however it is indexed
-among_one : (c d : Catalog) → c.library ≡ d.library → (k : Callee) → place_among c k ≡ place_among d k
-among_one c d same (callee.Text number) = ap (λ (l : Library). length l.templates + number) same
-among_one c d same (callee.Library place) = refl
-
-places_one : (c d : Catalog) → c.library ≡ d.library → (ps : List ProcessTree) (number : ℕ) (name : List ℕ)
-    → place_named c ps number name ≡ place_named d ps number name
-places_one c d same ps number name =
-    go (callee_named c.library ps number name)
-    ∙ ap (λ (l : Library). option_map (place_among d) (callee_named l ps number name)) same
-  where
-    go : (k : Option Callee) → option_map (place_among c) k ≡ option_map (place_among d) k
-    go None = refl
-    go (Some k) = ap (λ p. Some p) (among_one c d same k)
 
 -- ---- templates
 
@@ -83,32 +59,28 @@ module _ (items : List ItemTree) (r s : Reading)
       ap (λ (x : Template). x ∷ ts) head ∙ ap (λ (xs : List Template). u ∷ xs) tail
 
 -- the templates of the processes of a text
-pub templates_of_items : (items : List ItemTree) (c d : Catalog) → c.library ≡ d.library → IsIndexed c → IsIndexed d
-    → (r s : Reading) → IsReading c items r → IsReading d items s → (ts us : List Template)
+pub templates_of_items : (items : List ItemTree) (library : Library) (r s : Reading)
+    → IsReading library items r → IsReading library items s → (ts us : List Template)
     → template_names ts ≡ process_names items → template_names us ≡ process_names items
-    → HaveNumbers c.library (processes_in items) ts → HaveNumbers d.library (processes_in items) us
+    → HaveNumbers library (processes_in items) ts → HaveNumbers library (processes_in items) us
     → AreMeantFrom r 0 (processes_in items) ts → AreMeantFrom s 0 (processes_in items) us → ts ≡ us
-templates_of_items items c d same ic id r s rc rd ts us named named' numbers numbers' h j =
-    templates_from items r s
-    (λ number name. rc.places ic number name ∙ places_one c d same (processes_in items) number name ∙ sym (rd.places id number name))
-    rc.leaves rd.leaves 0 (λ k. shape_at (shapes_of d.library (processes_in items)) k) (processes_in items) ts us
-    (λ k p is. subst (λ (n : ℕ). StandsIn items (process_text n p)) (let e : k ≡ 0 + k = omega arith in e) (process_stands items k p is)) h j (named ∙ sym named') (moved.versions ∙ sym numbers'.versions) moved.shaped numbers'.shaped
-  where
-    moved : HaveNumbers d.library (processes_in items) ts
-    moved = subst (λ (l : Library). HaveNumbers l (processes_in items) ts) same numbers
+templates_of_items items library r s rc rd ts us named named' numbers numbers' h j =
+    templates_from items r s (λ number name. rc.places number name ∙ sym (rd.places number name))
+    rc.leaves rd.leaves 0 (λ k. shape_at (shapes_of library (processes_in items)) k) (processes_in items) ts us
+    (λ k p is. subst (λ (n : ℕ). StandsIn items (process_text n p)) (let e : k ≡ 0 + k = omega arith in e) (process_stands items k p is)) h j (named ∙ sym named') (numbers.versions ∙ sym numbers'.versions) numbers.shaped numbers'.shaped
 
 -- ---- texts
 
-pub templates_one : (text : List ℕ) (c d : Catalog) → c.library ≡ d.library → IsIndexed c → IsIndexed d
-    → (ts us : List Template) → IsNamedBy text ts → IsNamedBy text us → IsMeantBy text c ts → IsMeantBy text d us → ts ≡ us
-templates_one text c d same ic id ts us n m h j =
+pub templates_one : (text : List ℕ) (library : Library) (ts us : List Template)
+    → IsNamedBy text ts → IsNamedBy text us → IsMeantBy text library ts → IsMeantBy text library us → ts ≡ us
+templates_one text library ts us n m h j =
     let tree = tree_one text h.tree j.tree h.has j.has in
     let first = tree_one text n.tree j.tree n.has j.has in
     let second = tree_one text m.tree j.tree m.has j.has in
-    templates_of_items j.tree.items c d same ic id h.reading j.reading
-    (subst (λ (t : Tree). IsReading c t.items h.reading) tree h.read) j.read ts us
+    templates_of_items j.tree.items library h.reading j.reading
+    (subst (λ (t : Tree). IsReading library t.items h.reading) tree h.read) j.read ts us
     (n.named ∙ ap (λ (t : Tree). process_names t.items) first) (m.named ∙ ap (λ (t : Tree). process_names t.items) second)
-    (subst (λ (t : Tree). HaveNumbers c.library (processes_in t.items) ts) tree (h.numbered ic)) (j.numbered id)
+    (subst (λ (t : Tree). HaveNumbers library (processes_in t.items) ts) tree h.numbered) j.numbered
     (subst (λ (t : Tree). AreMeantFrom h.reading 0 (processes_in t.items) ts) tree h.meant) j.meant
 
 pub people_one : (text : List ℕ) (ps qs : List PersonDef) → HasPeopleOf text ps → HasPeopleOf text qs → ps ≡ qs

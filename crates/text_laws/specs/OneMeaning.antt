@@ -5,13 +5,12 @@ use Rattle.conditions.specs.Resolving.{IsResolved}
 use Rattle.flow_model.specs.declared.graphs.Expr.{Expr}
 use Rattle.flow_model.specs.declared.graphs.Graph.{Graph}
 use Rattle.flow_model.specs.declared.graphs.Leaf.{Leaf}
+use Rattle.flow_model.specs.declared.graphs.Library.{Library}
 use Rattle.flow_model.specs.declared.graphs.PersonDef.{PersonDef}
 use Rattle.flow_model.specs.declared.graphs.Template.{Template}
 use Rattle.flow_model.specs.declared.trees.Cond.{Cond}
 use Rattle.flow_model.specs.declared.trees.ItemTree.{ItemTree}
 use Rattle.flow_model.specs.declared.trees.ProcessTree.{ProcessTree}
-use Rattle.process_rules.specs.Imports.{IsIndexed}
-use Rattle.process_rules.specs.declared.catalog.Catalog.{Catalog}
 use Rattle.template_check.specs.Compiling.{AreLeavesOf, HasPeopleOf, IsMeantBy, IsNamedBy}
 use Rattle.template_check.specs.Meant.{IsMeant, Reading}
 use Rattle.text_graphs.specs.GraphTexts.{process_text}
@@ -38,11 +37,11 @@ GraphsAreOne =
     → IsMeant first (process_text number process) made → IsMeant second (process_text number process) other
     → made ≡ other
 
--- behind one library, however it is indexed, a text means one list of templates
+-- behind one library a text means one list of templates
 abbrev pub TemplatesAreOne : Type 0
 TemplatesAreOne =
-    (text : List ℕ) (c d : Catalog) → c.library ≡ d.library → IsIndexed c → IsIndexed d → (ts us : List Template)
-    → IsNamedBy text ts → IsNamedBy text us → IsMeantBy text c ts → IsMeantBy text d us → ts ≡ us
+    (text : List ℕ) (library : Library) (ts us : List Template) → IsNamedBy text ts → IsNamedBy text us
+    → IsMeantBy text library ts → IsMeantBy text library us → ts ≡ us
 
 -- a text declares one list of people
 abbrev pub PeopleAreOne : Type 0

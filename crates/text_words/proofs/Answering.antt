@@ -21,12 +21,10 @@ use Rattle.flow_model.specs.declared.instances.Fact.{Fact}
 use Rattle.flow_model.specs.declared.instances.FateRow.{FateRow}
 use Rattle.flow_model.specs.declared.trees.ProcessTree.{ProcessTree}
 use Rattle.template_check.specs.Built.{AreSound}
-use Rattle.process_rules.specs.Calling.{place_among, text_or}
+use Rattle.process_rules.specs.Calling.{place_among, stored_named, text_or}
 use Rattle.template_check.specs.Compiling.{IsNamedBy}
-use Rattle.process_rules.specs.Imports.{IsIndexed}
-use Rattle.process_rules.specs.Knowing.{place_named, stored_named}
+use Rattle.process_rules.specs.Knowing.{place_named}
 use Rattle.text_graphs.specs.Texts.{processes_in}
-use Rattle.process_rules.specs.declared.catalog.Catalog.{Catalog}
 use Rattle.template_store.specs.Store.{AddsText}
 use Rattle.template_check.proofs.Together.{laid_together, well_together}
 use Rattle.text_words.specs.Answers.{Refuses}
@@ -108,28 +106,28 @@ module _ {E : Type 0} (r : Result Answer E) (ts : List Template) (t : Template) 
       }) h
 
 -- what an import adds to a library that is empty is all of it
-all_added : (text : List ℕ) (old : Catalog) (new : Library) → old.library ≡ record { templates = []; people = [] } → (adds : AddsText text old new) → new.templates ≡ adds.added.templates
+all_added : (text : List ℕ) (old : Library) (new : Library) → old ≡ record { templates = []; people = [] } → (adds : AddsText text old new) → new.templates ≡ adds.added.templates
 all_added text old new empty adds =
     ap (λ (l : Library). l.templates) adds.behind ∙ ap (λ (l : Library). l.templates ++ adds.added.templates) empty
 
 -- and so they are the processes of the text
-pub named_alone : (text : List ℕ) (old : Catalog) (new : Library) → old.library ≡ record { templates = []; people = [] } → AddsText text old new → IsNamedBy text new.templates
+pub named_alone : (text : List ℕ) (old : Library) (new : Library) → old ≡ record { templates = []; people = [] } → AddsText text old new → IsNamedBy text new.templates
 named_alone text old new empty adds = subst (IsNamedBy text) (sym (all_added text old new empty adds)) adds.named
 
 -- behind an empty library a process that is named is one of the text, and stands at the place of its number
-place_alone : (earlier : Catalog) (processes : List ProcessTree) (number : ℕ) (name : List ℕ) → earlier.library ≡ record { templates = []; people = [] }
+place_alone : (earlier : Library) (processes : List ProcessTree) (number : ℕ) (name : List ℕ) → earlier ≡ record { templates = []; people = [] }
     → place_named earlier processes number name ≡ number_named processes number name
 place_alone earlier processes number name empty = by (number_named processes number name)
   where
-    by : (found : Option ℕ) → option_map (place_among earlier) (text_or found (stored_named earlier.library name)) ≡ found
+    by : (found : Option ℕ) → option_map (place_among earlier) (text_or found (stored_named earlier name)) ≡ found
     by None = ap (λ (l : Library). option_map (place_among earlier) (stored_named l name)) empty
     by (Some before) =
         let behind_none : 0 + before ≡ before = omega arith in
         ap (λ (l : Library). Some (length l.templates + before)) empty ∙ ap (λ (n : ℕ). Some n) behind_none
 
 -- and their graphs are what the text means
-pub meant_alone : (text : List ℕ) (old : Catalog) (new : Library) → IsIndexed old → old.library ≡ record { templates = []; people = [] } → AddsText text old new → IsMeantAlone text new.templates
-meant_alone text old new indexed empty adds =
+pub meant_alone : (text : List ℕ) (old : Library) (new : Library) → old ≡ record { templates = []; people = [] } → AddsText text old new → IsMeantAlone text new.templates
+meant_alone text old new empty adds =
     let meant = adds.meant in
     subst (IsMeantAlone text) (sym (all_added text old new empty adds))
     (record {
@@ -137,6 +135,6 @@ meant_alone text old new indexed empty adds =
       has = meant.has;
       reading = meant.reading;
       leaves = meant.read.leaves;
-      places = λ number name. meant.read.places indexed number name ∙ place_alone old (processes_in meant.tree.items) number name empty;
+      places = λ number name. meant.read.places number name ∙ place_alone old (processes_in meant.tree.items) number name empty;
       meant = meant.meant;
     })

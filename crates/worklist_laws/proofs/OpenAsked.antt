@@ -7,7 +7,7 @@ use Rattle.flow_core.specs.Admitting.{IsAdmitted}
 use Rattle.flow_core.specs.Allowing.{mode_in, Subject, IsThere, IsOpen}
 use Rattle.flow_core.specs.Answers.{instance_of}
 use Rattle.flow_core.specs.Judgements.{IsVerdict}
-use Rattle.flow_core.specs.Refusals.{first_of, unless, IsInOrder, between, IsNamed, person_of, person_test, is_active, is_going, is_over, mode_test, live_test, root_test, full_test, item_test, on_item, phase_in, hold_in, staff_refusal, staff_test, is_able, claim_test, release_test, transfer_test, taking_test, restart_test, tests_on_item, RefusesOnItem}
+use Rattle.flow_core.specs.Refusals.{first_of, unless, between, IsNamed, person_of, person_test, is_active, is_going, is_over, mode_test, live_test, root_test, full_test, item_test, on_item, phase_in, hold_in, staff_refusal, staff_test, is_able, claim_test, release_test, transfer_test, taking_test, restart_test, tests_on_item, RefusesOnItem}
 use Rattle.flow_core.specs.declared.judging.Verdict.TheVariants.{Do}
 use Rattle.flow_core.specs.declared.refusals.Refusal.{Refusal}
 use Rattle.flow_core.specs.declared.refusals.Refusal.TheVariants as refused
@@ -159,31 +159,31 @@ named_opens c people token test path spells refuses passes_open = by refuses.0 r
         let same : named.0 ≡ path = spells_one (between token) named.0 path named.1 spells in
         passes_open s (subst (λ (p : Path). IsThere c p s) same named.2) passed
 
-pub verdict_asks : (c : Core) (command : Command) (t : Transaction) → IsVerdict c command (Do t) → IsInOrder c → AsksOpen c t
-verdict_asks c (asked.Import text) t is order = subst (AsksOpen c) (sym is.1) tt
-verdict_asks c (asked.Start process starter key written) t is order = subst (AsksOpen c) (sym is.1.3) tt
-verdict_asks c (asked.Turn queue) t is order = subst (AsksOpen c) (sym is.1.2) tt
-verdict_asks c asked.Drain t is order = absurd is.1
-verdict_asks c (asked.Claim token who) t is order =
+pub verdict_asks : (c : Core) (command : Command) (t : Transaction) → IsVerdict c command (Do t) → AsksOpen c t
+verdict_asks c (asked.Import text) t is = subst (AsksOpen c) (sym is.1) tt
+verdict_asks c (asked.Start process starter key written) t is = subst (AsksOpen c) (sym is.1.3) tt
+verdict_asks c (asked.Turn queue) t is = subst (AsksOpen c) (sym is.1.2) tt
+verdict_asks c asked.Drain t is = absurd is.1
+verdict_asks c (asked.Claim token who) t is =
     subst (AsksOpen c) (sym is.1.2)
-    (named_opens c (person_test c who) token (claim_test (person_of c who)) is.1.0 is.1.1 (is.4 order) (λ s there none. claim_opens c is.1.0 s there (is_able (person_of c who) s) none))
-verdict_asks c (asked.Release token who) t is order =
-    subst (AsksOpen c) (sym is.1.2) (named_opens c (person_test c who) token (release_test who) is.1.0 is.1.1 (is.4 order) (λ s there none. release_opens c is.1.0 s there who none))
-verdict_asks c (asked.Transfer token who to) t is order =
+    (named_opens c (person_test c who) token (claim_test (person_of c who)) is.1.0 is.1.1 is.4 (λ s there none. claim_opens c is.1.0 s there (is_able (person_of c who) s) none))
+verdict_asks c (asked.Release token who) t is =
+    subst (AsksOpen c) (sym is.1.2) (named_opens c (person_test c who) token (release_test who) is.1.0 is.1.1 is.4 (λ s there none. release_opens c is.1.0 s there who none))
+verdict_asks c (asked.Transfer token who to) t is =
     subst (AsksOpen c) (sym is.1.2)
-    (named_opens c (first_of (person_test c who ∷ person_test c to ∷ [])) token (transfer_test who (person_of c to)) is.1.0 is.1.1 (is.4 order)
+    (named_opens c (first_of (person_test c who ∷ person_test c to ∷ [])) token (transfer_test who (person_of c to)) is.1.0 is.1.1 is.4
     (λ s there none. transfer_opens c is.1.0 s there who (is_able (person_of c to) s) none))
-verdict_asks c (asked.Take token) t is order =
-    subst (AsksOpen c) (sym is.1.4) (named_opens c None token taking_test is.1.0 is.1.2 (is.4 tt) (λ s there none. claim_opens c is.1.0 s there (not s.program.manual) none))
-verdict_asks c (asked.Done token who outcome) t is order = subst (AsksOpen c) (sym is.1.4) tt
-verdict_asks c (asked.Force token outcome) t is order = subst (AsksOpen c) (sym is.1.4) tt
-verdict_asks c (asked.Restart token) t is order =
-    subst (AsksOpen c) (sym is.1.2) (named_opens c None token restart_test is.1.0 is.1.1 (is.4 tt) (λ s there none. restart_opens c is.1.0 s there none))
-verdict_asks c (asked.Suspend root) t is order = subst (AsksOpen c) (sym is.1) tt
-verdict_asks c (asked.Resume root) t is order = subst (AsksOpen c) (sym is.1) tt
-verdict_asks c (asked.Terminate root) t is order = subst (AsksOpen c) (sym is.1) tt
-verdict_asks c (asked.Delete root) t is order =
-    subst (AsksOpen c) (sym is.1) (root_over c root (none_of_two (root_test c is_over root) _ (sym (is.4 tt))).0)
-verdict_asks c (asked.Clock minutes) t is order = subst (AsksOpen c) (sym is.1) tt
-verdict_asks c asked.Checkpoint t is order = absurd is.1
-verdict_asks c (asked.Ask query) t is order = absurd is.1
+verdict_asks c (asked.Take token) t is =
+    subst (AsksOpen c) (sym is.1.4) (named_opens c None token taking_test is.1.0 is.1.2 is.4 (λ s there none. claim_opens c is.1.0 s there (not s.program.manual) none))
+verdict_asks c (asked.Done token who outcome) t is = subst (AsksOpen c) (sym is.1.4) tt
+verdict_asks c (asked.Force token outcome) t is = subst (AsksOpen c) (sym is.1.4) tt
+verdict_asks c (asked.Restart token) t is =
+    subst (AsksOpen c) (sym is.1.2) (named_opens c None token restart_test is.1.0 is.1.1 is.4 (λ s there none. restart_opens c is.1.0 s there none))
+verdict_asks c (asked.Suspend root) t is = subst (AsksOpen c) (sym is.1) tt
+verdict_asks c (asked.Resume root) t is = subst (AsksOpen c) (sym is.1) tt
+verdict_asks c (asked.Terminate root) t is = subst (AsksOpen c) (sym is.1) tt
+verdict_asks c (asked.Delete root) t is =
+    subst (AsksOpen c) (sym is.1) (root_over c root (none_of_two (root_test c is_over root) _ (sym is.4)).0)
+verdict_asks c (asked.Clock minutes) t is = subst (AsksOpen c) (sym is.1) tt
+verdict_asks c asked.Checkpoint t is = absurd is.1
+verdict_asks c (asked.Ask query) t is = absurd is.1

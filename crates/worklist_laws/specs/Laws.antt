@@ -5,7 +5,6 @@ use Rattle.flow_core.specs.Admitting.{IsAdmitted}
 use Rattle.flow_core.specs.Allowing.{IsBlank}
 use Rattle.flow_core.specs.Judgements.{IsVerdict}
 use Rattle.flow_core.specs.Queries.{IsAnswer}
-use Rattle.flow_core.specs.Refusals.{IsInOrder}
 use Rattle.flow_core.specs.Shelving.{rank_on, Shelves}
 use Rattle.flow_core.specs.declared.judging.Verdict.TheVariants.{Do}
 use Rattle.flow_core.specs.declared.state.Core.{Core}
@@ -46,7 +45,7 @@ StaysShelved =
 
 -- a command that gives a transaction has asked that its item is open
 abbrev pub VerdictsAskOpen : Type 0
-VerdictsAskOpen = (c : Core) (command : Command) (t : Transaction) → IsVerdict c command (Do t) → IsInOrder c
+VerdictsAskOpen = (c : Core) (command : Command) (t : Transaction) → IsVerdict c command (Do t)
     → AsksOpen c t
 
 -- and so has a record that is admitted
@@ -75,4 +74,4 @@ WorklistsAreExact = (c : Core) (person : PersonDef) (lines : List WorkLine) → 
 -- and what WORKLIST replies is exact, in each state that is right and listed
 abbrev pub RepliesAreExact : Type 0
 RepliesAreExact = (c : Core) (name text : List ℕ) → IsRightAndListed c → IsAnswer c (ask.Worklist name) text
-    → ListsExactly c name (latest_person c.store.catalog.library name) text
+    → ListsExactly c name (latest_person c.store name) text

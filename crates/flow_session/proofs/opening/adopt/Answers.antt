@@ -10,15 +10,15 @@ returns-in-Ok-adopt-clause-right c = λ was. listed_stays c.args.core.now c.adop
   drives = c.in-Ok-adopt.ensures.drives;
   counts = c.in-Ok-adopt.ensures.counts;
   lives = (c.in-Ok.numbered.number, ap (λ (s : Summary). s.live) c.in-Ok-adopt.ensures.taken);
-}) c.in-Ok-adopt.ensures.shelves (admitted_asks c.args.core.now c.in-Ok.numbered.number c.in-Ok.numbered.transaction (c.in-Ok-adopt.ensures.admitted was.0.1.indexed)) was
+}) c.in-Ok-adopt.ensures.shelves (admitted_asks c.args.core.now c.in-Ok.numbered.number c.in-Ok.numbered.transaction c.in-Ok-adopt.ensures.admitted) was
 
 pub returns-in-Ok-adopt-clause-admitted : goal.returns-in-Ok-adopt-clause-admitted
-returns-in-Ok-adopt-clause-admitted c = λ order. record {
+returns-in-Ok-adopt-clause-admitted c = record {
   number = c.in-Ok.numbered.number;
   transaction = c.in-Ok.numbered.transaction;
   spelled = c.in-Ok.ensures.read.0;
   in_range = c.in-Ok.ensures.read.1;
-  admitted = c.in-Ok-adopt.ensures.admitted order;
+  admitted = c.in-Ok-adopt.ensures.admitted;
   allowed = c.in-Ok-adopt.ensures.allowed;
   adopted = record {
     drives = c.in-Ok-adopt.ensures.drives;

@@ -23,9 +23,8 @@ loop-record-preserved c =
           i.brings taken.1 taken.2 (rw i.kept at taken.3) (rw i.kept at taken.4);
       kept = c.in_ok-adopt.ensures.kept ∙ i.kept;
       queues = ap (λ (s : Summary). s.queues) taken.4 ∙ i.queues;
-      order = (c.in_ok-adopt.ensures.admitted i.order).adopted.drives.indexed i.order;
       leads = leads_more h i.front payload c.loop-record.core c.adopt.new.core i.leads
-          (c.in_ok-adopt.ensures.admitted i.order);
+          c.in_ok-adopt.ensures.admitted;
       right = λ some_. c.in_ok-adopt.ensures.right (i.right some_);
     }
 
@@ -38,7 +37,6 @@ loop-record-init c =
       brings = search rules;
       kept = c.in_ok-core.ensures.kept;
       queues = ap (λ (s : Summary). s.queues) begins;
-      order = c.in_ok-core.ensures.blank.indexed;
       leads = (
         c.in_ok-core.core,
         record {
@@ -62,7 +60,7 @@ returns-in_err-adopt-clause-refused c =
     let p = err_from_is_err_and c.from_residual-in_err-adopt.result c.from_residual-in_err-adopt.ensures.1 in
     let i = c.loop-record.invariant in
     let stop = c.in_err-adopt.field-0.0 in
-    let here = rw (c.slot.ensures, c.in-Some.ensures.0) at (c.in_err-adopt.ensures.refused i.order) in
+    let here = rw (c.slot.ensures, c.in-Some.ensures.0) at c.in_err-adopt.ensures.refused in
     rw (p.1, p.2) (stops_in c.args.opened.now.log.slot c.args.opened.now.header c.args.opened.now.records i.front c.in-Some.record.payload.now c.loop-record.records c.next.new.self c.loop-record.core stop i.passed c.in-Some.ensures.1 i.leads here)
 
 pub returns-clause-admitted : goal.returns-clause-admitted

@@ -1,6 +1,5 @@
 use Rattle.std.proofs.Common.{◌≡◌, ◌≤◌, List, ℕ, length}
 use Rattle.worklist_laws.specs.Shelved.{IsRightAndListed}
-use Rattle.flow_core.specs.Refusals.{IsInOrder}
 use Rattle.flow_core.specs.Summaries.{summary}
 use Rattle.flow_session.specs.Keeping.{Brings}
 use Rattle.flow_session.specs.Refusing.{LeadsTo}
@@ -14,7 +13,6 @@ invariant-loop-record l = record {
   brings : Brings l.opened.header front (summary l.core);
   kept : l.core.kept ≡ l.opened.header.transactions;
   queues : (summary l.core).queues ≡ l.opened.header.queues;
-  order : IsInOrder l.core;
   leads : LeadsTo l.opened.header front l.core;
   right : 1 ≤ l.opened.header.queues → IsRightAndListed l.core;
 }

@@ -2,4 +2,4 @@ use Rattle.machine_laws.proofs.Good.{verdict_good}
 use Rattle.machine_laws.proofs.laws.verdicts_are_good.Goals as goal
 
 pub returns : goal.returns
-returns c = λ a command t order is. verdict_good a command t order is
+returns c = verdict_good

@@ -2,4 +2,4 @@ use Rattle.machine_laws.proofs.Obeyed.{refusal_obeyed}
 use Rattle.machine_laws.proofs.replies.refusals_are_obeyed.Goals as goal
 
 pub returns : goal.returns
-returns c = λ a command refusal order keyed is. refusal_obeyed a command refusal order keyed is
+returns c = refusal_obeyed

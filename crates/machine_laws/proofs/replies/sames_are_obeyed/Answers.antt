@@ -2,4 +2,4 @@ use Rattle.machine_laws.proofs.Obeyed.{same_obeyed}
 use Rattle.machine_laws.proofs.replies.sames_are_obeyed.Goals as goal
 
 pub returns : goal.returns
-returns c = λ a command root order keyed is. same_obeyed a command root order keyed is
+returns c = same_obeyed

@@ -2,4 +2,4 @@ use Rattle.machine_laws.proofs.SeenVerdicts.{verdict_seen}
 use Rattle.machine_laws.proofs.replies.verdicts_are_seen.Goals as goal
 
 pub returns : goal.returns
-returns c = λ a command v order keyed is. verdict_seen a command v order keyed is
+returns c = verdict_seen

@@ -11,7 +11,7 @@ use Rattle.text_graphs.specs.Places.{IsLeastOf, AnyAt}
 use Rattle.process_rules.proofs.callees.mismatched_containers.Goals as goal
 
 pub returns : goal.returns
-returns c = λ processes knowing indexed.
+returns c = λ processes knowing.
     let known = c.args.known.now in
     let library = known.catalog.now.library in
     let leaves = table_leaves c.args.table.now in
@@ -22,4 +22,4 @@ returns c = λ processes knowing indexed.
     let first = rw c.deref.ensures.value at c.first_misfit.ensures in
     let least = IfOk-weaker result (IsLeastOf (AnyAt (λ x. IsMisfitOf leaves library listed (call_at x)) found)) (IsLeastOf (AnyAt (λ s. HasMisfitBy (callee_meant known) leaves library listed (graph_at s)) scopes)) (least_of_graphs (callee_meant known) leaves library listed scopes found c.in_ok-calls.ensures) first in
     let told = subst (λ (ps : List ProcessTree). IfOk result (IsLeastOf (AnyAt (λ s. HasMisfitBy (callee_meant known) leaves library ps (graph_at s)) scopes))) knowing.listed least in
-    subst (λ (calls : Calls). IfOk result (IsLeastOf (AnyAt (λ s. HasMisfitBy calls leaves library processes (graph_at s)) scopes))) (calls_known known processes knowing indexed) told
+    subst (λ (calls : Calls). IfOk result (IsLeastOf (AnyAt (λ s. HasMisfitBy calls leaves library processes (graph_at s)) scopes))) (calls_known known processes knowing) told

@@ -6,5 +6,5 @@ use Rattle.text_graphs.specs.Places.{IsLeastOf, AnyAt}
 use Rattle.process_rules.proofs.callees.unknown_processes.Goals as goal
 
 pub returns-clause-named : goal.returns-clause-named
-returns-clause-named c = λ processes knowing indexed.
-    subst (λ (calls : Calls). IsLeastOf (AnyAt (λ s. NamesNone calls (graph_at s)) c.args.scopes.now) c.unknown_in_graphs.result) (calls_known c.args.known.now processes knowing indexed) c.unknown_in_graphs.ensures
+returns-clause-named c = λ processes knowing.
+    subst (λ (calls : Calls). IsLeastOf (AnyAt (λ s. NamesNone calls (graph_at s)) c.args.scopes.now) c.unknown_in_graphs.result) (calls_known c.args.known.now processes knowing) c.unknown_in_graphs.ensures

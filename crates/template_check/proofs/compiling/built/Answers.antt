@@ -5,7 +5,6 @@ use Rattle.flow_model.specs.declared.trees.ProcessTree.{ProcessTree}
 use Rattle.template_check.specs.Built.{IsSound}
 use Rattle.template_check.specs.Compiling.{declared_people, process_names, template_names}
 use Rattle.process_rules.specs.Calling.{IsCalling}
-use Rattle.process_rules.specs.Imports.{IsIndexed}
 use Rattle.process_rules.specs.declared.sizes.Shape.{Shape}
 use Rattle.template_check.specs.Meant.{AreMeantFrom, reading_of}
 use Rattle.template_check.specs.Numbered.{HasToldShape}
@@ -47,8 +46,7 @@ loop-item-preserved c =
     let r = reading_of c.args.builder.now in
     let people_past = λ (none : person_of x ≡ None). people_past items i x less is c.loop-item.people none so_far.people in
     let library = c.args.builder.now.known.catalog.now.library in
-    let versions_past : process_of x ≡ None → IsIndexed c.args.builder.now.known.catalog.now → versions_of c.loop-item.templates ≡ next_versions library (processes_in (take (i + 1) items))
-    = λ none indexed. versions_past items i x less is library c.loop-item.templates none (so_far.versions indexed) in
+    let versions_past = λ (none : process_of x ≡ None). versions_past items i x less is library c.loop-item.templates none so_far.versions in
     let not_meant = λ (none : process_of x ≡ None). subst (λ (ps : List ProcessTree). AreMeantFrom r 0 ps c.loop-item.templates) (sym (kind_past process_of items i x less is none)) so_far.meant in
     elim c.match-item.branch [
       | in-Structure w ↦ rw (w.templates-is, w.people-is) (record { alone = so_far.alone; ordered = so_far.ordered; named = past (ap process_of w.in-Structure.is); meant = not_meant (ap process_of w.in-Structure.is); people = people_past (ap person_of w.in-Structure.is); versions = versions_past (ap process_of w.in-Structure.is); told = so_far.told })
@@ -66,7 +64,7 @@ loop-item-preserved c =
             meant = subst (λ (ps : List ProcessTree). AreMeantFrom r 0 ps w.push-in-Process.new.self) (sym (kind_next process_of items i x w.in-Process.process less is some))
                 (meant_next r (processes_in (take i items)) c.loop-item.templates w.push-in-Process.new.self w.in-Process.process built.template w.in_ok-narrow-in-Process.field-0 number w.in_ok-push-in-Process.ensures.ok so_far.meant built.ensures.meant);
             people = people_past (ap person_of w.in-Process.is);
-            versions = λ indexed. versions_next items i x less is library c.loop-item.templates w.push-in-Process.new.self built.template w.in-Process.process some w.in_ok-push-in-Process.ensures.ok (built.ensures.version indexed) (so_far.versions indexed);
+            versions = versions_next items i x less is library c.loop-item.templates w.push-in-Process.new.self built.template w.in-Process.process some w.in_ok-push-in-Process.ensures.ok built.ensures.version so_far.versions;
             told = told_next c.args.shapes.now c.loop-item.templates w.push-in-Process.new.self built.template w.len-number.result w.len-number.ensures w.in_ok-push-in-Process.ensures.ok
                 (subst (λ (s : Shape). HasToldShape built.template s) w.shape_of-shape.ensures built.ensures.shape) so_far.told;
           })
@@ -80,11 +78,10 @@ returns c =
     let r = reading_of c.args.builder.now in
     let meant = subst (λ (xs : List ItemTree). AreMeantFrom r 0 (processes_in xs) c.loop-item.templates) all so_far.meant in
     let library = c.args.builder.now.known.catalog.now.library in
-    let versions : IsIndexed c.args.builder.now.known.catalog.now → versions_of c.loop-item.templates ≡ next_versions library (processes_in items)
-    = λ indexed. subst (λ (xs : List ItemTree). versions_of c.loop-item.templates ≡ next_versions library (processes_in xs)) all (so_far.versions indexed) in
+    let versions = subst (λ (xs : List ItemTree). versions_of c.loop-item.templates ≡ next_versions library (processes_in xs)) all so_far.versions in
     record {
       people = so_far.people ∙ ap declared_people all;
-      numbered = λ indexed. all_numbered c.args.builder.now.known.catalog.now.library (processes_in items) c.loop-item.templates c.args.shapes.now (c.requires.shapes indexed) (versions indexed) so_far.told;
+      numbered = all_numbered c.args.builder.now.known.catalog.now.library (processes_in items) c.loop-item.templates c.args.shapes.now c.requires.shapes versions so_far.told;
       sound = record { alone = so_far.alone; ordered = so_far.ordered; performed = all_performed items r c.loop-item.templates c.requires.performers meant };
       named = subst (λ (xs : List ItemTree). template_names c.loop-item.templates ≡ process_names xs) all so_far.named;
       reading = r;

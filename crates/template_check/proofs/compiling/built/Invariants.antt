@@ -2,7 +2,6 @@ use Rattle.std.proofs.Common.{◌≡◌, length, take}
 use Rattle.std.specs.List.{All}
 use Rattle.process_rules.specs.Calling.{AreOrdered}
 use Rattle.template_check.specs.Built.{IsSoundAlone}
-use Rattle.process_rules.specs.Imports.{IsIndexed}
 use Rattle.template_check.specs.Compiling.{declared_people, process_names, template_names}
 use Rattle.template_check.specs.Meant.{AreMeantFrom, reading_of}
 use Rattle.text_graphs.specs.Texts.{processes_in}
@@ -16,7 +15,6 @@ invariant-loop-item l = record {
   named : template_names l.templates ≡ process_names (take l.item-index l.tree.items);
   meant : AreMeantFrom (reading_of l.builder) 0 (processes_in (take l.item-index l.tree.items)) l.templates;
   people : l.people ≡ declared_people (take l.item-index l.tree.items);
-  versions : IsIndexed l.builder.known.catalog.now
-      → versions_of l.templates ≡ next_versions l.builder.known.catalog.now.library (processes_in (take l.item-index l.tree.items));
+  versions : versions_of l.templates ≡ next_versions l.builder.known.catalog.now.library (processes_in (take l.item-index l.tree.items));
   told : AreTold l.shapes l.templates;
 }

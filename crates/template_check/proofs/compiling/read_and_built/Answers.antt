@@ -19,7 +19,7 @@ first_of_leaves-requires-clause-leaves c =
     (agreed_everywhere (leaves_in (behind c.args.structures.definitions.items)) (table_leaves c.in_ok-table.table) c.in_ok-table.ensures.there c.args.scopes.now)
 
 pub returns-in-Some-2-clause-first : goal.returns-in-Some-2-clause-first
-returns-in-Some-2-clause-first c = λ indexed.
+returns-in-Some-2-clause-first c =
     let items = c.args.tree.now.items in
     let later = from_callees c.args.earlier.now.library items in
     let here : IsFirstBroken (rules_on_lines items) (Some c.in-Some-2.fault) = rw c.in-Some-2.is at c.in_ok-fault.ensures.first in
@@ -35,11 +35,11 @@ called_and_built-requires-clause-leaves c =
     (agreed_everywhere (leaves_in (behind c.args.structures.definitions.items)) (table_leaves c.in_ok-table.table) c.in_ok-table.ensures.there c.args.scopes.now)
 
 pub returns-clause-first : goal.returns-clause-first
-returns-clause-first c = λ indexed.
+returns-clause-first c =
     let items = c.args.tree.now.items in
     let later = from_callees c.args.earlier.now.library items in
     let none : IsFirstBroken (rules_on_lines items) None = rw c.in_default-2.is at c.in_ok-fault.ensures.first in
-    then_first (rules_on_leaves items) (rules_on_lines items ++ later) c.called_and_built.result c.in_default.ensures (then_first (rules_on_lines items) later c.called_and_built.result none (c.called_and_built.ensures.first indexed))
+    then_first (rules_on_leaves items) (rules_on_lines items ++ later) c.called_and_built.result c.in_default.ensures (then_first (rules_on_lines items) later c.called_and_built.result none c.called_and_built.ensures.first)
 
 pub called_and_built-requires-clause-unbroken : goal.called_and_built-requires-clause-unbroken
 called_and_built-requires-clause-unbroken c =

@@ -14,4 +14,4 @@ built-requires-clause-found c =
     let known = c.args.builder.now.known in
     let counts : IsFirstBroken (rules_on_counts items) None = rw c.in_default-2.is at c.in_ok-fault.ensures.first in
     text_found items (table_leaves c.args.builder.now.table) (callee_meant known) c.requires.unbroken counts c.requires.leaves
-    c.requires.performers c.requires.called (place_among known.catalog.now)
+    c.requires.performers c.requires.called (place_among known.catalog.now.library)

@@ -2,4 +2,4 @@ use Rattle.worklist_laws.proofs.OpenAsked.{verdict_asks}
 use Rattle.worklist_laws.proofs.asked.verdicts_ask_open.Goals as goal
 
 pub returns : goal.returns
-returns c = λ state command t is order. verdict_asks state command t is order
+returns c = verdict_asks

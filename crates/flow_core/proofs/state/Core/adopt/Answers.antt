@@ -59,4 +59,4 @@ pub returns-clause-follows : goal.returns-clause-follows
 returns-clause-follows c = c.in_ok-admits.ensures.follows c.if-not-branch.false
 
 pub returns-clause-admitted : goal.returns-clause-admitted
-returns-clause-admitted c = λ order. c.in_ok-admits.ensures.admitted order c.if-not-branch.false
+returns-clause-admitted c = c.in_ok-admits.ensures.admitted c.if-not-branch.false

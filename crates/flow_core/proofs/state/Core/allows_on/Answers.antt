@@ -10,10 +10,10 @@ pub returns-in-Transfer-clause-due : goal.returns-in-Transfer-clause-due
 returns-in-Transfer-clause-due c = rw c.in-Transfer.is (c.allows_transfer.ensures c.in-Transfer.field-0)
 
 pub returns-in-Take-clause-due : goal.returns-in-Take-clause-due
-returns-in-Take-clause-due c = λ order. rw c.in-Take.is (c.allows_take.ensures c.in-Take.field-0)
+returns-in-Take-clause-due c = rw c.in-Take.is (c.allows_take.ensures c.in-Take.field-0)
 
 pub returns-in-Done-clause-due : goal.returns-in-Done-clause-due
-returns-in-Done-clause-due c = λ order. let due = rw c.as_slice.ensures at (c.allows_done.ensures.due c.in-Done.field-0 order) in rw c.in-Done.is due
+returns-in-Done-clause-due c = let due = rw c.as_slice.ensures at (c.allows_done.ensures.due c.in-Done.field-0) in rw c.in-Done.is due
 
 pub returns-in-Force-clause-due : goal.returns-in-Force-clause-due
-returns-in-Force-clause-due c = λ order. let due = rw c.as_slice-in-Force.ensures at (c.allows_force.ensures.due c.in-Force.field-0) in rw c.in-Force.is due
+returns-in-Force-clause-due c = let due = rw c.as_slice-in-Force.ensures at (c.allows_force.ensures.due c.in-Force.field-0) in rw c.in-Force.is due

@@ -5,5 +5,5 @@ use Rattle.flow_core.proofs.Admitting.{behind}
 use Rattle.flow_core.proofs.state.Core.allows_release.Goals as goal
 
 pub returns : goal.returns
-returns c = λ item order.
-    behind (release_test c.args.who.now (subject_of c.args.known.now)) c.passes.result ((c.if-not-is_person.ensures order).0 refl) (c.passes.ensures.told (release_test c.args.who.now (subject_of c.args.known.now)) c.may_release.ensures)
+returns c = λ item.
+    behind (release_test c.args.who.now (subject_of c.args.known.now)) c.passes.result (c.if-not-is_person.ensures.0 refl) (c.passes.ensures.told (release_test c.args.who.now (subject_of c.args.known.now)) c.may_release.ensures)

@@ -34,6 +34,6 @@ returns-in-Start-clause-exact c =
 pub returns-in-Start-clause-keys : goal.returns-in-Start-clause-keys
 returns-in-Start-clause-keys c =
     rw c.in-Start.is
-    (subst (λ (k : Option Name). OnOk c.start.result (IfNewest c.args.self.now.store.catalog c.in-Start.process
+    (subst (λ (k : Option Name). OnOk c.start.result (IfNewest c.args.self.now.store c.in-Start.process
     c.in-Start.version (λ place. StartsKey c.in-Start.root k c.args.self.now c.start.new.self)))
     c.as_ref.ensures.value c.start.ensures.keys)

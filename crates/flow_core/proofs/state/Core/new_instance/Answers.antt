@@ -19,13 +19,13 @@ returns-clause-made c =
     (c.in_ok-input-2.ensures ∙ ap (filled c.args.settings.now) c.in_ok-input.ensures) c.start.ensures
 
 pub returns-in_default-clause-placed : goal.returns-in_default-clause-placed
-returns-in_default-clause-placed c = λ indexed place newest. none-some place
-    (sym c.in_default.is ∙ c.version_place.ensures.newest indexed place newest)
+returns-in_default-clause-placed c = λ place newest. none-some place
+    (sym c.in_default.is ∙ c.version_place.ensures.newest place newest)
 
 pub returns-clause-placed : goal.returns-clause-placed
-returns-clause-placed c = λ indexed place newest.
+returns-clause-placed c = λ place newest.
     let same : c.in-Some.place ≡ place = (let both : Some c.in-Some.place ≡ Some place = sym c.in-Some.is
-    ∙ c.version_place.ensures.newest indexed place newest in cc) in
+    ∙ c.version_place.ensures.newest place newest in cc) in
     runs_at c.start.result c.library.result.now.templates c.in-Some.place c.args.root c.in_ok-starter.starter
     c.in_ok-input-2.input c.in-Some-template.template.now.graph place same
     (ap (λ l. graph_of l.templates c.in-Some.place) c.library.ensures

@@ -15,7 +15,6 @@ returns-clause-blank c = record {
   people = ap (λ (l : Library). l.people) c.new-2.ensures.empty;
   clock = refl;
   keys = c.new-4.ensures.empty;
-  indexed = c.new-2.ensures.indexed;
   live = c.new-6.ensures;
   unlisted = c.new-5.ensures;
 }

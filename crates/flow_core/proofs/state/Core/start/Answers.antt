@@ -28,18 +28,18 @@ returns-in_default-clause-drives c =
     c.args.settings.now o) c.in_default.is c.in_ok-made.ensures.made)
 
 pub returns-in_default-clause-placed : goal.returns-in_default-clause-placed
-returns-in_default-clause-placed c = λ indexed place newest.
+returns-in_default-clause-placed c = λ place newest.
     absurd (subst (λ (o : Option Instance). RunsAt place o) c.in_default.is
-    (c.in_ok-made.ensures.placed indexed place newest))
+    (c.in_ok-made.ensures.placed place newest))
 
 pub returns-in_default-clause-keys : goal.returns-in_default-clause-keys
-returns-in_default-clause-keys c = λ indexed place newest.
+returns-in_default-clause-keys c = λ place newest.
     absurd (subst (λ (o : Option Instance). RunsAt place o) c.in_default.is
-    (c.in_ok-made.ensures.placed indexed place newest))
+    (c.in_ok-made.ensures.placed place newest))
 
 pub returns-clause-placed : goal.returns-clause-placed
-returns-clause-placed c = λ indexed place newest.
+returns-clause-placed c = λ place newest.
     let now = ap (λ (k : Core). instance_of k c.args.root) c.in_ok-put.ensures.rest
     ∙ c.in_ok-add_root.ensures.roots.here in
     subst (λ (o : Option Instance). RunsAt place o) (sym now)
-    (subst (λ (o : Option Instance). RunsAt place o) c.in-Some.is (c.in_ok-made.ensures.placed indexed place newest))
+    (subst (λ (o : Option Instance). RunsAt place o) c.in-Some.is (c.in_ok-made.ensures.placed place newest))

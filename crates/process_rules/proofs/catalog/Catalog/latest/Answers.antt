@@ -3,6 +3,6 @@ use Rattle.std.specs.HashMap as hash
 use Rattle.process_rules.proofs.catalog.Catalog.latest.Goals as goal
 
 pub returns : goal.returns
-returns c = λ indexed.
+returns c =
     c.copied.ensures ∙ c.get.ensures.value
-    ∙ ap (λ bs. hash.get_by (λ k. bytes_eq bs k.items) c.args.self.now.people) c.as_slice.ensures ∙ indexed.1 c.args.name.now
+    ∙ ap (λ bs. hash.get_by (λ k. bytes_eq bs k.items) c.args.self.now.people) c.as_slice.ensures ∙ c.args.self.now.people_indexed c.args.name.now

@@ -2,7 +2,7 @@ use Rattle.std.proofs.Common.{ap, ◌∙◌, bytes_eq}
 use Rattle.std.specs.HashMap as hash
 use Rattle.process_rules.proofs.catalog.Catalog.newest.Goals as goal
 
-pub returns-clause-newest : goal.returns-clause-newest
-returns-clause-newest c = λ indexed.
+pub returns : goal.returns
+returns c =
     c.copied.ensures ∙ c.get.ensures.value
-    ∙ ap (λ bs. hash.get_by (λ k. bytes_eq bs k.items) c.args.self.now.templates) c.as_slice.ensures ∙ indexed.0 c.args.name.now
+    ∙ ap (λ bs. hash.get_by (λ k. bytes_eq bs k.items) c.args.self.now.templates) c.as_slice.ensures ∙ c.args.self.now.templates_indexed c.args.name.now

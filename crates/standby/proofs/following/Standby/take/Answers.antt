@@ -6,7 +6,6 @@ use Rattle.machine_laws.specs.Viewed.{view}
 use Rattle.flow_session.specs.Leading.{LeadsBy}
 use Rattle.flow_session.proofs.Leading.{leads_adopted, one_step}
 use Rattle.standby.specs.Stages.{Adopts}
-use Rattle.standby.proofs.Going.{in_order}
 use Rattle.standby.proofs.Taken.{IsNext, next_one}
 use Rattle.standby.proofs.Waiting.{waits_none, waits_one}
 use Rattle.standby.proofs.following.Standby.take.Given as given
@@ -28,7 +27,7 @@ returns-in-Err-clause-waits g c = rw c.in-Err.ensures (c.args.self.now.core, wai
 pub returns-in-Err-NotAllowed-clause-stops : goal.returns-in-Err-NotAllowed-clause-stops
 returns-in-Err-NotAllowed-clause-stops g c right =
     let lt : c.args.self.now.core.number < c.args.numbered.number = rw c.number.ensures at c.if-number.false in
-    (refl, lt, c.in-Err-NotAllowed.ensures.refused (in_order c.args.self.now.core right) c.in-Err-NotAllowed.field-0-is)
+    (refl, lt, c.in-Err-NotAllowed.ensures.refused c.in-Err-NotAllowed.field-0-is)
 
 -- ---- a transaction that is adopted
 
@@ -60,7 +59,7 @@ adopts : (g : given.Over) (c : goal.In-Ok g) → IsRightCore c.args.self.now.cor
     → Adopts c.args.self.now.core c.args.numbered.number c.args.numbered.transaction c.adopt.new.self
 adopts g c right = record {
   beyond = beyond g c;
-  admitted = c.in-Ok.ensures.admitted (in_order c.args.self.now.core right);
+  admitted = c.in-Ok.ensures.admitted;
   makes = record {
     allowed = c.in-Ok.ensures.allowed;
     drives = c.in-Ok.ensures.drives;

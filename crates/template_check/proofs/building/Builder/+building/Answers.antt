@@ -66,7 +66,7 @@ activities-loop-element-preserved t c =
       | activities-in-Activity+in_ok-activity-in-Activity+in_ok-push-in-Activity w ↦
           let some : activity_of x ≡ Some w.in-Activity.activity = ap activity_of w.in-Activity.is in
           let P = λ (a : Activity). IsSoundWork a.work in
-          let Q = λ (a : Activity). IsCallingWork (place_behind c.args.self.now.known.catalog.now c.args.scope.now.process) a.work in
+          let Q = λ (a : Activity). IsCallingWork (place_behind c.args.self.now.known.catalog.now.library c.args.scope.now.process) a.work in
           let built = w.in_ok-activity-in-Activity.ensures in
           rw w.activities-is (record {
             named = named_next elements i x c.loop-element-test.true c.element-item.is c.loop-element.activities w.push.new.self _ w.in-Activity.activity some w.in_ok-push-in-Activity.ensures.ok built.named so_far.named;
@@ -139,7 +139,7 @@ graph-returns-clause-sound t c =
 
 pub graph-returns-clause-calls : goal.graph-returns-clause-calls
 graph-returns-clause-calls t c =
-    let limit = place_behind c.args.self.now.known.catalog.now in
+    let limit = place_behind c.args.self.now.known.catalog.now.library in
     let P = λ (number : ℕ). All (λ (a : Activity). IsCallingWork (limit number) a.work) c.in_ok-activities.activities in
     built_calling (limit c.args.process) _ _ c.in_ok-activities.activities c.in_ok-controls.controls c.in_ok-lines.lines c.in_ok-loops.loops c.in_ok-wiring.wiring (subst P c.in_ok-scope.ensures.numbered c.in_ok-activities.ensures.calls)
 

@@ -11,6 +11,6 @@ abbrev pub invariant-activities-loop-element : goal.invariant-activities-loop-el
 invariant-activities-loop-element l = record {
   named : map (λ a. a.name) l.activities ≡ names_in (take l.element-index l.elements);
   sound : All (λ x. IsSoundWork x.work) l.activities;
-  calls : All (λ x. IsCallingWork (place_behind l.self.known.catalog.now l.scope.process) x.work) l.activities;
+  calls : All (λ x. IsCallingWork (place_behind l.self.known.catalog.now.library l.scope.process) x.work) l.activities;
   meant : (depth : ℕ) → AreParts (IsOne (IsActivity (MeantTo (reading_of l.self) depth) (reading_of l.self) (text_of l.scope))) (activities_in (take l.element-index l.elements)) l.activities;
 }

@@ -8,7 +8,7 @@ pub returns-clause-sound : goal.returns-clause-sound
 returns-clause-sound c =
     let v = c.self.view_is in
     rw (← v) (λ sound.
-    subst (λ (library : Library). AreSound library.templates) (sym c.in_ok-count.ensures.added.1)
+    subst (λ (library : Library). AreSound library.templates) (sym c.in_ok-add.ensures.added.1)
     (sound_added c.self.inside.catalog.library.templates c.in_ok-compiled.compiled.templates sound
     c.in_ok-compiled.ensures.compiled.sound))
 
@@ -20,5 +20,5 @@ returns-clause-of_text c =
       named = c.in_ok-compiled.ensures.compiled.named;
       meant = c.in_ok-compiled.ensures.compiled.meant;
       people = c.in_ok-compiled.ensures.compiled.people;
-      behind = c.in_ok-count.ensures.added.1;
+      behind = c.in_ok-add.ensures.added.1;
     })
