@@ -5,16 +5,22 @@ use std::test::Fail;
 
 #[test]
 fn words_and_keywords(rt: HostRuntime) -> Result<(), Fail> {
-    assert_eq!(rt; Keyword::from_word(b"STRUCTURE"), Some(Keyword::Structure));
-    assert_eq!(rt; Keyword::from_word(b"TEMPLATES"), Some(Keyword::Templates));
-    assert_eq!(rt; Keyword::from_word(b"AT_LEAST"), Some(Keyword::AtLeast));
-    assert_eq!(rt;
-        Keyword::from_word(b"AT_LEAST_ONE"),
-        Some(Keyword::AtLeastOne)
-    );
-    assert_eq!(rt; Keyword::from_word(b"or"), None);
-    assert_eq!(rt; Keyword::from_word(b"ORR"), None);
-    assert_eq!(rt; Keyword::from_word(b""), None);
+    for (word, keyword) in [
+        ("STRUCTURE", Some(Keyword::Structure)),
+        ("TEMPLATES", Some(Keyword::Templates)),
+        ("AT_LEAST", Some(Keyword::AtLeast)),
+        ("AT_LEAST_ONE", Some(Keyword::AtLeastOne)),
+        ("or", None),
+        ("ORR", None),
+        ("", None),
+    ] {
+        assert_eq!(rt; Keyword::from_word(word.as_bytes()), keyword);
+    }
+    Ok(())
+}
+
+#[test]
+fn spellings(rt: HostRuntime) -> Result<(), Fail> {
     assert_eq!(rt; Keyword::AtLeast.spelling(), b"AT_LEAST".as_slice());
     assert_eq!(rt; Keyword::Or.spelling(), b"OR".as_slice());
     Ok(())

@@ -3,7 +3,7 @@ use flow_model::{PathFault, path_of, path_text};
 use std::test::Fail;
 
 #[test]
-fn reads_the_spellings_of_paths_alone(rt: HostRuntime) -> Result<(), Fail> {
+fn reads_the_spellings_of_paths(rt: HostRuntime) -> Result<(), Fail> {
     for text in [
         "1",
         "18446744073709551615",
@@ -13,6 +13,11 @@ fn reads_the_spellings_of_paths_alone(rt: HostRuntime) -> Result<(), Fail> {
         let path = path_of(rt.alloc(), text.as_bytes())?;
         assert_eq!(rt; path_text(rt.alloc(), &path)?.as_slice(), text.as_bytes());
     }
+    Ok(())
+}
+
+#[test]
+fn refuses_what_spells_no_path(rt: HostRuntime) -> Result<(), Fail> {
     for text in [
         "",
         "0",

@@ -119,31 +119,37 @@ fn fates_by(alloc: Global, names: &[&[u8]]) -> Result<Result<Fates, FateFault>, 
     Ok(fates(alloc, &library, 0, 1, &nothing(alloc), &facts))
 }
 
-/// The refused completion, or how many rows say that an activity is finished.
+/// How many rows say that an activity is finished.
+fn finished(shown: &Fates) -> usize {
+    let rows = shown.rows.as_slice().iter();
+    rows.filter(|row| row.fate == Fate::Finished(1)).count()
+}
+
+/// The refused completion, or how many activities are finished.
 fn told(alloc: Global, names: &[&[u8]]) -> Result<Result<usize, FateFault>, Fail> {
     Ok(match fates_by(alloc, names)? {
         Err(fault) => Err(fault),
-        Ok(shown) => Ok(
-            shown
-                .rows
-                .as_slice()
-                .iter()
-                .filter(|row| row.fate == Fate::Finished(1))
-                .count(),
-        ),
+        Ok(shown) => Ok(finished(&shown)),
     })
 }
 
+/// Completions of the first attempts of activities, and what they come to.
+type Case<'a> = (&'a [&'a [u8]], Result<usize, FateFault>);
+
+const CASES: [Case; 7] = [
+    (&[], Ok(0)),
+    (&[b"A"], Ok(1)),
+    (&[b"A", b"B"], Ok(2)),
+    (&[b"B"], Err(FateFault::NotReady(0))),
+    (&[b"B", b"A"], Err(FateFault::NotReady(0))),
+    (&[b"A", b"A"], Err(FateFault::NotReady(1))),
+    (&[b"A", b"B", b"B"], Err(FateFault::NotReady(2))),
+];
+
 #[test]
 fn completions_are_taken_in_turn(rt: HostRuntime) -> Result<(), Fail> {
-    let alloc = rt.alloc();
-    let (a, b) = (b"A".as_slice(), b"B".as_slice());
-    assert!(rt; told(alloc, &[])? == Ok(0));
-    assert!(rt; told(alloc, &[a])? == Ok(1));
-    assert!(rt; told(alloc, &[a, b])? == Ok(2));
-    assert!(rt; told(alloc, &[b])? == Err(FateFault::NotReady(0)));
-    assert!(rt; told(alloc, &[b, a])? == Err(FateFault::NotReady(0)));
-    assert!(rt; told(alloc, &[a, a])? == Err(FateFault::NotReady(1)));
-    assert!(rt; told(alloc, &[a, b, b])? == Err(FateFault::NotReady(2)));
+    for (names, wanted) in &CASES {
+        assert!(rt; told(rt.alloc(), *names)? == *wanted);
+    }
     Ok(())
 }

@@ -1,16 +1,16 @@
 //! Histories of several roots, with deletions and what they leave.
 ghost use Rattle.std.specs.Prelude.{◌≤◌};
 
-use flow_model::{List, Message, Numbered, Path, Transaction};
+use flow_model::{List, Message, Path, Transaction};
 use flow_txn::encode;
 use live_history::History;
 use std::alloc::{AllocError, Global};
 use std::test::Fail;
 
-/// The numbers of transactions.
-fn numbers(alloc: Global, found: &[Numbered]) -> Result<Vec<u64>, AllocError> {
+/// The numbers of the transactions about a root.
+fn about(alloc: Global, history: &History, root: u64) -> Result<Vec<u64>, AllocError> {
     let mut numbers = Vec::new(alloc);
-    for numbered in found {
+    for numbered in &history.about(root)? {
         numbers.push(numbered.number)?;
     }
     Ok(numbers)
@@ -79,10 +79,7 @@ fn transactions_out_of_range_are_kept(rt: HostRuntime) -> Result<(), Fail> {
     let alloc = rt.alloc();
     let mut history = suspensions(alloc, 2)?;
     history.push(0, &Transaction::Suspend(2))?;
-    assert_eq!(rt;
-        numbers(alloc, &history.about(2)?)?.as_slice(),
-        [1, 0].as_slice()
-    );
+    assert_eq!(rt; about(alloc, &history, 2)?.as_slice(), [1, 0].as_slice());
     assert_eq!(rt; walked(alloc, &history)?.as_slice(), [1, 2, 0].as_slice());
     history.remove(3);
     assert!(rt; begins_with(&history, alloc, 1, 2)?);
@@ -94,14 +91,8 @@ fn transactions_of_a_root_come_in_order(rt: HostRuntime) -> Result<(), Fail> {
     let alloc = rt.alloc();
     let history = suspensions(alloc, 7)?;
     assert_eq!(rt; history.len(), 7);
-    assert_eq!(rt;
-        numbers(alloc, &history.about(2)?)?.as_slice(),
-        [1, 4, 7].as_slice()
-    );
-    assert_eq!(rt;
-        numbers(alloc, &history.about(1)?)?.as_slice(),
-        [3, 6].as_slice()
-    );
+    assert_eq!(rt; about(alloc, &history, 2)?.as_slice(), [1, 4, 7].as_slice());
+    assert_eq!(rt; about(alloc, &history, 1)?.as_slice(), [3, 6].as_slice());
     assert!(rt; history.about(4)?.is_empty());
     Ok(())
 }
@@ -114,10 +105,7 @@ fn a_deletion_takes_those_of_its_root_alone(rt: HostRuntime) -> Result<(), Fail>
     history.remove(2);
     assert_eq!(rt; history.len(), 5);
     assert!(rt; history.about(2)?.is_empty());
-    assert_eq!(rt;
-        numbers(alloc, &history.about(3)?)?.as_slice(),
-        [2, 5].as_slice()
-    );
+    assert_eq!(rt; about(alloc, &history, 3)?.as_slice(), [2, 5].as_slice());
     history.remove(2);
     assert_eq!(rt; history.len(), 5);
     Ok(())
@@ -131,14 +119,8 @@ fn a_history_goes_on_after_most_was_deleted(rt: HostRuntime) -> Result<(), Fail>
     history.remove(3);
     history.push(10, &Transaction::Suspend(1))?;
     assert_eq!(rt; history.len(), 4);
-    assert_eq!(rt;
-        numbers(alloc, &history.about(1)?)?.as_slice(),
-        [10].as_slice()
-    );
-    assert_eq!(rt;
-        numbers(alloc, &history.about(2)?)?.as_slice(),
-        [1, 4, 7].as_slice()
-    );
+    assert_eq!(rt; about(alloc, &history, 1)?.as_slice(), [10].as_slice());
+    assert_eq!(rt; about(alloc, &history, 2)?.as_slice(), [1, 4, 7].as_slice());
     Ok(())
 }
 

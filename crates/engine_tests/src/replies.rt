@@ -56,15 +56,18 @@ fn writes_a_row(rt: HostRuntime) -> Result<(), Fail> {
     Ok(())
 }
 
-#[test]
-fn writes_a_container(rt: HostRuntime) -> Result<(), Fail> {
-    let alloc = rt.alloc();
-    let leaves = leaves(alloc)?;
+fn container(alloc: Global) -> Result<Container, Fail> {
     let mut values = List::new(alloc);
     values.push(Value::Whole(-5))?;
     values.push(Value::Text(Txt::new(alloc, b"a \"b\"".as_slice())?))?;
+    Ok(Container { values })
+}
+
+#[test]
+fn writes_a_container(rt: HostRuntime) -> Result<(), Fail> {
+    let alloc = rt.alloc();
     let mut out = Vec::new(alloc);
-    write_container(&mut out, &leaves, &Container { values })?;
+    write_container(&mut out, &leaves(alloc)?, &container(alloc)?)?;
     assert!(rt; out.as_slice() == b"'_RC' = -5\n'A'[2].'B' = \"a \"\"b\"\"\"\n".as_slice());
     Ok(())
 }

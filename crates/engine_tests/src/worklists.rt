@@ -37,30 +37,46 @@ fn clerk(alloc: Global) -> Result<PersonDef, Fail> {
     })
 }
 
-#[test]
-fn lists_what_a_person_sees(rt: HostRuntime) -> Result<(), Fail> {
-    let alloc = rt.alloc();
+/// Lists the item of a root as its line asks.
+fn list(lists: &mut Worklists, alloc: Global, number: u64, line: &ItemLine) -> Result<(), Fail> {
+    let rank = vec![in alloc; number]?;
+    lists.set(&root(alloc, number), &rank, line)?;
+    Ok(())
+}
+
+/// An item of root 3 for clerks, one of root 2 for bosses, and one of root 1 that the clerk holds.
+fn three(alloc: Global) -> Result<Worklists, Fail> {
     let mut lists = Worklists::new(alloc);
-    let third = vec![in alloc; 3]?;
-    let second = vec![in alloc; 2]?;
-    let first = vec![in alloc; 1]?;
     let free = line(alloc, b"Clerk".as_slice(), Hold::Nobody)?;
-    lists.set(&root(alloc, 3), &third, &free)?;
+    list(&mut lists, alloc, 3, &free)?;
     let other = line(alloc, b"Boss".as_slice(), Hold::Nobody)?;
-    lists.set(&root(alloc, 2), &second, &other)?;
-    let held = line(
-        alloc,
-        b"Boss".as_slice(),
-        Hold::Person(name(alloc, b"Ann".as_slice())?),
-    )?;
-    lists.set(&root(alloc, 1), &first, &held)?;
-    let seen = lists.worklist(&clerk(alloc)?)?;
+    list(&mut lists, alloc, 2, &other)?;
+    let hold = Hold::Person(name(alloc, b"Ann".as_slice())?);
+    let held = line(alloc, b"Boss".as_slice(), hold)?;
+    list(&mut lists, alloc, 1, &held)?;
+    Ok(lists)
+}
+
+/// The roots of the items that the clerk sees, each with whether he holds it.
+fn seen(alloc: Global, lists: &Worklists) -> Result<Vec<(u64, bool)>, Fail> {
     let mut shown = Vec::new(alloc);
-    for line in seen.as_slice() {
+    for line in lists.worklist(&clerk(alloc)?)?.as_slice() {
         shown.push((line.item.root, line.held))?;
     }
-    assert!(rt; shown.as_slice() == [(1, true), (3, false)].as_slice());
+    Ok(shown)
+}
+
+#[test]
+fn lists_what_a_person_sees(rt: HostRuntime) -> Result<(), Fail> {
+    let lists = three(rt.alloc())?;
+    assert!(rt; seen(rt.alloc(), &lists)?.as_slice() == [(1, true), (3, false)].as_slice());
+    Ok(())
+}
+
+#[test]
+fn items_of_a_dropped_root_are_gone(rt: HostRuntime) -> Result<(), Fail> {
+    let mut lists = three(rt.alloc())?;
     lists.drop_root(3)?;
-    assert_eq!(rt; lists.worklist(&clerk(alloc)?)?.len(), 1);
+    assert!(rt; seen(rt.alloc(), &lists)?.as_slice() == [(1, true)].as_slice());
     Ok(())
 }

@@ -82,76 +82,122 @@ fn moves(rt: &HostRuntime, disk: &mut MemDisk, count: u8) -> Result<bool, Fail> 
     }
 }
 
+/// The slot that counts when a store is opened, and how many records it has.
+fn found(alloc: Global, disk: &mut MemDisk) -> Result<(Slot, usize), Fail> {
+    let opened = Log::reopen(alloc, disk)?;
+    Ok((opened.log.slot(), opened.records.len()))
+}
+
+/// A store with one record, moved once.
+fn moved(rt: &HostRuntime) -> Result<MemDisk, Fail> {
+    let mut disk = MemDisk::new(rt.alloc(), &[])?;
+    let mut log = Log::make(rt.alloc(), &mut disk, 1, 1_000_000)?;
+    log.append(&mut disk, &CLOCK)?;
+    compact(&mut log, &mut disk, &header(2), &mut clocks(rt, 1))?;
+    Ok(disk)
+}
+
 #[test]
-fn a_store_is_moved(rt: HostRuntime) -> Result<(), Fail> {
-    let alloc = rt.alloc();
-    let mut disk = MemDisk::new(alloc, &[])?;
-    let mut log = Log::make(alloc, &mut disk, 1, 1_000_000)?;
+fn a_move_byte_by_byte(rt: HostRuntime) -> Result<(), Fail> {
+    let mut disk = moved(&rt)?;
+    assert_eq!(rt; disk.bytes(Slot::B), SECOND.as_slice());
+    assert_eq!(rt; Log::reopen(rt.alloc(), &mut disk)?.header, header(2));
+    assert_eq!(rt; found(rt.alloc(), &mut disk)?, (Slot::B, 1));
+    Ok(())
+}
+
+#[test]
+fn a_log_goes_on_after_a_move(rt: HostRuntime) -> Result<(), Fail> {
+    let mut disk = MemDisk::new(rt.alloc(), &[])?;
+    let mut log = Log::make(rt.alloc(), &mut disk, 1, 1_000_000)?;
     log.append(&mut disk, &CLOCK)?;
     compact(&mut log, &mut disk, &header(2), &mut clocks(&rt, 1))?;
-    assert_eq!(rt; disk.bytes(Slot::B), SECOND.as_slice());
     assert_eq!(rt; log.slot(), Slot::B);
     log.append(&mut disk, &CLOCK)?;
-    let opened = Log::reopen(alloc, &mut disk)?;
-    assert_eq!(rt; opened.log.slot(), Slot::B);
-    assert_eq!(rt; opened.header, header(2));
-    assert_eq!(rt; opened.records.len(), 2);
-    assert_eq!(rt; moves(&rt, &mut disk, 2)?, true);
-    assert_eq!(rt; Log::reopen(alloc, &mut disk)?.log.slot(), Slot::A);
-    assert_eq!(rt; Log::reopen(alloc, &mut disk)?.records.len(), 2);
+    assert_eq!(rt; found(rt.alloc(), &mut disk)?, (Slot::B, 2));
     Ok(())
 }
 
-// Where there is no memory for the second of three records, the store stands where it stood, and goes on.
 #[test]
-fn no_memory_for_a_record(rt: HostRuntime) -> Result<(), Fail> {
-    let alloc = rt.alloc();
-    let mut disk = MemDisk::new(alloc, &[])?;
-    let mut log = Log::make(alloc, &mut disk, 1, 1_000_000)?;
+fn a_store_is_moved_back(rt: HostRuntime) -> Result<(), Fail> {
+    let mut disk = moved(&rt)?;
+    assert_eq!(rt; moves(&rt, &mut disk, 2)?, true);
+    assert_eq!(rt; found(rt.alloc(), &mut disk)?, (Slot::A, 2));
+    Ok(())
+}
+
+/// A store with one record after a move for which there is no memory at the second of three records.
+fn starved(rt: &HostRuntime) -> Result<MemDisk, Fail> {
+    let mut disk = MemDisk::new(rt.alloc(), &[])?;
+    let mut log = Log::make(rt.alloc(), &mut disk, 1, 1_000_000)?;
     log.append(&mut disk, &CLOCK)?;
-    let mut kept = clocks(&rt, 3);
+    let mut kept = clocks(rt, 3);
     kept.starved = 2;
     let moved = compact(&mut log, &mut disk, &header(2), &mut kept);
-    assert_eq!(rt; moved, Err(MoveStop::NoMemory));
-    assert_eq!(rt; log.slot(), Slot::A);
-    for choice in [0, 1, 215, 221] {
-        let mut left = disk.crash(choice)?;
-        let opened = Log::reopen(alloc, &mut left)?;
-        assert_eq!(rt; opened.log.slot(), Slot::A);
-        assert_eq!(rt; opened.records.len(), 1);
+    if moved != Err(MoveStop::NoMemory) || log.slot() != Slot::A {
+        return Err(Fail::new("the move did not stop for want of memory"));
     }
-    let mut opened = Log::reopen(alloc, &mut disk)?;
-    opened.log.append(&mut disk, &CLOCK)?;
-    assert_eq!(rt; moves(&rt, &mut disk, 2)?, true);
-    let opened = Log::reopen(alloc, &mut disk)?;
-    assert_eq!(rt; opened.log.slot(), Slot::B);
-    assert_eq!(rt; opened.records.len(), 2);
+    Ok(disk)
+}
+
+#[test]
+fn a_starved_move_leaves_the_store_where_it_stood(rt: HostRuntime) -> Result<(), Fail> {
+    let disk = starved(&rt)?;
+    for choice in [0, 1, 215, 221] {
+        assert_eq!(rt; found(rt.alloc(), &mut disk.crash(choice)?)?, (Slot::A, 1));
+    }
     Ok(())
 }
 
-// The other slot is empty, or holds an older generation, or one of the older format behind a gate
-// that is neither 0 nor 1.
+#[test]
+fn a_store_goes_on_after_a_starved_move(rt: HostRuntime) -> Result<(), Fail> {
+    let mut disk = starved(&rt)?;
+    let mut opened = Log::reopen(rt.alloc(), &mut disk)?;
+    opened.log.append(&mut disk, &CLOCK)?;
+    assert_eq!(rt; moves(&rt, &mut disk, 2)?, true);
+    assert_eq!(rt; found(rt.alloc(), &mut disk)?, (Slot::B, 2));
+    Ok(())
+}
+
+/// A slot of an older generation.
+fn older(alloc: Global) -> Result<Vec<u8>, Fail> {
+    let mut older = SECOND.to_vec(alloc)?;
+    if let Some(generation) = older.get_mut(16) {
+        *generation = 1;
+    }
+    Ok(older)
+}
+
+/// A slot of the older format behind a gate that is neither 0 nor 1.
+fn strange(alloc: Global) -> Result<Vec<u8>, Fail> {
+    let mut strange = SECOND.to_vec(alloc)?;
+    if let [gate, _, _, _, _, _, _, _, last, ..] = strange.as_mut_slice() {
+        *gate = 7;
+        *last = 0x31;
+    }
+    Ok(strange)
+}
+
+/// Whether a stop at a call of a move over a slot leaves the one record, and the moved store where the move was done.
+fn is_left_whole(rt: &HostRuntime, before: &[u8], stop: u64, choice: u64) -> Result<bool, Fail> {
+    let mut disk = MemDisk::stopping(rt.alloc(), before, &SECOND, stop)?;
+    let is_done = moves(rt, &mut disk, 1)?;
+    if is_done != (stop > disk.calls()) {
+        return Ok(false);
+    }
+    let mut left = disk.crash(choice)?;
+    let opened = Log::reopen(rt.alloc(), &mut left)?;
+    Ok(opened.records.len() == 1 && (!is_done || opened.header == header(3)))
+}
+
 #[test]
 fn a_stop_at_each_call(rt: HostRuntime) -> Result<(), Fail> {
-    let alloc = rt.alloc();
-    let mut older = SECOND.to_vec(alloc)?;
-    assert_eq!(rt; older.len(), 65);
-    older[16] = 1;
-    let mut strange = SECOND.to_vec(alloc)?;
-    assert_eq!(rt; strange.len(), 65);
-    strange[0] = 7;
-    strange[8] = 0x31;
-    let empty = Vec::new(alloc);
+    let empty = Vec::new(rt.alloc());
+    let (older, strange) = (older(rt.alloc())?, strange(rt.alloc())?);
     for before in [&empty, &older, &strange] {
         for stop in 1..30 {
             for choice in [0, 1, 215, 221] {
-                let mut disk = MemDisk::stopping(alloc, before, &SECOND, stop)?;
-                let is_done = moves(&rt, &mut disk, 1)?;
-                assert_eq!(rt; is_done, stop > disk.calls());
-                let mut left = disk.crash(choice)?;
-                let opened = Log::reopen(alloc, &mut left)?;
-                assert_eq!(rt; opened.records.len(), 1);
-                assert!(rt; !is_done || opened.header == header(3));
+                assert!(rt; is_left_whole(&rt, before, stop, choice)?);
             }
         }
     }

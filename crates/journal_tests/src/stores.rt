@@ -34,51 +34,82 @@ fn clocked(rt: &HostRuntime) -> Result<MemDisk, Fail> {
 }
 
 #[test]
-fn a_store_byte_by_byte(rt: HostRuntime) -> Result<(), Fail> {
-    let alloc = rt.alloc();
-    let mut disk = MemDisk::new(alloc, &[])?;
-    let mut log = Log::make(alloc, &mut disk, 1, 1_000_000)?;
+fn a_new_store_byte_by_byte(rt: HostRuntime) -> Result<(), Fail> {
+    let mut disk = MemDisk::new(rt.alloc(), &[])?;
+    let _log = Log::make(rt.alloc(), &mut disk, 1, 1_000_000)?;
     assert_eq!(rt; disk.bytes(Slot::A), MADE.as_slice());
     assert_eq!(rt; disk.bytes(Slot::B).len(), 0);
-    let before = disk.calls();
-    log.append(&mut disk, &CLOCK)?;
-    assert_eq!(rt; disk.calls().checked_sub(before), Some(6));
+    Ok(())
+}
+
+#[test]
+fn a_record_byte_by_byte(rt: HostRuntime) -> Result<(), Fail> {
+    let disk = clocked(&rt)?;
     let bytes = disk.bytes(Slot::A);
     assert_eq!(rt; bytes.len(), 65);
     assert_eq!(rt; &bytes[42..47], [1, 0, 0, 0, 0x11].as_slice());
     assert_eq!(rt; &bytes[47..64], CLOCK.as_slice());
     assert_eq!(rt; bytes[64], 0);
+    Ok(())
+}
+
+#[test]
+fn an_append_takes_six_calls(rt: HostRuntime) -> Result<(), Fail> {
+    let mut disk = MemDisk::new(rt.alloc(), &[])?;
+    let mut log = Log::make(rt.alloc(), &mut disk, 1, 1_000_000)?;
+    let before = disk.calls();
+    log.append(&mut disk, &CLOCK)?;
+    assert_eq!(rt; disk.calls().checked_sub(before), Some(6));
     assert_eq!(rt; disk.starved(), 0);
-    let opened = Log::reopen(alloc, &mut disk)?;
+    Ok(())
+}
+
+#[test]
+fn a_store_is_opened_again(rt: HostRuntime) -> Result<(), Fail> {
+    let opened = Log::reopen(rt.alloc(), &mut clocked(&rt)?)?;
+    assert_eq!(rt; opened.header.limit, 1_000_000);
     assert_eq!(rt; opened.records.len(), 1);
     let Some(record) = opened.records.walk().next() else {
         return Err(Fail::new("no record"));
     };
     assert_eq!(rt; record.place, 42);
     assert_eq!(rt; record.payload, CLOCK.as_slice());
-    assert_eq!(rt; opened.header.limit, 1_000_000);
     Ok(())
+}
+
+/// How many calls it takes to reopen a store without records.
+fn reopening(rt: &HostRuntime) -> Result<u64, Fail> {
+    let mut made = with_a(rt, &MADE)?;
+    let opened = Log::reopen(rt.alloc(), &mut made)?;
+    if opened.records.len() > 0 {
+        return Err(Fail::new("a store without records has one"));
+    }
+    Ok(made.calls())
+}
+
+/// How many records a stop at a call of an append leaves, and whether the append was done.
+fn left_of_one(rt: &HostRuntime, stop: u64, choice: u64) -> Result<(usize, bool), Fail> {
+    let mut disk = MemDisk::stopping(rt.alloc(), &MADE, &[], stop)?;
+    let opened = Log::reopen(rt.alloc(), &mut disk)?;
+    if opened.records.len() > 0 {
+        return Err(Fail::new("a store without records has one"));
+    }
+    let mut log = opened.log;
+    let is_done = log.append(&mut disk, &CLOCK).is_ok();
+    let mut left = disk.crash(choice)?;
+    Ok((records_of(rt, &mut left)?, is_done))
 }
 
 #[test]
 fn a_stop_at_each_call_of_an_append(rt: HostRuntime) -> Result<(), Fail> {
-    let alloc = rt.alloc();
-    let mut made = with_a(&rt, &MADE)?;
-    let opened = Log::reopen(alloc, &mut made)?;
-    assert_eq!(rt; opened.records.len(), 0);
-    let reopening = made.calls();
+    let reopening = reopening(&rt)?;
     for stop in 1..8_u64 {
         for choice in [0, 1, 215, 221] {
             let from = reopening.saturating_add(stop);
-            let mut disk = MemDisk::stopping(alloc, &MADE, &[], from)?;
-            let opened = Log::reopen(alloc, &mut disk)?;
-            assert_eq!(rt; opened.records.len(), 0);
-            let mut log = opened.log;
-            assert_eq!(rt; log.append(&mut disk, &CLOCK).is_ok(), stop > 6);
-            let mut left = disk.crash(choice)?;
-            let records = records_of(&rt, &mut left)?;
-            let wanted = stop > 6 || stop == 6 && (choice == 1 || choice == 215);
-            assert_eq!(rt; records == 1, wanted);
+            let (records, is_done) = left_of_one(&rt, from, choice)?;
+            assert_eq!(rt; is_done, stop > 6);
+            let has_one = stop > 6 || stop == 6 && (choice == 1 || choice == 215);
+            assert_eq!(rt; records == 1, has_one);
         }
     }
     Ok(())
@@ -147,10 +178,7 @@ fn left_of_two(rt: &HostRuntime, stop: u64, choice: u64) -> Result<(usize, bool)
 // Of two records that are added together a crash leaves both or none: both where the gate was written.
 #[test]
 fn a_stop_at_each_call_of_a_batch(rt: HostRuntime) -> Result<(), Fail> {
-    let mut made = with_a(&rt, &MADE)?;
-    let opened = Log::reopen(rt.alloc(), &mut made)?;
-    assert_eq!(rt; opened.records.len(), 0);
-    let reopening = made.calls();
+    let reopening = reopening(&rt)?;
     for stop in 1..7_u64 {
         for choice in [0, 1, 215, 221] {
             let from = reopening.saturating_add(stop);
@@ -164,18 +192,28 @@ fn a_stop_at_each_call_of_a_batch(rt: HostRuntime) -> Result<(), Fail> {
 }
 
 #[test]
-fn stores_that_are_refused(rt: HostRuntime) -> Result<(), Fail> {
-    let alloc = rt.alloc();
+fn unmade_and_foreign_files_are_refused(rt: HostRuntime) -> Result<(), Fail> {
     assert_eq!(rt; stop_of(&rt, &[])?, Some(LogStop::Unmade));
     assert_eq!(rt;
         stop_of(&rt, b"hello".as_slice())?,
         Some(LogStop::Foreign(Slot::A))
     );
+    Ok(())
+}
+
+#[test]
+fn no_store_is_made_twice(rt: HostRuntime) -> Result<(), Fail> {
     let mut again = clocked(&rt)?;
     assert_eq!(rt;
-        Log::make(alloc, &mut again, 1, 1_000_000).err(),
+        Log::make(rt.alloc(), &mut again, 1, 1_000_000).err(),
         Some(LogStop::Made)
     );
+    Ok(())
+}
+
+#[test]
+fn two_slots_of_one_generation_are_refused(rt: HostRuntime) -> Result<(), Fail> {
+    let alloc = rt.alloc();
     let mut equal = MemDisk::with(alloc, &MADE, &MADE, &[])?;
     let both = Some(LogStop::Damaged(Slot::B, 9));
     assert_eq!(rt; Log::reopen(alloc, &mut equal).err(), both);
@@ -220,24 +258,45 @@ fn two_slots(rt: HostRuntime) -> Result<(), Fail> {
     Ok(())
 }
 
+/// Why a store is refused of which this many bytes are left.
+fn stop_of_cut(left: usize) -> LogStop {
+    match left {
+        0..=1 => LogStop::Unmade,
+        2..=8 => LogStop::Foreign(Slot::A),
+        9..=16 => LogStop::Damaged(Slot::A, 9),
+        17 => LogStop::Damaged(Slot::A, 17),
+        18..=25 => LogStop::Damaged(Slot::A, 18),
+        26..=33 => LogStop::Damaged(Slot::A, 26),
+        34..=41 => LogStop::Damaged(Slot::A, 34),
+        _ => LogStop::Damaged(Slot::A, 42),
+    }
+}
+
 #[test]
-fn cut_and_altered(rt: HostRuntime) -> Result<(), Fail> {
-    let alloc = rt.alloc();
+fn cut_stores_are_refused(rt: HostRuntime) -> Result<(), Fail> {
     let made = clocked(&rt)?;
     assert_eq!(rt; made.bytes(Slot::A).len(), 65);
-    for n in 0..65_usize {
-        let wanted = match n {
-            0..=1 => LogStop::Unmade,
-            2..=8 => LogStop::Foreign(Slot::A),
-            9..=16 => LogStop::Damaged(Slot::A, 9),
-            17 => LogStop::Damaged(Slot::A, 17),
-            18..=25 => LogStop::Damaged(Slot::A, 18),
-            26..=33 => LogStop::Damaged(Slot::A, 26),
-            34..=41 => LogStop::Damaged(Slot::A, 34),
-            _ => LogStop::Damaged(Slot::A, 42),
-        };
-        assert_eq!(rt; stop_of(&rt, &made.bytes(Slot::A)[..n])?, Some(wanted));
+    for left in 0..65_usize {
+        assert_eq!(rt;
+            stop_of(&rt, &made.bytes(Slot::A)[..left])?,
+            Some(stop_of_cut(left))
+        );
     }
+    Ok(())
+}
+
+/// A store with one record in which the byte at a place is another.
+fn altered(rt: &HostRuntime, at: usize, byte: u8) -> Result<Vec<u8>, Fail> {
+    let mut bytes = clocked(rt)?.bytes(Slot::A).to_vec(rt.alloc())?;
+    match bytes.get_mut(at) {
+        Some(place) => *place = byte,
+        None => return Err(Fail::new("no byte is there")),
+    }
+    Ok(bytes)
+}
+
+#[test]
+fn altered_stores_are_refused(rt: HostRuntime) -> Result<(), Fail> {
     for (at, byte, place) in [
         (9, 128, 9),
         (17, 0, 17),
@@ -245,44 +304,59 @@ fn cut_and_altered(rt: HostRuntime) -> Result<(), Fail> {
         (41, 1, 34),
         (46, 0, 42),
     ] {
-        let mut bytes = made.bytes(Slot::A).to_vec(alloc)?;
-        assert_eq!(rt; bytes.len(), 65);
-        bytes[at] = byte;
+        let bytes = altered(&rt, at, byte)?;
         assert_eq!(rt;
             stop_of(&rt, &bytes)?,
             Some(LogStop::Damaged(Slot::A, place))
         );
     }
+    Ok(())
+}
+
+#[test]
+fn a_gate_that_is_not_open_ends_the_records(rt: HostRuntime) -> Result<(), Fail> {
     for (at, byte, wanted) in [(42, 7, 0), (46, 16, 1)] {
-        let mut bytes = made.bytes(Slot::A).to_vec(alloc)?;
-        assert_eq!(rt; bytes.len(), 65);
-        bytes[at] = byte;
-        let mut altered = with_a(&rt, &bytes)?;
-        assert_eq!(rt; records_of(&rt, &mut altered)?, wanted);
+        let bytes = altered(&rt, at, byte)?;
+        assert_eq!(rt; records_of(&rt, &mut with_a(&rt, &bytes)?)?, wanted);
     }
     Ok(())
 }
 
-// A gate that is neither 0 nor 1 over the magic of the older format: the slot is written from byte 8
-// on, and a stop at any call leaves it unmade or made.
+/// A slot whose gate is neither 0 nor 1, over the magic of the older format.
+fn older(rt: &HostRuntime) -> Result<Vec<u8>, Fail> {
+    let mut old = MADE.to_vec(rt.alloc())?;
+    if let [gate, _, _, _, _, _, _, _, last, ..] = old.as_mut_slice() {
+        *gate = 7;
+        *last = 0x31;
+    }
+    Ok(old)
+}
+
+/// Whether a stop at a call of making a store over an older slot leaves it made, or unmade where it wasn't done.
+fn is_left_whole(rt: &HostRuntime, old: &[u8], stop: u64, choice: u64) -> Result<bool, Fail> {
+    let mut stopped = MemDisk::stopping(rt.alloc(), old, &[], stop)?;
+    let is_made = Log::make(rt.alloc(), &mut stopped, 1, 1_000_000).is_ok();
+    let mut left = stopped.crash(choice)?;
+    let found = Log::reopen(rt.alloc(), &mut left);
+    Ok(found.is_ok() || !is_made && found.err() == Some(LogStop::Unmade))
+}
+
+// The slot is written from byte 8 on.
 #[test]
 fn an_older_slot_is_made(rt: HostRuntime) -> Result<(), Fail> {
-    let alloc = rt.alloc();
-    let mut old = MADE.to_vec(alloc)?;
-    assert_eq!(rt; old.len(), 43);
-    old[0] = 7;
-    old[8] = 0x31;
-    let mut disk = with_a(&rt, &old)?;
-    let _log = Log::make(alloc, &mut disk, 1, 1_000_000)?;
+    let mut disk = with_a(&rt, &older(&rt)?)?;
+    let _log = Log::make(rt.alloc(), &mut disk, 1, 1_000_000)?;
+    assert_eq!(rt; disk.bytes(Slot::A), MADE.as_slice());
+    Ok(())
+}
+
+#[test]
+fn a_stop_at_each_call_of_making_over_an_older_slot(rt: HostRuntime) -> Result<(), Fail> {
+    let old = older(&rt)?;
     for stop in 1..20 {
         for choice in [0, 1, 215, 221] {
-            let mut stopped = MemDisk::stopping(alloc, &old, &[], stop)?;
-            let is_made = Log::make(alloc, &mut stopped, 1, 1_000_000).is_ok();
-            let mut left = stopped.crash(choice)?;
-            let found = Log::reopen(alloc, &mut left);
-            assert!(rt; found.is_ok() || !is_made && found.err() == Some(LogStop::Unmade));
+            assert!(rt; is_left_whole(&rt, &old, stop, choice)?);
         }
     }
-    assert_eq!(rt; disk.bytes(Slot::A), MADE.as_slice());
     Ok(())
 }

@@ -22,11 +22,25 @@ fn versions(alloc: Global, store: &TemplateStore) -> Result<Vec<u32>, Fail> {
     Ok(versions)
 }
 
+/// An empty library that has checked the first text.
+fn checked(alloc: Global) -> Result<TemplateStore, Fail> {
+    let mut store = TemplateStore::new(alloc);
+    match store.check(alloc, FIRST) {
+        Ok(()) => Ok(store),
+        Err(_) => Err(Fail::new("the first text is refused")),
+    }
+}
+
+#[test]
+fn a_check_imports_nothing(rt: HostRuntime) -> Result<(), Fail> {
+    let store = checked(rt.alloc())?;
+    assert_eq!(rt; store.library().templates.len(), 0);
+    Ok(())
+}
+
 #[test]
 fn an_import_of_the_checked_text(rt: HostRuntime) -> Result<(), Fail> {
-    let mut store = TemplateStore::new(rt.alloc());
-    assert_eq!(rt; store.check(rt.alloc(), FIRST), Ok(()));
-    assert_eq!(rt; store.library().templates.len(), 0);
+    let mut store = checked(rt.alloc())?;
     assert_eq!(rt; store.import(rt.alloc(), FIRST), Ok(1));
     assert_eq!(rt; store.import(rt.alloc(), FIRST), Ok(1));
     assert_eq!(rt;
@@ -38,8 +52,7 @@ fn an_import_of_the_checked_text(rt: HostRuntime) -> Result<(), Fail> {
 
 #[test]
 fn an_import_of_another_text_than_the_checked_one(rt: HostRuntime) -> Result<(), Fail> {
-    let mut store = TemplateStore::new(rt.alloc());
-    assert_eq!(rt; store.check(rt.alloc(), FIRST), Ok(()));
+    let mut store = checked(rt.alloc())?;
     assert_eq!(rt; store.import(rt.alloc(), SECOND), Ok(2));
     // What was checked first was meant for an empty library: it would be version 1 again.
     assert_eq!(rt; store.import(rt.alloc(), FIRST), Ok(1));
@@ -52,8 +65,7 @@ fn an_import_of_another_text_than_the_checked_one(rt: HostRuntime) -> Result<(),
 
 #[test]
 fn a_refused_text_after_an_accepted_one(rt: HostRuntime) -> Result<(), Fail> {
-    let mut store = TemplateStore::new(rt.alloc());
-    assert_eq!(rt; store.check(rt.alloc(), FIRST), Ok(()));
+    let mut store = checked(rt.alloc())?;
     assert_eq!(rt; store.check(rt.alloc(), b"PROCESS").is_err(), true);
     assert_eq!(rt; store.import(rt.alloc(), b"PROCESS").is_err(), true);
     assert_eq!(rt; store.library().templates.len(), 0);

@@ -23,21 +23,33 @@ fn a_line_of_each_kind(rt: HostRuntime) -> Result<(), Fail> {
         assert_eq!(rt; token.from, *from);
         assert_eq!(rt; token.to, *to);
     }
-    let value = text_value(rt.alloc(), &line[55..67])?;
+    Ok(())
+}
+
+#[test]
+fn a_doubled_quote_is_read_as_one(rt: HostRuntime) -> Result<(), Fail> {
+    let value = text_value(rt.alloc(), b"\"say \"\"hi\"\"\"")?;
     assert_eq!(rt; value.as_slice(), b"say \"hi\"".as_slice());
     Ok(())
 }
 
 #[test]
 fn the_first_fault(rt: HostRuntime) -> Result<(), Fail> {
-    assert_eq!(rt; lex(rt.alloc(), b"or \x7f").err(), Some(LexFault::Byte(3)));
-    assert_eq!(rt; lex(rt.alloc(), b"OR or").err(), Some(LexFault::Token(3)));
-    assert_eq!(rt; lex(rt.alloc(), b" \"\"\"").err(), Some(LexFault::Token(1)));
-    assert_eq!(rt; lex(rt.alloc(), b"( /*/").err(), Some(LexFault::Token(2)));
-    assert_eq!(rt; lex(rt.alloc(), b"01").err(), Some(LexFault::Token(0)));
-    assert_eq!(rt;
-        lex(rt.alloc(), b" \n").map(|tokens| tokens.items.len()),
-        Ok(0)
-    );
+    for (text, fault) in [
+        ("or \x7f", LexFault::Byte(3)),
+        ("OR or", LexFault::Token(3)),
+        (" \"\"\"", LexFault::Token(1)),
+        ("( /*/", LexFault::Token(2)),
+        ("01", LexFault::Token(0)),
+    ] {
+        assert_eq!(rt; lex(rt.alloc(), text.as_bytes()).err(), Some(fault));
+    }
+    Ok(())
+}
+
+#[test]
+fn blanks_are_no_tokens(rt: HostRuntime) -> Result<(), Fail> {
+    let tokens = lex(rt.alloc(), b" \n")?;
+    assert_eq!(rt; tokens.items.len(), 0);
     Ok(())
 }

@@ -157,46 +157,65 @@ fn wiring(
     })
 }
 
-/// A program X whose number is the block's.
-fn block(alloc: Global) -> Result<Graph, Fail> {
-    let line = DataLine {
+/// The number of the only activity is the scope's.
+fn line(alloc: Global) -> Result<DataLine, AllocError> {
+    Ok(DataLine {
         from: MapEnd::Activity(0),
         to: MapEnd::Border,
         maps: one(alloc, LeafMap { from: 1, to: 0 })?,
-    };
+    })
+}
+
+/// A program X whose number is the block's.
+fn block(alloc: Global) -> Result<Graph, Fail> {
+    let program = activity(alloc, b"X".as_slice(), program(), None)?;
     Ok(Graph {
         input: leaves(alloc, 0)?,
         output: leaves(alloc, 1)?,
-        activities: one(alloc, activity(alloc, b"X".as_slice(), program(), None)?)?,
+        activities: one(alloc, program)?,
         controls: List::new(alloc),
-        lines: one(alloc, line)?,
+        lines: one(alloc, line(alloc)?)?,
         loops: List::new(alloc),
         wiring: wiring(alloc, 1, 1, 1, places(alloc, 1)?)?,
     })
 }
 
-/// A program A and a block L until their number is 1, and D where that of A is 2.
-fn activities(alloc: Global) -> Result<List<Activity>, Fail> {
+/// A program that is tried until its number is 1.
+fn tried(alloc: Global) -> Result<Activity, Fail> {
     let exit = Some(is_number(alloc, 1)?);
-    let mut activities = one(alloc, activity(alloc, b"A".as_slice(), program(), exit)?)?;
+    activity(alloc, b"A".as_slice(), program(), exit)
+}
+
+/// A block that is tried until its number is 1.
+fn tried_block(alloc: Global) -> Result<Activity, Fail> {
     let inside = Work::Block(block(alloc)?);
     let exit = Some(is_number(alloc, 1)?);
-    activities.push(activity(alloc, b"L".as_slice(), inside, exit)?)?;
+    activity(alloc, b"L".as_slice(), inside, exit)
+}
+
+/// A program A and a block L until their number is 1, and D.
+fn activities(alloc: Global) -> Result<List<Activity>, Fail> {
+    let mut activities = one(alloc, tried(alloc)?)?;
+    activities.push(tried_block(alloc)?)?;
     activities.push(activity(alloc, b"D".as_slice(), program(), None)?)?;
     Ok(activities)
 }
 
-fn graph(alloc: Global) -> Result<Graph, Fail> {
-    let control = Control {
+/// From A to D where the number of A is 2.
+fn control(alloc: Global) -> Result<Control, AllocError> {
+    Ok(Control {
         from: 0,
         to: 2,
         when: When::Cond(is_number(alloc, 2)?),
-    };
+    })
+}
+
+fn graph(alloc: Global) -> Result<Graph, Fail> {
     Ok(Graph {
         input: leaves(alloc, 0)?,
         output: leaves(alloc, 0)?,
         activities: activities(alloc)?,
-        controls: one(alloc, control)?,
+        controls: one(alloc, control(alloc)?)?,
         lines: List::new(alloc),
         loops: List::new(alloc),
         wiring: wiring(alloc, 3, 0, 2, List::new(alloc))?,
