@@ -10,7 +10,7 @@ use Rattle.flow_core.proofs.Putting.{put_length}
 use Rattle.flow_core.specs.Allowing.{IsAllowed, IsBlank}
 use Rattle.flow_core.specs.Allowing.{IsOpen as IsOpenItem}
 use Rattle.flow_core.specs.Answers.{instance_of}
-use Rattle.flow_core.specs.Driving.{templates, queue_now, taken_by, LibraryAfter, IfLive, BecomesCompleted, item_of, Drives}
+use Rattle.flow_core.specs.Driving.{templates, queue_now, taken_by, TemplatesAfter, IfLive, BecomesCompleted, item_of, Drives}
 use Rattle.flow_core.specs.Facts.{start_settings}
 use Rattle.flow_core.specs.Summaries.{live_after}
 use Rattle.flow_core.specs.Verdicts.{IsFront}
@@ -110,7 +110,7 @@ same_sound : (ts ts' : List Template) → ts' ≡ ts → AreSound ts → AreSoun
 same_sound ts ts' same sound = subst AreSound (sym same) sound
 
 -- a template stays at its place
-library_agrees : (t : Transaction) (ts ts' : List Template) → LibraryAfter t ts ts' → Agrees ts ts'
+library_agrees : (t : Transaction) (ts ts' : List Template) → TemplatesAfter t ts ts' → Agrees ts ts'
 library_agrees (Import text) ts ts' after = subst (λ us. Agrees ts us) (sym after.0.1) (longer_agrees ts after.0.0)
 library_agrees (Start root process version starter key settings) ts ts' after = same_agrees ts ts' after
 library_agrees (Turn number message) ts ts' after = same_agrees ts ts' after
@@ -128,7 +128,7 @@ library_agrees (Delete root) ts ts' after = same_agrees ts ts' after
 library_agrees (Clock minutes) ts ts' after = same_agrees ts ts' after
 
 -- and a sound library stays sound
-library_sound : (t : Transaction) (ts ts' : List Template) → LibraryAfter t ts ts' → AreSound ts → AreSound ts'
+library_sound : (t : Transaction) (ts ts' : List Template) → TemplatesAfter t ts ts' → AreSound ts → AreSound ts'
 library_sound (Import text) ts ts' after = after.1
 library_sound (Start root process version starter key settings) ts ts' after = same_sound ts ts' after
 library_sound (Turn number message) ts ts' after = same_sound ts ts' after

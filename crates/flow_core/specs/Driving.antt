@@ -254,15 +254,15 @@ taken_by t qs = qs
 -- ---- the library
 
 -- an import puts templates behind those that are there, and keeps the library sound; all other transactions leave it
-abbrev pub LibraryAfter : Transaction → List Template → List Template → Type 0
-LibraryAfter (Import text) ts ts' = ((more : List Template) × (ts' ≡ ts ++ more)) × (AreSound ts → AreSound ts')
-LibraryAfter t ts ts' = ts' ≡ ts
+abbrev pub TemplatesAfter : Transaction → List Template → List Template → Type 0
+TemplatesAfter (Import text) ts ts' = ((more : List Template) × (ts' ≡ ts ++ more)) × (AreSound ts → AreSound ts')
+TemplatesAfter t ts ts' = ts' ≡ ts
 
 -- the library after a transaction: an Import adds what its text compiles to; every other transaction leaves the
 -- templates and the people as they were
-abbrev pub StoreAfter : Transaction → Library → Library → Type 0
-StoreAfter (Import text) old new = AddsText text old new
-StoreAfter t old new = new ≡ old
+abbrev pub LibraryAfter : Transaction → Library → Library → Type 0
+LibraryAfter (Import text) old new = AddsText text old new
+LibraryAfter t old new = new ≡ old
 
 -- ---- the clock
 
@@ -292,7 +292,7 @@ pub record Drives (c : Core) (t : Transaction) (c' : Core) : Type 0 where
   pub given : List Message
   pub roots : ChangesRoots c t given (root_about t) c'
   pub queues : c'.queues ≡ put_in (queue_now c') given (taken_by t c.queues)
-  pub library : LibraryAfter t (templates c) (templates c')
+  pub library : TemplatesAfter t (templates c) (templates c')
 
 -- the message that a Turn takes, with its queue
 abbrev pub turn_of : Transaction → Option (ℕ × Message)

@@ -10,7 +10,7 @@ ghost use Rattle.flow_core.specs.Refusals.{person_test, who_test, IsRuleOf, Stop
 ghost use Rattle.flow_core.specs.declared.refusals.Refusal.{Refusal as RefusalOf};
 ghost use Rattle.flow_model.specs.declared.transactions.Transaction.TheVariants as made;
 ghost use Rattle.flow_model.specs.declared.instances.Path.{Path as PathOf};
-ghost use Rattle.flow_core.specs.Driving.{StoreAfter, clock_after, Drives};
+ghost use Rattle.flow_core.specs.Driving.{LibraryAfter, clock_after, Drives};
 ghost use Rattle.flow_core.specs.Shelving.{IsExact, Shelves};
 ghost use Rattle.flow_core.specs.Keys.{KeysAfter};
 ghost use Rattle.flow_core.specs.Summaries.{summary, taken_up, counted, last_kept, last_number, Follows, deleted};
@@ -408,7 +408,7 @@ impl Core {
         ensures refused { IfErr result (λ fault. fault ≡ NotAllowed → IsRefused self.old number t) }
         ensures unchanged { IfErr result (λ fault. fault ≡ NotAllowed → self.new ≡ self.old) }
         ensures clock { OnOk result (self.new.clock ≡ clock_after t self.old.clock) }
-        ensures store { OnOk result (StoreAfter t self.old.store self.new.store) }
+        ensures store { OnOk result (LibraryAfter t self.old.store self.new.store) }
         ensures keys { OnOk result (KeysAfter self.old t self.new) }
         ensures kept_number { OnOk result (self.new.kept_number
             ≡ last_number self.old.kept number self.old.kept_number) }

@@ -1,5 +1,5 @@
 //! The state after a transaction that is allowed.
-ghost use Rattle.std.specs.Prelude.{◌≡◌, ℕ, ◌<◌, ◌+◌, [], ◌∷◌, Some, None, option_copied, option_map, OnOk, IfOk};
+ghost use Rattle.std.specs.Prelude.{◌≡◌, ◌<◌, ◌+◌, [], ◌∷◌, Some, None, option_copied, option_map, OnOk, IfOk};
 ghost use Rattle.std.specs.Prelude.{IsTrue, if◌then◌else◌};
 ghost use Rattle.flow_model.specs.declared.instances.Message.{Message as MessageOf};
 ghost use Rattle.flow_model.specs.declared.instances.Mode.TheVariants as modes;
@@ -11,7 +11,7 @@ ghost use Rattle.flow_model.specs.Containers.{fresh as fresh_of};
 ghost use Rattle.flow_model.specs.declared.transactions.Transaction.TheVariants as made;
 ghost use Rattle.flow_core.specs.Allowing.{CountsRoot, IsAsked, IsFaultlessImport};
 ghost use Rattle.flow_core.specs.Driving.{templates, IsVersionAt, IfNewest, RunsAt, IsVersionPlace, IsMade};
-ghost use Rattle.flow_core.specs.Driving.{IsSuspended, IsTerminated, IfLive, ChangesRoot, LibraryAfter, StoreAfter};
+ghost use Rattle.flow_core.specs.Driving.{IsSuspended, IsTerminated, IfLive, ChangesRoot, TemplatesAfter, LibraryAfter};
 ghost use Rattle.flow_core.specs.Driving.{clock_after, Drives, IsFrontOf, HoldsItem, CompletesItem, item_of, put_in};
 ghost use Rattle.flow_core.specs.Driving.{queue_now};
 ghost use Rattle.navigator.specs.declared.instance.HoldChange.TheVariants as holds;
@@ -211,11 +211,11 @@ impl Core {
         requires { IsFaultless self.old.store text.now }
         ensures kept { noted self.new ≡ noted self.old }
         ensures rest { self.new ≡ record self.old { store = self.new.store } }
-        ensures library { OnOk result (LibraryAfter (made.Import text.now) (templates self.old) (templates self.new)) }
+        ensures library { OnOk result (TemplatesAfter (made.Import text.now) (templates self.old) (templates self.new)) }
         ensures shelves { SameStanding (stands self.new) (stands self.old) }
         ensures note { IfOk result (IsNoteOf self.old (made.Import text.now) self.new) }
         ensures clock { OnOk result (self.new.clock ≡ self.old.clock) }
-        ensures store { OnOk result (StoreAfter (made.Import text.now) self.old.store self.new.store) }
+        ensures store { OnOk result (LibraryAfter (made.Import text.now) self.old.store self.new.store) }
         ensures keys { KeepsKeys self.old self.new }
     {
         match self.store.import(self.alloc, text.as_slice()) {
@@ -696,7 +696,7 @@ impl Core {
         ensures drives { OnOk result (Drives self.old t.now self.new) }
         ensures shelves { OnOk result (Shelves self.old t.now self.new) }
         ensures clock { OnOk result (self.new.clock ≡ clock_after t.now self.old.clock) }
-        ensures store { OnOk result (StoreAfter t.now self.old.store self.new.store) }
+        ensures store { OnOk result (LibraryAfter t.now self.old.store self.new.store) }
         ensures keys { OnOk result (KeysAfter self.old t.now self.new) }
         ensures exact { OnOk result (IsExact self.old t.now self.new) }
     {
@@ -786,7 +786,7 @@ impl Core {
         ensures drives { OnOk result (Drives self.old t.now self.new) }
         ensures shelves { OnOk result (Shelves self.old t.now self.new) }
         ensures clock { OnOk result (self.new.clock ≡ clock_after t.now self.old.clock) }
-        ensures store { OnOk result (StoreAfter t.now self.old.store self.new.store) }
+        ensures store { OnOk result (LibraryAfter t.now self.old.store self.new.store) }
         ensures keys { OnOk result (KeysAfter self.old t.now self.new) }
         ensures exact { OnOk result (IsExact self.old t.now self.new) }
     {
@@ -808,7 +808,7 @@ impl Core {
         ensures shelves { OnOk result (Shelves self.old t self.new) }
         ensures counts { OnOk result (CountsRoot self.old t self.new) }
         ensures clock { OnOk result (self.new.clock ≡ clock_after t self.old.clock) }
-        ensures store { OnOk result (StoreAfter t self.old.store self.new.store) }
+        ensures store { OnOk result (LibraryAfter t self.old.store self.new.store) }
         ensures keys { OnOk result (KeysAfter self.old t self.new) }
         ensures exact { OnOk result (IsExact self.old t self.new) }
     {

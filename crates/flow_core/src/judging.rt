@@ -1,6 +1,6 @@
 //! Whether a command is allowed now: the first refusal in the order of its tests, or its transaction.
 ghost use Rattle.std.specs.Prelude.{◌≡◌, ◌≤◌, ◌<◌, [], ◌∷◌, None, Some, Ok, length, List as ListOf, option_copied};
-ghost use Rattle.std.specs.Prelude.{option_map, IfOk, IfErr, IfSome, OnOk};
+ghost use Rattle.std.specs.Prelude.{option_map, IfOk, IfErr, OnOk};
 ghost use Rattle.flow_model.specs.declared.commands.Command.TheVariants as asked;
 ghost use Rattle.flow_model.specs.declared.transactions.Setting.{Setting as SettingOf};
 ghost use Rattle.flow_model.specs.declared.transactions.Transaction.TheVariants as made;

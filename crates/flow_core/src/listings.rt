@@ -1,5 +1,5 @@
 //! Replies that list what is kept: a queue, a root's audited transactions, the templates, a worklist.
-ghost use Rattle.std.specs.Prelude.{◌≡◌, ◌≤◌, ◌++◌, length, map, OnOk};
+ghost use Rattle.std.specs.Prelude.{◌≡◌, ◌≤◌, ◌++◌, length, OnOk};
 ghost use Rattle.std.specs.List.{flat_map};
 ghost use Rattle.recover_queue.specs.Queues.{queue as messages_of};
 ghost use Rattle.flow_core.specs.Answers.{view_text, message_line, queue_text, template_line, templates_text};

@@ -3,7 +3,7 @@ use Rattle.std.specs.Prelude.{◌≡◌, ℕ, List}
 use Rattle.core_laws.specs.RightStates.{IsRightState}
 use Rattle.flow_core.specs.Admitting.{IsAdmitted, IsPlace}
 use Rattle.flow_core.specs.Allowing.{IsAllowed}
-use Rattle.flow_core.specs.Driving.{Drives, StoreAfter, clock_after, IsNewestVersion}
+use Rattle.flow_core.specs.Driving.{Drives, LibraryAfter, clock_after, IsNewestVersion}
 use Rattle.flow_core.specs.Judgements.{IsVerdict}
 use Rattle.flow_core.specs.Keys.{KeysAfter}
 use Rattle.flow_core.specs.Shelving.{IsExact}
@@ -25,7 +25,7 @@ pub record Applied (c : Core) (t : Transaction) (c' : Core) : Type 0 where
   pub drives : Drives c t c'
   pub came : summary c' ≡ next t (summary c)
   pub clock : c'.clock ≡ clock_after t c.clock
-  pub store : StoreAfter t c.store c'.store
+  pub store : LibraryAfter t c.store c'.store
   pub keys : KeysAfter c t c'
   pub exact : IsExact c t c'
 
@@ -36,7 +36,7 @@ pub record Adopted (c : Core) (number : ℕ) (t : Transaction) (c' : Core) : Typ
   pub kept_number : c'.kept_number ≡ last_number c.kept number c.kept_number
   pub kept_root : c'.kept_root ≡ last_kept c.kept (record { number = number; transaction = t }) c.kept_root
   pub clock : c'.clock ≡ clock_after t c.clock
-  pub store : StoreAfter t c.store c'.store
+  pub store : LibraryAfter t c.store c'.store
   pub keys : KeysAfter c t c'
   pub exact : IsExact c t c'
 
