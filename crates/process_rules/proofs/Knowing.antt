@@ -19,7 +19,6 @@ use Rattle.process_rules.specs.Calling.{before_this, text_or, place_among, place
 use Rattle.process_rules.specs.Imports.{last_place, latest_person}
 use Rattle.process_rules.specs.Knowing.{AreLast, IsKnowing, ArePeople, callee_named, place_named}
 use Rattle.process_rules.specs.declared.people.Callee.{Callee}
-use Rattle.process_rules.specs.declared.people.Callee.TheVariants as callee
 use Rattle.process_rules.specs.declared.people.Known.{Known}
 use Rattle.process_rules.proofs.Indexing.{last_pushed}
 use Rattle.text_graphs.proofs.Again.{known_next}

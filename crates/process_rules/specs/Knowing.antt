@@ -1,8 +1,8 @@
 -- What the names of processes stand for in a text: those that stand before in it, else the newest of the library.
 use Rattle.std.specs.Borrow.{Bor}
-use Rattle.std.specs.Prelude.{◌≡◌, ℕ, Option, List, bytes_eq, length, map, slice_get, vec_len}
+use Rattle.std.specs.Prelude.{◌≡◌, ℕ, Option, List, bytes_eq, length, map, vec_len}
 use Rattle.std.specs.List.{list_any}
-use Rattle.std.specs.Option.{option_map, option_and_then}
+use Rattle.std.specs.Option.{option_map}
 use Rattle.std.specs.HashMap as hash
 use Rattle.std.specs.HashMap.{HashMap}
 use Rattle.flow_model.specs.declared.graphs.Library.{Library}
@@ -11,7 +11,6 @@ use Rattle.flow_model.specs.declared.trees.ProcessTree.{ProcessTree}
 use Rattle.process_rules.specs.Calling.{before_this, text_or, stored_named, place_among}
 use Rattle.process_rules.specs.Imports.{last_place}
 use Rattle.process_rules.specs.declared.people.Callee.{Callee}
-use Rattle.process_rules.specs.declared.people.Callee.TheVariants as callee
 use Rattle.process_rules.specs.declared.people.Known.{Known}
 
 -- names lead to the last process of each

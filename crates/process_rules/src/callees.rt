@@ -68,7 +68,8 @@ fn unknown_in_graphs<'a>(known: &Known<'a>, scopes: &[Scope<'a>]) -> Option<u32>
 
 /// Rule 17: a PROCESS_ACTIVITY names a process that isn't there yet.
 ///
-/// `known` says it of what the names lead to in `known`, whatever list that was made of.
+/// The clause `known` holds of the names as `Known` resolves them, whatever processes it was made of; `named` holds
+/// where those are the processes of the text.
 pub fn unknown_processes<'a>(known: &Known<'a>, scopes: &[Scope<'a>]) -> Option<u32>
     ensures known { IsLeastOf (AnyAt (λ s. NamesNone (callee_meant known.now) (graph_at s)) scopes.now) result }
     ensures named { (processes : List ProcessTree) → IsKnowing known.now processes

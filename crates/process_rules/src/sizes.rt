@@ -1,5 +1,5 @@
 //! Rules 21 and 22: how deep the processes of a text nest, and how large they are with all that they run.
-ghost use Rattle.std.specs.Prelude.{◌≡◌, ◌<◌, ◌+◌, ◌-◌, ◌^◌, ℕ, List, Some, min, max, map, IfOk};
+ghost use Rattle.std.specs.Prelude.{◌≡◌, ◌<◌, ◌+◌, ◌-◌, ◌^◌, List, Some, min, max, map, IfOk};
 ghost use Rattle.flow_model.specs.declared.trees.ProcessTree.{ProcessTree};
 ghost use Rattle.process_rules.specs.Calling.{callee_meant};
 ghost use Rattle.process_rules.specs.Knowing.{IsKnowing};
