@@ -1,5 +1,5 @@
 //! The lines of a certificate, and how they are written.
-ghost use Rattle.std.specs.Prelude.{◌≡◌, ◌∷◌, [], ◌++◌, OnOk, IfOk};
+ghost use Rattle.std.specs.Prelude.{◌≡◌, ◌++◌, OnOk, IfOk};
 ghost use Rattle.certificates.specs.Told.{line_scope};
 ghost use Rattle.certificates.specs.Lines.{line_text, scope_in_quotes, activity_in_quotes};
 

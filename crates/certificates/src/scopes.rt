@@ -9,7 +9,7 @@ ghost use Rattle.flow_model.specs.declared.graphs.Graph.{out-Graph};
 ghost use Rattle.flow_model.specs.declared.instances.Path.{Path as PathOf};
 ghost use Rattle.flow_model.specs.Fates.{is_settled as is_settled_end};
 ghost use Rattle.flow_model.specs.Scopes.{is_fed as is_fed_by, is_ready_source};
-ghost use Rattle.certificates.specs.Told.{Opened, opened, beginning, changed, with_end, with_output, join_in};
+ghost use Rattle.certificates.specs.Told.{opened, beginning, changed, with_end, with_output, join_in};
 ghost use Rattle.certificates.specs.Told.{first_input as first_input_of, scope_gives, is_known as is_known_so};
 ghost use Rattle.certificates.specs.Told.{is_active as is_active_in};
 ghost use Rattle.certificates.specs.Kept.{opened_of, placed_of, told_by};

@@ -6,7 +6,6 @@ ghost use Rattle.txn_log.specs.Records.{IsPayload, reach};
 ghost use Rattle.txn_log.specs.Standing.{IsAt, StandsOn};
 ghost use Rattle.txn_log.specs.Steps.{IsOurs, Stands};
 ghost use Rattle.txn_log.specs.Stored.{Good, InRange, Unmade, slot_state};
-ghost use Rattle.txn_log.specs.Stores.{store_of};
 ghost use Rattle.checkpoint.specs.Compacting.{IsCompacted, MayBeCompacted, StaysPut, Turns};
 ghost use Rattle.checkpoint.specs.Stops.{IfNoMemory, IsMoveCause};
 ghost use Rattle.checkpoint.specs.Writing.{IsWritten};

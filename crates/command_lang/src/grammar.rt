@@ -1,5 +1,5 @@
 //! The grammar of commands over the tokens of a line.
-ghost use Rattle.std.specs.Prelude.{◌≡◌, ◌<◌, ℕ, true, [], length, IfOk, IfErr, IfSome, Some};
+ghost use Rattle.std.specs.Prelude.{◌≡◌, ◌<◌, true, [], length, IfOk, IfErr, IfSome, Some};
 ghost use Rattle.fdl_parser.specs.Faults.{Names};
 ghost use Rattle.fdl_parser.specs.Stops.{Reads, Anything, AtEnd, IsTaken, Stops};
 ghost use Rattle.fdl_parser.specs.Tokens.{StaysWithin, first_kind};

@@ -10,7 +10,6 @@ use Rattle.flow_disk.specs.declared.disk.Slot.TheVariants.{A}
 use Rattle.flow_model.specs.declared.commands.Command.{Command}
 use Rattle.flow_model.specs.declared.commands.Command.TheVariants as asked
 use Rattle.flow_model.specs.declared.transactions.Numbered.{Numbered}
-use Rattle.flow_model.specs.declared.transactions.Transaction.{Transaction}
 use Rattle.flow_model.specs.declared.transactions.Transaction.TheVariants as made
 use Rattle.flow_session.specs.Fitting.{HasFitRecords}
 use Rattle.flow_session.specs.Histories.{AreInRange, IsLive, StandsFor, StandsAfterSome, payloads, under}

@@ -21,7 +21,7 @@ use Rattle.txn_log.specs.Stores.{Counts, store_of}
 use Rattle.txn_log.specs.declared.header.Header.{Header}
 use Rattle.compaction_laws.specs.Checkpoints.{summary_of}
 use Rattle.compaction_laws.specs.Compact.{IsMadeAnew}
-use Rattle.compaction_laws.specs.OwnStores.{IsOwn, IsOwnAfterSome, HistoriesAreFit, CrashesAreFit}
+use Rattle.compaction_laws.specs.OwnStores.{IsOwnAfterSome, HistoriesAreFit, CrashesAreFit}
 use Rattle.compaction_laws.specs.OwnStores.{ScriptsReopen, FitImagesReopen, OwnStoresReopen, OwnStoresStay}
 use Rattle.compaction_laws.specs.OwnStores.{OwnStoresGoOn, OwnScriptsStay, NewStoresAreOwn}
 use Rattle.compaction_laws.proofs.Compact.{blank_anew, anew_compact, history_anew}

@@ -1,6 +1,6 @@
 //! The value of a condition on a container.
-ghost use Rattle.std.specs.Prelude.{◌≡◌, ◌≤◌, ◌-◌, ◌*◌, ◌^◌, ◌+ℤ◌, ◌≤ℤ◌, pos, [], ◌∷◌, length, slice_get, Option, List};
-ghost use Rattle.std.specs.Prelude.{ℕ, true, false};
+ghost use Rattle.std.specs.Prelude.{◌≡◌, ◌≤◌, ◌-◌, ◌*◌, ◌^◌, ◌+ℤ◌, ◌≤ℤ◌, pos, [], ◌∷◌, Option};
+ghost use Rattle.std.specs.Prelude.{true, false};
 ghost use Rattle.flow_model.specs.Conditions.{truth, holds as is_held, satisfies as is_satisfied, side_text, sum_from};
 ghost use Rattle.flow_model.specs.Conditions.{sum_of, operand_value as number_of};
 

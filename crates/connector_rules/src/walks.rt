@@ -3,7 +3,7 @@
 //! For 64 sources at a time, each activity has a word with a bit for each source from which a walk leads there.
 //! Connectors are gone along once, in the order of the groups of their targets: then all is known of the start of a
 //! connector before it is told to its end, or both are in one group, which has one word.
-ghost use Rattle.std.specs.Prelude.{◌≡◌, ◌<◌, ◌↔◌, ℕ, List, IfOk, IsTrue, length, slice_index};
+ghost use Rattle.std.specs.Prelude.{◌≡◌, ◌<◌, ◌↔◌, List, IfOk, IsTrue, length, slice_index};
 ghost use Rattle.std.specs.List.{All};
 ghost use Rattle.flow_model.specs.declared.trees.ElementTree.{ElementTree};
 ghost use Rattle.graph_check.specs.Walks.{AreNodes};

@@ -1,5 +1,5 @@
 //! New containers, and what is put into them.
-ghost use Rattle.std.specs.Prelude.{◌≡◌, ◌<◌, ◌∷◌, [], length, map, take, drop, slice_get, slice_set, IfOk, pos};
+ghost use Rattle.std.specs.Prelude.{◌≡◌, ◌<◌, length, map, slice_get, slice_set, IfOk};
 ghost use Rattle.flow_model.specs.Containers.{first_value as first, fresh as fresh_container, mapped, put as put_leaf};
 ghost use Rattle.flow_model.specs.Containers.{with_return_code as with_code};
 ghost use Rattle.flow_model.specs.declared.graphs.Value.TheVariants.{Whole};

@@ -1,5 +1,5 @@
 //! Leaves by their names.
-ghost use Rattle.std.specs.Prelude.{◌≡◌, ◌<◌, ◌≤◌, ◌^◌, length, Option, IfSome};
+ghost use Rattle.std.specs.Prelude.{◌≡◌, ◌<◌, ◌^◌, length, Option, IfSome};
 ghost use Rattle.containers.specs.Named.{names_step, names_leaf, leaf_place};
 ghost use Rattle.flow_model.specs.LeafSteps.{step_at};
 ghost use Rattle.flow_model.specs.declared.graphs.Step.TheVariants.{Place};

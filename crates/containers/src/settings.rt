@@ -1,5 +1,5 @@
 //! Settings: what is written for the leaves of a new container.
-ghost use Rattle.std.specs.Prelude.{◌≡◌, IfOk, slice_get, option_copied};
+ghost use Rattle.std.specs.Prelude.{◌≡◌, IfOk, option_copied};
 ghost use Rattle.containers.specs.Named.{leaf_place};
 ghost use Rattle.containers.specs.Settings.{filled, written_number, number_place as first_token};
 ghost use Rattle.containers.specs.Settings.{value_place as value_token, value_for, setting_by, outcome_by};

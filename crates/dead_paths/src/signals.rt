@@ -1,5 +1,5 @@
 //! Connector values and the signals that tell them.
-ghost use Rattle.std.specs.Prelude.{◌≡◌, ◌==◌, ◌++◌, [], Option, None, Some, slice_get, option_and_then, false, IfOk};
+ghost use Rattle.std.specs.Prelude.{◌≡◌, ◌++◌, Option, None, Some, slice_get, option_and_then, false, IfOk};
 ghost use Rattle.std.specs.Prelude.{OnOk};
 ghost use Rattle.std.specs.List.{list_any};
 ghost use Rattle.std.specs.Option.{option_map_or, option_to_list};

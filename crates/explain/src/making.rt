@@ -6,7 +6,7 @@ ghost use Rattle.flow_core.specs.Facts.{AreFactsOf};
 ghost use Rattle.flow_model.specs.ScopeContainers.{graph_of};
 ghost use Rattle.explain.specs.Certificates.{Settles, IsUnsettled};
 ghost use Rattle.explain.specs.Explained.{EndsAs, IsCertificate, IsWithout, HasNone};
-ghost use Rattle.explain.specs.Shown.{activity_spelling, fate_at, fate_in, AreShown, IsShown};
+ghost use Rattle.explain.specs.Shown.{activity_spelling, fate_at, fate_in, AreShown};
 ghost use Rattle.explain.specs.declared.making.ExplainFault.TheVariants.{NoMemory};
 
 use crate::checking::checked;

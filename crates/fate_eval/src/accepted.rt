@@ -1,9 +1,7 @@
 //! The accepted completions, seen from a scope.
 ghost use Rattle.std.specs.Prelude.{◌≡◌, ◌<◌, ◌≤◌, ◌∷◌, [], List, length, take, true, IfOk, OnOk};
 ghost use Rattle.std.specs.List.{All};
-ghost use Rattle.std.specs.Option.{option_copied, option_map, option_map_or, option_or};
-ghost use Rattle.std.specs.Global.{Vec as VecOf};
-ghost use Rattle.fate_eval.specs.declared.accepted.Entry.{Entry as EntryOf};
+ghost use Rattle.std.specs.Option.{option_map, option_or};
 ghost use Rattle.flow_model.specs.Scopes.{part};
 ghost use Rattle.flow_model.specs.declared.instances.Part.{Part as PartOf};
 ghost use Rattle.fate_eval.specs.Entries.{dated, dated_in, dated_from};

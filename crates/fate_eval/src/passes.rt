@@ -1,6 +1,6 @@
 //! The recursion over scopes.
-ghost use Rattle.std.specs.Prelude.{◌≡◌, ◌<◌, ◌≤◌, ◌+◌, ◌^◌, ◌∷◌, [], ◌++◌, ℕ, Option, List, Some, None, true};
-ghost use Rattle.std.specs.Prelude.{slice_get, slice_set, length, false, unwrap_or, IfOk, IfErr, IfSome, OnOk};
+ghost use Rattle.std.specs.Prelude.{◌≡◌, ◌<◌, ◌≤◌, ◌+◌, ◌^◌, ◌∷◌, [], ℕ, Option, List, Some, None, true};
+ghost use Rattle.std.specs.Prelude.{slice_get, slice_set, length, false, unwrap_or, IfOk, IfErr, IfSome};
 ghost use Rattle.std.specs.Prelude.{replicate};
 ghost use Rattle.std.specs.List.{flat_map, All, Contains};
 ghost use Rattle.std.specs.Option.{option_map};

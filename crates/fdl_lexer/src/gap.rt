@@ -1,5 +1,5 @@
 //! What stands between tokens.
-ghost use Rattle.std.specs.Prelude.{◌≡◌, ℕ, MatchOption};
+ghost use Rattle.std.specs.Prelude.{ℕ, MatchOption};
 ghost use Rattle.fdl_lexer.specs.Gaps.{HasComment, IsCommentLen, IsGapLen};
 
 use crate::bytes::is_blank;

@@ -1,5 +1,5 @@
 //! Tokens in quotes.
-ghost use Rattle.std.specs.Prelude.{◌≡◌, true, List, ℕ, length, slice_index, IfOk};
+ghost use Rattle.std.specs.Prelude.{◌≡◌, true, List, ℕ, slice_index, IfOk};
 ghost use Rattle.std.specs.Char.{is_ascii_digit, is_ascii_alphabetic};
 ghost use Rattle.fdl_lexer.specs.Bytes.{double_quoted, next_len, written_len};
 ghost use Rattle.fdl_lexer.specs.Tokens.{FindsToken};

@@ -1,5 +1,5 @@
 //! The tokens that are left to read, and the parts that one or two of them make.
-ghost use Rattle.std.specs.Prelude.{◌≡◌, ◌≢◌, ◌<◌, ◌≤◌, ◌+◌, List as Seq, ℕ, length, slice_range, ◌∷◌, true, false};
+ghost use Rattle.std.specs.Prelude.{◌≡◌, ◌≢◌, ◌<◌, List as Seq, ℕ, length, slice_range, true, false};
 ghost use Rattle.std.specs.Prelude.{IfOk, IfErr, IfSome, ◌==◌};
 ghost use Rattle.fdl_lexer.specs.Bytes.{single_quoted};
 ghost use Rattle.fdl_parser.specs.declared.cursor.SyntaxFault.TheVariants.{NoMemory};

@@ -1,5 +1,5 @@
 //! CONTROL and DATA lines.
-ghost use Rattle.std.specs.Prelude.{◌≡◌, ◌<◌, ◌≤◌, length, IfOk, IfErr};
+ghost use Rattle.std.specs.Prelude.{◌<◌, ◌≤◌, length, IfOk, IfErr};
 ghost use Rattle.fdl_parser.specs.Faults.{Names};
 ghost use Rattle.fdl_parser.specs.Stops.{Reads, Anything, IsTaken, Stops};
 ghost use Rattle.fdl_parser.specs.Tiers.{Looser};

@@ -1,7 +1,6 @@
 //! Conditions.
 ghost use Rattle.std.specs.Prelude.{◌≡◌, ◌∷◌, ◌++◌, map, OnOk};
-ghost use Rattle.std.specs.List.{flat_map};
-ghost use Rattle.fdl_print.specs.Pieces.{with_pieces, word as word_piece, sign as sign_piece};
+ghost use Rattle.fdl_print.specs.Pieces.{with_pieces, sign as sign_piece};
 ghost use Rattle.fdl_print.specs.Parts.{operator_mark as mark_of, operand_pieces, later_term as later_term_pieces};
 ghost use Rattle.fdl_print.specs.Parts.{side_pieces, sum_pieces};
 ghost use Rattle.fdl_print.specs.Conditions.{shown, in_or, in_and, in_parentheses, or_pieces, and_pieces, later_or};

@@ -1,7 +1,7 @@
 //! Activities, connectors and data lines.
-ghost use Rattle.std.specs.Prelude.{◌≡◌, ◌∷◌, ◌++◌, [], OnOk};
+ghost use Rattle.std.specs.Prelude.{◌≡◌, ◌∷◌, [], OnOk};
 ghost use Rattle.std.specs.List.{flat_map};
-ghost use Rattle.fdl_print.specs.Pieces.{Stop, with_piece, with_pieces, word as word_piece, name as name_piece};
+ghost use Rattle.fdl_print.specs.Pieces.{with_piece, with_pieces, word as word_piece, name as name_piece};
 ghost use Rattle.fdl_print.specs.Elements.{closing_pieces, heading_pieces, join_pieces, attr_pieces, attr_line};
 ghost use Rattle.fdl_print.specs.Elements.{when_pieces, control_pieces, end_piece, ends_pieces, map_pieces};
 ghost use Rattle.fdl_print.specs.Elements.{later_map as later_map_pieces, maps_pieces, data_pieces};

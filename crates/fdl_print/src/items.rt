@@ -1,7 +1,7 @@
 //! The items of a text.
-ghost use Rattle.std.specs.Prelude.{◌≡◌, ◌∷◌, ◌++◌, [], OnOk, IfOk};
+ghost use Rattle.std.specs.Prelude.{◌≡◌, OnOk, IfOk};
 ghost use Rattle.std.specs.List.{flat_map};
-ghost use Rattle.fdl_print.specs.Pieces.{Stop, with_piece, with_pieces};
+ghost use Rattle.fdl_print.specs.Pieces.{with_piece, with_pieces};
 ghost use Rattle.fdl_print.specs.Elements.{kind_piece, count_pieces, member_line as member_pieces, structure_pieces};
 ghost use Rattle.fdl_print.specs.Elements.{first_role as first_role_pieces, later_role as later_role_pieces};
 ghost use Rattle.fdl_print.specs.Elements.{roles_pieces, person_pieces};

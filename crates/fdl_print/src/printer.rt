@@ -1,5 +1,5 @@
 //! Tokens with one space between them, in lines.
-ghost use Rattle.std.specs.Prelude.{◌≡◌, ◌∷◌, ◌++◌, [], false, codes, OnOk};
+ghost use Rattle.std.specs.Prelude.{◌≡◌, [], false, OnOk};
 ghost use Rattle.fdl_print.specs.Pieces.{Token, Stop, with_piece, with_pieces, sign_text, word as word_piece};
 ghost use Rattle.fdl_print.specs.Pieces.{sign as sign_piece, name as name_piece, quoted as text_piece};
 ghost use Rattle.fdl_print.specs.Pieces.{digits as size_piece};

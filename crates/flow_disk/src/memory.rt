@@ -1,5 +1,5 @@
 //! A disk in memory, which fails at the calls that are listed and tells everything.
-ghost use Rattle.std.specs.Prelude.{◌≡◌, ℕ, ◌<◌, ◌≤◌, [], length, IfOk, OnOk, OnErr, Some, None};
+ghost use Rattle.std.specs.Prelude.{◌≡◌, ◌<◌, ◌≤◌, [], length, IfOk, OnOk, OnErr, Some, None};
 ghost use Rattle.flow_disk.specs.Calls.{Serves, ServesOrStarves};
 ghost use Rattle.flow_disk.specs.Causes.{HasCause};
 ghost use Rattle.flow_disk.specs.Contents.{image_of};

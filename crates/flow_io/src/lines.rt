@@ -1,7 +1,7 @@
 //! The lines of a source, read in blocks.
-ghost use Rattle.std.specs.Prelude.{◌≡◌, ◌≢◌, ℕ, ◌+◌, ◌-◌, ◌<◌, ◌≤◌, List, [], ◌∷◌, ◌++◌, length, drop, take, min};
-ghost use Rattle.std.specs.Prelude.{slice_index, slice_range, IfOk, MatchOption, MatchResult, vec_len};
-ghost use Rattle.std.specs.Io.KnownBytes.{Consumes, IsAtEnd};
+ghost use Rattle.std.specs.Prelude.{◌≡◌, ℕ, ◌+◌, ◌-◌, ◌<◌, ◌≤◌, List, [], ◌++◌, length, drop, take};
+ghost use Rattle.std.specs.Prelude.{slice_range, IfOk, MatchOption, MatchResult, vec_len};
+ghost use Rattle.std.specs.Io.KnownBytes.{Consumes};
 ghost use Rattle.flow_io.specs.Inputs.{NoFeedBelow};
 ghost use Rattle.flow_io.specs.Found.{IsFirstFeed, IsReach, Takes};
 ghost use Rattle.flow_io.specs.Told.{Tells, Shrinks, StopCause, SetsAside, kind_of, last_kind};

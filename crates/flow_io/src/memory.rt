@@ -1,9 +1,9 @@
 //! A source and a sink in memory, which tell everything and fail at the calls that are listed.
-ghost use Rattle.std.specs.Prelude.{◌≡◌, ℕ, ◌<◌, ◌≤◌, ◌-◌, [], ◌++◌, ◌↔◌, length, take, drop, min, IfOk, OnOk, OnErr};
+ghost use Rattle.std.specs.Prelude.{◌≡◌, ◌<◌, ◌≤◌, ◌-◌, [], ◌++◌, ◌↔◌, length, take, drop, min, IfOk, OnOk, OnErr};
 ghost use Rattle.std.specs.Prelude.{IsTrue, Some};
 ghost use Rattle.std.specs.Io.KnownBytes.{ReadConsumes, WriteAppends};
 ghost use Rattle.flow_io.specs.Causes.{HasCause, one_more};
-ghost use Rattle.flow_io.specs.Memory.{fresh, IsNextListed, one_served, one_failed, GivesFront, Supplies, Collects};
+ghost use Rattle.flow_io.specs.Memory.{fresh, IsNextListed, one_served, GivesFront, Supplies, Collects};
 
 use crate::outside::{Failed, Sink, Source};
 use std::alloc::{AllocError, Global};

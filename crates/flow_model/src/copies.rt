@@ -1,5 +1,5 @@
 //! Equal values with memory of their own.
-ghost use Rattle.std.specs.Prelude.{◌≡◌, [], ◌++◌, ◌∷◌, take, IfOk};
+ghost use Rattle.std.specs.Prelude.{◌≡◌, IfOk};
 ghost use Rattle.flow_model.specs.Rows.{below};
 ghost use Rattle.flow_model.specs.Scopes.{part};
 

@@ -1,5 +1,5 @@
 //! The leaves of all structures of a text, in one table in which leaves share the ends of their names.
-ghost use Rattle.std.specs.Prelude.{◌≡◌, ◌++◌, ◌∷◌, [], length, slice_get, IfOk, MatchOption, OnOk, option_copied};
+ghost use Rattle.std.specs.Prelude.{◌≡◌, ◌++◌, ◌∷◌, [], length, slice_get, MatchOption, OnOk, option_copied};
 ghost use Rattle.std.specs.Prelude.{option_map, take, ◌-◌};
 ghost use Rattle.flow_model.specs.LeafRows.{place_steps, linked_steps, leaf_of};
 

@@ -1,4 +1,4 @@
-ghost use Rattle.std.specs.Prelude.{◌≡◌, ◌==◌, [], length, IfOk, IsErrOf, MatchResult, true, false};
+ghost use Rattle.std.specs.Prelude.{◌≡◌, ◌==◌, [], length, IfOk, IsErrOf, true, false};
 ghost use Rattle.std.specs.List.{list_all};
 ghost use Rattle.flow_model.specs.Words.{is_name_byte as name_byte_test, is_name as name_test};
 ghost use Rattle.flow_model.specs.Words.{is_text_byte as text_byte_test, is_text as text_test};

@@ -1,5 +1,5 @@
 //! Which path a text spells: it is cut at its `/` and `#`, and what is found is compared with the text step by step.
-ghost use Rattle.std.specs.Prelude.{◌≡◌, ◌≤◌, ◌<◌, ◌^◌, ◌==◌, ℕ, true, Some, List as ListOf, ◌∷◌, ◌++◌, length};
+ghost use Rattle.std.specs.Prelude.{◌≡◌, ◌≤◌, ◌<◌, ◌^◌, ◌==◌, ℕ, Some, List as ListOf, ◌∷◌, ◌++◌, length};
 ghost use Rattle.std.specs.Prelude.{decimal, IfOk, IfSome, IsErrOf, MatchOption};
 ghost use Rattle.std.specs.Bool.{Decides};
 ghost use Rattle.std.specs.List.{All, position, position_or_len};

@@ -1,6 +1,6 @@
 //! A DRAIN: the queues are served in turn, until all are empty or the limit is met.
 ghost use Rattle.std.specs.Prelude.{◌≡◌, ℕ, ◌<◌, ◌≤◌, true, false, if◌then◌else◌, None, length, IfOk, IfErr, IfSome};
-ghost use Rattle.std.specs.Prelude.{OnOk, IsTrue, MatchResult};
+ghost use Rattle.std.specs.Prelude.{OnOk, MatchResult};
 ghost use Rattle.worklist_laws.specs.Shelved.{IsRightAndListed};
 ghost use Rattle.recover_queue.specs.Queues.{is_quiet};
 ghost use Rattle.flow_core.specs.Answers.{has_message};

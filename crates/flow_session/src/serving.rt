@@ -1,5 +1,5 @@
 //! A session: the state, and the text of an IMPORT that isn't ended yet.
-ghost use Rattle.std.specs.Prelude.{◌≡◌, ◌⊎◌, ◌<◌, ◌≤◌, ◌+◌, ◌++◌, ◌∷◌, [], Some, None, length, IfOk, IfErr, OnOk};
+ghost use Rattle.std.specs.Prelude.{◌≡◌, ◌<◌, ◌≤◌, ◌+◌, ◌++◌, ◌∷◌, [], Some, None, length, IfOk, IfErr, OnOk};
 ghost use Rattle.std.specs.Prelude.{MatchResult};
 ghost use Rattle.std.specs.Fmt.{decimal as digits_of};
 ghost use Rattle.flow_disk.specs.Moments.{LeavesOnly};
@@ -18,8 +18,8 @@ ghost use Rattle.flow_core.specs.Queries.{IsAnswer};
 ghost use Rattle.machine.specs.States.{blank};
 ghost use Rattle.machine_laws.specs.Applied.{Applied};
 ghost use Rattle.machine_laws.specs.Viewed.{view};
-ghost use Rattle.flow_session.specs.Inputs.{given, Line, SaysCheckpoint, AsksCheckpoint, unended_in, no_lines, is_end};
-ghost use Rattle.flow_session.specs.Inputs.{with_line, unended, long_text, Answers, IsCommanded, ServesLine};
+ghost use Rattle.flow_session.specs.Inputs.{given, Line, SaysCheckpoint, AsksCheckpoint, unended_in, is_end};
+ghost use Rattle.flow_session.specs.Inputs.{with_line, unended, IsCommanded, ServesLine};
 ghost use Rattle.flow_session.specs.Inputs.{ServesText, ServesInside, IsServed};
 ghost use Rattle.flow_session.specs.Replying.{IsObeyed, checkpoint_text};
 ghost use Rattle.flow_session.specs.Asking.{Asks, AsksSaid, AsksOutside, AsksText, AsksInside, AsksOf};

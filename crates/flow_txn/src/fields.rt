@@ -1,7 +1,6 @@
 //! The fields of a record, read from the front of its bytes: each function gives a value and the bytes after it.
-ghost use Rattle.std.specs.Prelude.{◌≡◌, length};
 ghost use Rattle.std.specs.Int.{w16, w32, w64};
-ghost use Rattle.flow_txn.specs.Reading.{Gives, byte, front, number, by, many, counted, short, name, text, part, parts};
+ghost use Rattle.flow_txn.specs.Reading.{Gives, byte, front, number, many, counted, short, name, text, part, parts};
 ghost use Rattle.flow_txn.specs.Reading.{path, item, large, value_by, setting, settings, key_by, truth_by};
 
 use crate::faults::RecordFault;

@@ -1,5 +1,5 @@
 //! The record of a transaction.
-ghost use Rattle.std.specs.Prelude.{◌≡◌, ◌+◌, ◌-◌, ◌^◌, ◌≤◌, ◌∷◌, ◌++◌, length, min, OnOk, IfOk};
+ghost use Rattle.std.specs.Prelude.{◌≡◌, ◌+◌, ◌-◌, ◌^◌, ◌≤◌, ◌++◌, length, min, OnOk, IfOk};
 ghost use Rattle.std.specs.Int.{w16, w32, to_be_bytes};
 ghost use Rattle.flow_txn.specs.Records.{u64_bytes, short_bytes, import_bytes, part_bytes, path_bytes};
 ghost use Rattle.flow_txn.specs.Records.{is_small as small_test, value_bytes, setting_bytes, settings_bytes, key_bytes};

@@ -1,7 +1,6 @@
 -- What the words of a standby store print.
 use Rattle.std.proofs.Common.{◌≡◌, inr, ◌∙◌, ℕ, Option, List, Err, refl, subst, arith}
 use Rattle.txn_log.specs.declared.stops.LogStop.{LogStop}
-use Rattle.txn_log.specs.declared.stops.LogStop.TheVariants as log
 use Rattle.standby.specs.Endings.{ShipEnd}
 use Rattle.standby.specs.declared.stops.ShipStop.{ShipStop}
 use Rattle.standby.specs.declared.stops.ShipStop.TheVariants as ship

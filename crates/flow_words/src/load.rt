@@ -1,6 +1,6 @@
 //! The word `load`: a made script over a history in memory, and one line that sums it up.
-ghost use Rattle.std.specs.Prelude.{◌≡◌, ◌+◌, ◌<◌, ◌^◌, ◌++◌, ◌∷◌, [], List, ℕ, map, OnOk, IfOk, if◌then◌else◌};
-ghost use Rattle.std.specs.List.{flat_map, list_any};
+ghost use Rattle.std.specs.Prelude.{◌≡◌, ◌+◌, ◌<◌, ◌∷◌, [], map, OnOk, IfOk, if◌then◌else◌};
+ghost use Rattle.std.specs.List.{list_any};
 ghost use Rattle.flow_session.specs.Inputs.{Line as LineOf};
 ghost use Rattle.flow_words.specs.Loading.{next_number as number_behind, amount_by, is_above as above_test};
 ghost use Rattle.flow_words.specs.Loading.{drained as drained_lines, force_line as force_of, force_with};

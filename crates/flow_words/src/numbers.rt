@@ -1,5 +1,5 @@
 //! The numbers among the words.
-ghost use Rattle.std.specs.Prelude.{◌≡◌, ◌≢◌, ℕ, ◌<◌, ◌≤◌, ◌^◌, IfSome, IfNone, map, string_bytes, decimal};
+ghost use Rattle.std.specs.Prelude.{◌≡◌, ◌≢◌, ℕ, ◌<◌, ◌^◌, IfSome, IfNone, map, string_bytes, decimal};
 ghost use Rattle.flow_words.specs.Numbers.{Names, NamesNone, AreSettings, NameNoSettings};
 
 /// The limit of a store where the words name none.

@@ -1,5 +1,5 @@
-ghost use Rattle.std.specs.Prelude.{◌≡◌, IfOk, MatchResult};
-ghost use Rattle.graph_check.specs.Walks.{AreNodes, IsOrder, IsClosedWalk};
+ghost use Rattle.std.specs.Prelude.{MatchResult};
+ghost use Rattle.graph_check.specs.Walks.{AreNodes, IsOrder};
 ghost use Rattle.graph_check.specs.Orders.{IsCycleFound};
 
 use crate::faults::GraphFault;

@@ -1,5 +1,4 @@
-ghost use Rattle.std.specs.Prelude.{◌≡◌, ◌<◌, ◌∷◌, [], ◌↔◌, IfOk, OnOk, IsTrue, length, reverse, replicate, false};
-ghost use Rattle.std.specs.Prelude.{slice_set};
+ghost use Rattle.std.specs.Prelude.{◌≡◌, ◌<◌, ◌↔◌, IfOk, OnOk, IsTrue, length, reverse, replicate, false};
 ghost use Rattle.graph_check.specs.Walks.{AreNodes, Reaches};
 ghost use Rattle.graph_check.specs.Among.{first_of, rest_of};
 ghost use Rattle.graph_check.specs.Spreading.{row_of, is_seen, passed, cut, spread_to, IsSpread, Advanced, AreReaching};

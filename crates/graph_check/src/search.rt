@@ -1,4 +1,4 @@
-ghost use Rattle.std.specs.Prelude.{◌≡◌, ◌<◌, ◌∷◌, [], ◌≢◌, IfOk, OnOk, length, reverse, replicate};
+ghost use Rattle.std.specs.Prelude.{◌≡◌, ◌<◌, [], ◌≢◌, IfOk, OnOk, length, reverse, replicate};
 ghost use Rattle.graph_check.specs.Walks.{AreNodes};
 ghost use Rattle.graph_check.specs.Among.{first_of, rest_of, through};
 ghost use Rattle.graph_check.specs.Searching.{entered, left, skipped, mark_of, sources_of, IsSound, Grows, Turned, Ran};

@@ -1,8 +1,8 @@
-ghost use Rattle.std.specs.Prelude.{◌≡◌, ◌≢◌, ◌<◌, ◌^◌, ◌+◌, ◌≤◌, ℕ, [], ◌∷◌, IfOk, OnOk, Some, None, MatchBool};
-ghost use Rattle.std.specs.Prelude.{MatchOption, length, map, replicate, reverse, slice_set};
-ghost use Rattle.graph_check.specs.Among.{Among, first_of, rest_of};
+ghost use Rattle.std.specs.Prelude.{◌≡◌, ◌≢◌, ◌<◌, ◌^◌, ◌+◌, ◌≤◌, ℕ, [], IfOk, OnOk, Some, None, MatchBool};
+ghost use Rattle.std.specs.Prelude.{length, map, replicate, reverse, slice_set};
+ghost use Rattle.graph_check.specs.Among.{first_of, rest_of};
 ghost use Rattle.graph_check.specs.Components.{AreComponents, AreCyclic};
-ghost use Rattle.graph_check.specs.Grouping.{Advanced, At, Grows, IsGrouped, IsStep, IsTop, IsVisited, above, entered};
+ghost use Rattle.graph_check.specs.Grouping.{Advanced, At, Grows, IsGrouped, IsStep, IsTop, IsVisited, entered};
 ghost use Rattle.graph_check.specs.Grouping.{left, mark_of, merged, number_of, released, row_of, settled, skipped};
 ghost use Rattle.graph_check.specs.Walks.{AreNodes};
 

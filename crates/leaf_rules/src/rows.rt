@@ -1,5 +1,5 @@
 //! The rows of the leaves of all structures of a text: those of a structure go on with those of its members' kinds.
-ghost use Rattle.std.specs.Prelude.{◌≡◌, ◌<◌, ◌+◌, ◌++◌, ◌∷◌, [], length, map, false, replicate, slice_set};
+ghost use Rattle.std.specs.Prelude.{◌≡◌, ◌<◌, ◌+◌, ◌++◌, ◌∷◌, [], length, map, false, slice_set};
 ghost use Rattle.std.specs.Prelude.{List as Seq, ℕ, IfOk, OnOk};
 ghost use Rattle.flow_model.specs.LeafRows.{place_steps, linked_steps};
 ghost use Rattle.flow_model.specs.declared.graphs.Kind.TheVariants.{Long};

@@ -1,5 +1,5 @@
 //! The structures of a text with their leaves, and rules 6, 7 and 8 on them.
-ghost use Rattle.std.specs.Prelude.{◌≡◌, ◌⊎◌, ℕ, ◌<◌, ◌++◌, [], map, length, false, replicate, slice_get, slice_index};
+ghost use Rattle.std.specs.Prelude.{◌≡◌, ◌⊎◌, ◌<◌, ◌++◌, map, length, false, replicate, slice_get, slice_index};
 ghost use Rattle.std.specs.Prelude.{slice_index_or, slice_set, Some, IfOk, IsTrue, OnOk, option_copied};
 ghost use Rattle.std.specs.List.{filter_map};
 ghost use Rattle.graph_check.specs.Walks.{IsOrder};

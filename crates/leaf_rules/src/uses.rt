@@ -1,6 +1,5 @@
 //! Rules 13 and 14: the leaves that conditions and maps read and write, and their kinds.
 ghost use Rattle.std.specs.Prelude.{◌≡◌, ◌⊎◌, ◌<◌, ◌^◌, length, IfSome, MatchBool, option_map};
-ghost use Rattle.conditions.specs.Faults.{kind_at};
 ghost use Rattle.text_graphs.specs.Attributes.{exit_said};
 ghost use Rattle.text_graphs.specs.Graphs.{graph_at};
 ghost use Rattle.text_graphs.specs.GraphTexts.{text_of};

@@ -1,5 +1,5 @@
 -- The reply to each query; of SHOW with all levels of scopes, of WORKLIST by the items that the person sees.
-use Rattle.std.specs.Prelude.{◌≡◌, ◌↔◌, ◌||◌, ◌&&◌, ℕ, zero, suc, ◌+◌, ◌-◌, ◌≤◌, nat_le, not, Bool, true}
+use Rattle.std.specs.Prelude.{◌≡◌, ◌↔◌, ◌||◌, ◌&&◌, ℕ, zero, suc, ◌+◌, ◌-◌, ◌≤◌, nat_le, Bool, true}
 use Rattle.std.specs.Prelude.{if◌then◌else◌, Option, Some, None, option_map, option_and_then, unwrap_or, List, [], ◌∷◌}
 use Rattle.std.specs.Prelude.{map, length, slice_get}
 use Rattle.std.specs.List.{flat_map, Contains}

@@ -10,7 +10,6 @@ use Rattle.flow_model.specs.declared.graphs.Work.{Work, Program, Block, Process}
 use Rattle.flow_model.specs.declared.instances.Fate.{Fate}
 use Rattle.flow_model.specs.declared.instances.Fate.TheVariants as fates
 use Rattle.flow_model.specs.declared.instances.Part.{Part}
-use Rattle.flow_model.specs.declared.instances.SourceEnd.TheVariants as end
 use Rattle.machine.specs.Rows.{Standing, Item, Inner, Row, Scopes, inside, place_of, attempt_place}
 use Rattle.machine.specs.Moves.{graph_under}
 

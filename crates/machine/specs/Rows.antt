@@ -1,5 +1,5 @@
 -- The scopes of a root, as a function of where they lie: what stands in each, and nothing of how it is kept.
-use Rattle.std.specs.Prelude.{ℕ, zero, suc, ◌-◌, ◌==◌, ◌&&◌, ◌^◌, min, Bool, true, false, if◌then◌else◌, Option, Some}
+use Rattle.std.specs.Prelude.{ℕ, zero, suc, ◌-◌, ◌==◌, ◌&&◌, ◌^◌, min, Bool, false, if◌then◌else◌, Option, Some}
 use Rattle.std.specs.Prelude.{None, List, [], ◌∷◌, length, map, replicate, position, bytes_eq}
 use Rattle.activity_states.specs.States.{State, waiting}
 use Rattle.dead_paths.specs.declared.joins.Tally.{Tally}

@@ -1,5 +1,5 @@
 -- The step: what a transaction does to the state.
-use Rattle.std.specs.Prelude.{◌≡◌, ℕ, ◌+◌, ◌-◌, ◌==◌, min, max, Bool, true, false, not}
+use Rattle.std.specs.Prelude.{◌≡◌, ℕ, ◌+◌, ◌-◌, ◌==◌, max, Bool, true, false, not}
 use Rattle.std.specs.Prelude.{if◌then◌else◌, Option, Some, None, option_and_then, option_map, List, [], ◌∷◌, ◌++◌}
 use Rattle.std.specs.Prelude.{length, slice_get}
 use Rattle.std.specs.List.{filter}
@@ -26,7 +26,7 @@ use Rattle.process_rules.specs.Imports.{newest_place}
 use Rattle.recover_queue.specs.Queues.{root_of as root_of_message}
 use Rattle.machine.specs.Imports.{Added, with_added, Adds}
 use Rattle.machine.specs.Items.{Entry}
-use Rattle.machine.specs.Moves.{Outcome, nothing, given_of, takes, completes_item, holds_item, Holding, ByPerson}
+use Rattle.machine.specs.Moves.{Outcome, given_of, takes, completes_item, holds_item, Holding, ByPerson}
 use Rattle.machine.specs.Moves.{ByAgent, ByNobody}
 use Rattle.machine.specs.Queues.{queue_in, put_in, taken_by}
 use Rattle.machine.specs.Rows.{fresh_scopes}

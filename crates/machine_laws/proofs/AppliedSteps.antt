@@ -1,5 +1,5 @@
 -- What a call that applies a transaction says, whole, is a step of the machine.
-use Rattle.std.proofs.Common.{◌≡◌, ℕ, List, Option, Some, None, refl, sym, ap, subst, ◌∙◌, append-nil}
+use Rattle.std.proofs.Common.{◌≡◌, ℕ, List, Option, Some, None, refl, sym, subst, ◌∙◌, append-nil}
 use Rattle.activity_states.specs.declared.states.Completed.{Completed}
 use Rattle.containers.specs.Settings.{filled}
 use Rattle.core_laws.specs.RightStates.{IsRightState}

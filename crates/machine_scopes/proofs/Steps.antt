@@ -4,7 +4,6 @@ use Rattle.std.proofs.Common.{List, [], ◌∷◌, ◌++◌, map, length, Option
 use Rattle.std.proofs.Common.{subst, ◌∙◌, inl, inr}
 use Rattle.std.specs.Prelude.{slice_get, slice_set}
 use Rattle.std.proofs.lemmas.Bool.Decides.{eqb_tells}
-use Rattle.activity_states.specs.States.{State}
 use Rattle.dead_paths.specs.Signals.{signals}
 use Rattle.flow_model.specs.Rows.{below}
 use Rattle.flow_model.specs.Scopes.{part}
@@ -16,13 +15,12 @@ use Rattle.flow_model.specs.declared.instances.Path.{Path}
 use Rattle.flow_model.specs.declared.instances.SourceEnd.{SourceEnd}
 use Rattle.flow_model.specs.declared.instances.SourceEnd.TheVariants as end
 use Rattle.machine.specs.Moves as m
-use Rattle.machine.specs.Rows.{Standing, Inner, Runs, Row, Step, only, with_row}
+use Rattle.machine.specs.Rows.{Standing, Inner, Runs, Row, Step, only}
 use Rattle.machine.specs.Rows.{fresh_row}
 use Rattle.navigator.specs.Steps as n
 use Rattle.navigator.specs.Steps.{Fields, Told, with_state}
 use Rattle.navigator.specs.Fresh.{IsFresh}
 use Rattle.navigator.specs.declared.scopes.ActivityState.{ActivityState, Program, Nested}
-use Rattle.navigator.specs.declared.scopes.NestedStage.TheVariants as stages
 use Rattle.navigator.specs.declared.scopes.NestedState.{NestedState, out-NestedState, out-roll-NestedState}
 use Rattle.navigator.specs.declared.scopes.ScopeState.{ScopeState}
 use Rattle.machine_scopes.specs.Seen.{stage_of, standing_of, row_of, scope_in, inner_at, scopes_of, scopes_in, told_as}

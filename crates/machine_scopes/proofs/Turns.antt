@@ -1,7 +1,6 @@
 -- A turn, a completion and a change of a hold do what the machine's do.
 use Rattle.std.proofs.Common.{◌≡◌, ℕ, List, [], ◌∷◌, ◌++◌, Option, Some, None, refl, sym, ap, subst, ◌∙◌}
 use Rattle.std.proofs.Math.Path.{fun_ext}
-use Rattle.activity_states.specs.States.{State}
 use Rattle.activity_states.specs.declared.states.Completed.{Completed}
 use Rattle.flow_model.specs.declared.graphs.Graph.{Graph}
 use Rattle.flow_model.specs.declared.graphs.Template.{Template}
@@ -10,7 +9,7 @@ use Rattle.flow_model.specs.declared.instances.Message.TheVariants.{Begin, Signa
 use Rattle.flow_model.specs.declared.instances.Part.{Part}
 use Rattle.flow_model.specs.declared.instances.Path.{Path}
 use Rattle.machine.specs.Moves as m
-use Rattle.machine.specs.Rows.{Item, Step, with_row}
+use Rattle.machine.specs.Rows.{Step, with_row}
 use Rattle.navigator.specs.Events.{Happening, Begins, Signals, Ends, Completes, Happens, Takes}
 use Rattle.navigator.specs.Holding.{HoldsChanged, SetsHold, held_state, held_at}
 use Rattle.navigator.specs.Reading.{place_of}
@@ -20,7 +19,7 @@ use Rattle.navigator.specs.declared.instance.HoldChange.{HoldChange}
 use Rattle.navigator.specs.declared.instance.HoldChange.TheVariants.{Person, Agent, Nobody}
 use Rattle.navigator.specs.declared.scopes.ActivityState.{ActivityState, Program, Nested}
 use Rattle.navigator.specs.declared.scopes.ScopeState.{ScopeState}
-use Rattle.machine_scopes.specs.Events.{as_move, Meets, IsAsMoved}
+use Rattle.machine_scopes.specs.Events.{as_move, IsAsMoved}
 use Rattle.machine_scopes.specs.Seen.{standing_of, row_of, scope_in, scopes_of, scopes_in}
 use Rattle.machine_scopes.specs.Turns.{MeetsLast, MeetsMessage, MeetsItem, MeetsHold, as_holding}
 use Rattle.machine_scopes.proofs.Events.{events_are_moves}

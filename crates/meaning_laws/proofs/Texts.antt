@@ -1,5 +1,5 @@
 -- A text that breaks no rule means templates, one for each of its processes, and people.
-use Rattle.std.proofs.Common.{◌≡◌, ℕ, zero, suc, ◌+◌, Some, None, List, [], ◌∷◌, map, refl, sym, ap, subst, arith}
+use Rattle.std.proofs.Common.{◌≡◌, ℕ, zero, suc, ◌+◌, Some, None, List, [], ◌∷◌, map, refl, ap, subst, arith}
 use Rattle.std.specs.Prelude.{◌-◌, ◌^◌, min, slice_get}
 use Rattle.std.proofs.lemmas.Option.{none-some}
 use Rattle.flow_model.specs.declared.graphs.Graph.{Graph}

@@ -1,5 +1,5 @@
 -- Which kinds of attributes came before, where they are met one by one.
-use Rattle.std.proofs.Common.{◌≡◌, ℕ, not, List, [], ◌∷◌, ◌++◌, Option, Some, None, refl, sym, ◌∙◌, inl, inr, ⊎_elim, ◌⊎◌, arith}
+use Rattle.std.proofs.Common.{◌≡◌, ℕ, List, [], ◌∷◌, ◌++◌, Option, Some, None, refl, sym, ◌∙◌, inl, inr, ⊎_elim, ◌⊎◌, arith}
 use Rattle.flow_model.specs.declared.trees.AttrAt.{AttrAt}
 use Rattle.name_rules.specs.KindsMet.{IsOfKind, AreOfKind}
 use Rattle.name_rules.specs.Names.{kind_said, IsKindAgain}

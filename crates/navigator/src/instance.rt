@@ -5,7 +5,7 @@ ghost use Rattle.activity_states.specs.States.{fate_of, hold_of};
 ghost use Rattle.flow_model.specs.Scopes.{Known, tree_ends};
 ghost use Rattle.flow_model.specs.ScopeContainers.{graph_of as template_graph, is_complete as all_settled};
 ghost use Rattle.flow_model.specs.declared.graphs.Container.{Container as Values};
-ghost use Rattle.flow_model.specs.declared.graphs.Graph.{Graph as Process, out-Graph};
+ghost use Rattle.flow_model.specs.declared.graphs.Graph.{Graph as Process};
 ghost use Rattle.flow_model.specs.declared.graphs.Template.{Template};
 ghost use Rattle.flow_model.specs.declared.instances.Message.TheVariants.{End};
 ghost use Rattle.flow_model.specs.declared.instances.Part.{Part as Step};

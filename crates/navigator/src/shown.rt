@@ -12,7 +12,6 @@ ghost use Rattle.flow_model.specs.declared.graphs.Container.{Container as Values
 ghost use Rattle.flow_model.specs.declared.graphs.Graph.{Graph as Process, out-Graph};
 ghost use Rattle.flow_model.specs.declared.instances.Fate.{Fate as Stands};
 ghost use Rattle.flow_model.specs.declared.graphs.MapEnd.TheVariants.{Border};
-ghost use Rattle.flow_model.specs.declared.graphs.Template.{Template};
 ghost use Rattle.navigator.specs.ItemInputs.{ReadsAttempt};
 ghost use Rattle.navigator.specs.Items.{item_input, performer_in, performer_at};
 ghost use Rattle.navigator.specs.Reading.{state_fate};

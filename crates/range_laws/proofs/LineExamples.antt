@@ -1,5 +1,5 @@
 -- That lines say what they should: a command whose words are in range, and one on a root 0, whose words aren't.
-use Rattle.std.proofs.Common.{◌≡◌, ℕ, [], ◌∷◌, Some, None, refl, arith}
+use Rattle.std.proofs.Common.{ℕ, [], ◌∷◌, Some, None, refl, arith}
 use Rattle.std.proofs.lemmas.List.Sums.{AllPass-from_list_all}
 use Rattle.std.specs.Prelude.{codes}
 use Rattle.command_lang.specs.Grammar as grammar

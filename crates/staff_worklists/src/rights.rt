@@ -1,8 +1,8 @@
 //! Eligibility, and the tests of commands on items.
-ghost use Rattle.std.specs.Prelude.{◌≡◌, if◌then◌else◌, Some, Ok, Err, option_map, bytes_eq};
+ghost use Rattle.std.specs.Prelude.{◌≡◌, if◌then◌else◌, Ok, Err, option_map, bytes_eq};
 ghost use Rattle.staff_worklists.specs.Rights.{has_role as role_test, is_eligible, is_ready, is_running, owner_answer};
 ghost use Rattle.staff_worklists.specs.Rights.{able_answer, claim_answer, release_answer, transfer_answer};
-ghost use Rattle.staff_worklists.specs.Rights.{taking_answer, take_answer, done_answer};
+ghost use Rattle.staff_worklists.specs.Rights.{taking_answer, done_answer};
 ghost use Rattle.staff_worklists.specs.declared.rights.StaffFault.TheVariants.{State};
 
 use flow_model::{DoneBy, Hold, Name, PersonDef, Phase, Program, Who};

@@ -1,6 +1,6 @@
 //! The open manual items of all roots, and the worklists over them.
-ghost use Rattle.std.specs.Prelude.{◌≡◌, ℕ, ◌∷◌, ◌&&◌, List as Seq, false, true, None, Some, IfOk, OnOk, OnErr};
-ghost use Rattle.std.specs.Prelude.{option_copied, if◌then◌else◌, bytes_eq};
+ghost use Rattle.std.specs.Prelude.{◌≡◌, ℕ, ◌&&◌, List as Seq, false, true, None, Some, IfOk, OnOk, OnErr};
+ghost use Rattle.std.specs.Prelude.{if◌then◌else◌, bytes_eq};
 ghost use Rattle.staff_worklists.specs.SameShelf.{shelf_eq, shelf_name, shelf_writes};
 ghost use Rattle.staff_worklists.specs.SameShelf.{shelf_equiv, shelf_partial_equiv, same_writes};
 ghost use Rattle.staff_worklists.specs.Shelves.{claim_shelf as claim_shelf_of, is_held as is_held_test};

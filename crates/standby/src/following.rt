@@ -1,5 +1,5 @@
 //! A stream taken into a store.
-ghost use Rattle.std.specs.Prelude.{◌≡◌, ◌⊎◌, ℕ, Option, List, ◌+◌, ◌-◌, ◌^◌, ◌<◌, ◌≤◌, [], IfErr, IfOk, IsOk};
+ghost use Rattle.std.specs.Prelude.{◌≡◌, ◌⊎◌, ℕ, Option, List, ◌+◌, ◌-◌, ◌^◌, ◌<◌, ◌≤◌, IfErr, IfOk, IsOk};
 ghost use Rattle.std.specs.Prelude.{MatchResult, OnErr, OnOk};
 ghost use Rattle.std.specs.Io.KnownBytes.{Keeps};
 ghost use Rattle.flow_disk.specs.Images.{Image};
@@ -22,7 +22,6 @@ ghost use Rattle.standby.specs.Endings.{FollowEnd};
 ghost use Rattle.flow_session.specs.Refusing.{IsUnopened};
 ghost use Rattle.standby.specs.Followed.{FollowsOpened, IsAtStage, IsNotOpened, StandsBehind, StandsForEither};
 ghost use Rattle.standby.specs.Fronts.{FrontJudged};
-ghost use Rattle.standby.specs.Readers.{ahead};
 ghost use Rattle.standby.specs.Stages.{FollowsHeld, FollowsSource, Reaches, StopsPayload, StopsTaking, Takes};
 ghost use Rattle.standby.specs.Stages.{TakesPayload, stage};
 ghost use Rattle.standby.specs.Waiting.{IsKeptBy, IsUnchanged, IsUnkept, StandsUpTo, TakesOn, TakesUpTo, WaitsAt};

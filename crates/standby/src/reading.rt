@@ -1,5 +1,5 @@
 //! The frames of a stream, read one by one.
-ghost use Rattle.std.specs.Prelude.{◌≡◌, ◌∷◌, [], ◌+◌, ◌<◌, ◌≤◌, ℕ, List, length, Option, IfErr, IfOk, IsTrue, false};
+ghost use Rattle.std.specs.Prelude.{◌≡◌, ◌∷◌, [], ◌+◌, ◌<◌, ℕ, List, length, Option, IfErr, IfOk, IsTrue, false};
 ghost use Rattle.std.specs.Prelude.{OnOk, MatchResult};
 ghost use Rattle.standby.specs.Endings.{FollowEnd};
 ghost use Rattle.standby.specs.Frames.{EndsThere, IsLength, ReadsFirst, ReadsFrame, StopsFrame, head_bytes};

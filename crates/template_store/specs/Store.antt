@@ -1,5 +1,5 @@
 -- The library of the imports, and what an import adds to it.
-use Rattle.std.specs.Prelude.{◌≡◌, ℕ, ◌==◌, ◌^◌, ◌≤◌, ◌&&◌, Bool, true, false, Result, Ok, Err, Option, List, ◌++◌}
+use Rattle.std.specs.Prelude.{◌≡◌, ℕ, ◌==◌, ◌&&◌, Bool, true, false, Result, Ok, Err, Option, List, ◌++◌}
 use Rattle.std.specs.Prelude.{length, position, bytes_eq}
 use Rattle.flow_model.specs.declared.graphs.Library.{Library}
 use Rattle.template_check.specs.Built.{AreSoundBehind}

@@ -1,5 +1,5 @@
 //! The imports so far.
-ghost use Rattle.std.specs.Prelude.{◌≡◌, ◌-◌, ◌^◌, ◌<◌, ◌≤◌, ◌+◌, [], ◌++◌, min, length, slice_get, option_copied};
+ghost use Rattle.std.specs.Prelude.{◌≡◌, ◌-◌, ◌^◌, ◌<◌, ◌+◌, [], ◌++◌, min, length, slice_get, option_copied};
 ghost use Rattle.std.specs.Prelude.{Some, OnOk, IfOk, IfSome, ◌==◌, ◌&&◌, position, bytes_eq, true};
 ghost use Rattle.template_check.specs.Built.{AreSound};
 ghost use Rattle.template_check.specs.Judged.{IsJudged};

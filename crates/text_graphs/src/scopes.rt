@@ -1,5 +1,5 @@
 //! The graphs of a text: its processes, and the blocks in them.
-ghost use Rattle.std.specs.Prelude.{◌≡◌, ℕ, ◌<◌, ◌≤◌, map, bytes_eq, IfOk, OnOk, option_copied, length, slice_get};
+ghost use Rattle.std.specs.Prelude.{◌≡◌, ◌<◌, ◌≤◌, map, IfOk, option_copied};
 ghost use Rattle.text_graphs.specs.Texts.{activities_in, controls_in, lines_in, number_in, activity_named, pair_of};
 ghost use Rattle.text_graphs.specs.Texts.{AreNumbered};
 ghost use Rattle.text_graphs.specs.GraphEdges.{AreEdgesOf};

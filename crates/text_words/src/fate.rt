@@ -4,7 +4,7 @@ ghost use Rattle.std.specs.Prelude.{unwrap_or, IfOk, OnOk};
 ghost use Rattle.std.specs.List.{flat_map};
 ghost use Rattle.reply_text.specs.Replies.{row_text};
 ghost use Rattle.template_check.specs.Built.{AreSound};
-ghost use Rattle.text_words.specs.Answers.{Refuses, RefusesRule, Tells};
+ghost use Rattle.text_words.specs.Answers.{Refuses, Tells};
 ghost use Rattle.text_words.specs.FateAnswers.{state_word, counted, complete_text, output_text, fates_text};
 ghost use Rattle.text_words.specs.FateAnswers.{RefusesLine, TellsFates, IsOfLast, AnswersLibrary, AnswersText};
 ghost use Rattle.text_words.specs.Completions.{AreOfOne};

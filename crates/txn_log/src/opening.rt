@@ -1,7 +1,7 @@
 //! A store opened and made.
-ghost use Rattle.std.specs.Prelude.{◌≡◌, ℕ, ◌<◌, ◌≤◌, [], OnOk, IfOk, IfErr, Ok, Err, length, ◌^◌, true};
+ghost use Rattle.std.specs.Prelude.{◌≡◌, ◌<◌, ◌≤◌, [], OnOk, IfOk, IfErr, Ok, Err, length, ◌^◌, true};
 ghost use Rattle.flow_disk.specs.Causes.{HasCause};
-ghost use Rattle.flow_disk.specs.Images.{Image, bytes_in, opposite};
+ghost use Rattle.flow_disk.specs.Images.{bytes_in};
 ghost use Rattle.flow_disk.specs.Moments.{LeavesOnly, Only, Within};
 ghost use Rattle.txn_log.specs.Causes.{IsCause, IsOutside, UnlessFault};
 ghost use Rattle.txn_log.specs.Opening.{HasRecords, IsChosen, IsMakeRefusal, IsOpened, IsRefusal, IsStanding, MayBeMade, MayBeNew, first_header};
@@ -10,7 +10,7 @@ ghost use Rattle.txn_log.specs.Standing.{IsAt, StandsOn};
 ghost use Rattle.txn_log.specs.Steps.{Stands, StandsOrUnmade};
 ghost use Rattle.txn_log.specs.Stored.{Good, InRange, IsGoodState, Unmade, slot_state};
 ghost use Rattle.txn_log.specs.Stores.{Counts, NoStore, store_of};
-ghost use Rattle.txn_log.specs.declared.stops.LogStop.TheVariants.{NoMemory, StoreFault};
+ghost use Rattle.txn_log.specs.declared.stops.LogStop.TheVariants.{StoreFault};
 
 use crate::choosing::choose_by;
 use crate::chosen::Chosen;

@@ -1,5 +1,5 @@
 //! The bytes of a slot, read whole.
-ghost use Rattle.std.specs.Prelude.{◌≡◌, ℕ, ◌+◌, ◌<◌, ◌≤◌, List, [], ◌∷◌, ◌++◌, length, take, drop, IfOk, OnOk, IfErr, vec_len};
+ghost use Rattle.std.specs.Prelude.{◌≡◌, ◌<◌, length, IfOk, IfErr, vec_len};
 ghost use Rattle.flow_disk.specs.Images.{bytes_in};
 ghost use Rattle.flow_disk.specs.Moments.{Within, Elapses};
 ghost use Rattle.txn_log.specs.Causes.{IsCause, IsOutside};

@@ -1,7 +1,7 @@
 //! The steps in which a slot is written, of a few device calls each.
-ghost use Rattle.std.specs.Prelude.{◌≢◌, MatchOption, IfOk, slice_index, ◌≡◌, ◌⊎◌, ℕ, ◌+◌, ◌<◌, ◌≤◌, ◌^◌, List, [], ◌∷◌, ◌++◌, length, take, OnOk, OnErr};
+ghost use Rattle.std.specs.Prelude.{◌≢◌, MatchOption, IfOk, slice_index, ◌≡◌, ◌⊎◌, ℕ, ◌+◌, ◌<◌, ◌≤◌, ◌^◌, List, [], ◌∷◌, ◌++◌, length, take, OnOk};
 ghost use Rattle.flow_disk.specs.Causes.{HasCause};
-ghost use Rattle.flow_disk.specs.Images.{Image, bytes_in, put_in, opposite, spliced};
+ghost use Rattle.flow_disk.specs.Images.{bytes_in, put_in, opposite, spliced};
 ghost use Rattle.flow_disk.specs.Moments.{Only, LeavesOnly, Within};
 ghost use Rattle.txn_log.specs.Steps.{Begins, IsStaged, record_bytes, GateDiffers, WithOrWithout, With, IsGoodTo, IsShut, HasBody, Stands, StandsOrUnmade, IsOurs};
 ghost use Rattle.txn_log.specs.Stored.{Unmade, Good, InRange, slot_state};

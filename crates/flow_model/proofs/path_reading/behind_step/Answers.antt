@@ -1,4 +1,4 @@
-use Rattle.std.proofs.Common.{◌≡◌, ◌++◌, ℕ, List, ap, ◌∙◌}
+use Rattle.std.proofs.Common.{◌++◌, ℕ, List, ap, ◌∙◌}
 use Rattle.flow_model.proofs.Spelled.{behind_digits, no_mark}
 use Rattle.flow_model.proofs.path_reading.behind_step.Goals as goal
 

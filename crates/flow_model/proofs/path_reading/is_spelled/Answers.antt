@@ -1,4 +1,4 @@
-use Rattle.std.proofs.Common.{◌≡◌, ◌+◌, ◌∷◌, List, [], drop, decimal, sym, subst, arith}
+use Rattle.std.proofs.Common.{◌+◌, List, drop, decimal, sym, subst}
 use Rattle.std.proofs.lemmas.Bool.{false≢true}
 use Rattle.std.proofs.Math.ListN.{drop_of_length-le}
 use Rattle.flow_model.specs.Paths.{spelling, parts_spelling}

@@ -1,4 +1,4 @@
-use Rattle.std.proofs.Common.{◌≡◌, drop}
+use Rattle.std.proofs.Common.{drop}
 use Rattle.flow_model.specs.Paths.{spelling}
 use Rattle.flow_model.proofs.Spelled.{IsLeftOf}
 use Rattle.flow_model.proofs.path_reading.is_spelled.Given as goal

@@ -1,4 +1,4 @@
-use Rattle.std.proofs.Common.{◌+◌, ◌<◌, min, length, refl, sym, ◌∙◌, arith}
+use Rattle.std.proofs.Common.{◌+◌, ◌<◌, length, refl, sym, ◌∙◌, arith}
 use Rattle.flow_model.specs.LeafRows.{place_steps}
 use Rattle.leaf_rules.proofs.Rowing.{below_more, below_all, none_within}
 use Rattle.leaf_rules.proofs.rows.add_below.Goals.{in-Some+in_ok-add_row, in_default}
