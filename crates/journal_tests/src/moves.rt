@@ -153,6 +153,7 @@ fn a_starved_move_leaves_the_store_where_it_stood(rt: HostRuntime) -> Result<(),
 fn a_store_goes_on_after_a_starved_move(rt: HostRuntime) -> Result<(), Fail> {
     let mut disk = starved(&rt)?;
     let mut opened = Log::reopen(rt.alloc(), &mut disk)?;
+    assert_eq!(rt; opened.records.len(), 1);
     opened.log.append(&mut disk, &CLOCK)?;
     assert_eq!(rt; moves(&rt, &mut disk, 2)?, true);
     assert_eq!(rt; found(rt.alloc(), &mut disk)?, (Slot::B, 2));
