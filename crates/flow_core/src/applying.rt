@@ -211,7 +211,8 @@ impl Core {
         requires { IsFaultless self.old.store text.now }
         ensures kept { noted self.new ≡ noted self.old }
         ensures rest { self.new ≡ record self.old { store = self.new.store } }
-        ensures library { OnOk result (TemplatesAfter (made.Import text.now) (templates self.old) (templates self.new)) }
+        ensures library { OnOk result (TemplatesAfter (made.Import text.now) (templates self.old)
+            (templates self.new)) }
         ensures shelves { SameStanding (stands self.new) (stands self.old) }
         ensures note { IfOk result (IsNoteOf self.old (made.Import text.now) self.new) }
         ensures clock { OnOk result (self.new.clock ≡ self.old.clock) }
