@@ -2,7 +2,7 @@
 """Proves and compiles the program: the crates that `flow_cli` stands on, by `rt ci` in a copy without the must-fail edits.
 
 Prints a line as each crate is proved, and every half minute which ones are being proved, with how many are done and the
-time so far. Each build proves all of them from nothing, as `rt ci` does.
+time so far. What an earlier run of `rt ci` on this machine proved is not proved again where nothing below it changed.
 Usage: build.py
 """
 import os
@@ -76,10 +76,11 @@ class Progress:
 
     def read(self, line):
         """Takes a line of rt's, and tells where a crate is done."""
-        found = re.match(r"rt: (\w+) proved", line)
+        found = re.match(r"rt: (\w+) (proved|is kept)", line)
         if found and found.group(1) not in self.done:
             self.done.add(found.group(1))
-            self.say(f"proved {found.group(1)}")
+            earlier = " earlier on this machine" if found.group(2) == "is kept" else ""
+            self.say(f"proved {found.group(1)}{earlier}")
 
     def tell_what_is_under_way(self, copy, ended):
         while not ended.wait(HALF_A_MINUTE):
