@@ -117,7 +117,7 @@ pub record HasGiven (ts : List Template) (here : Standing) (x : Placed) (j : ℕ
   pub gave : gives_in ts here x j i ≡ Some out
 
 -- what an attempt of a block or process activity gives
-gives_scope : (ts : List Template) (base : Known) (runs : Runs) (name : Name) (w : Work) (h : Graph) (j : ℕ) (i : Container) → graph_in ts w ≡ Some h
+pub gives_scope : (ts : List Template) (base : Known) (runs : Runs) (name : Name) (w : Work) (h : Graph) (j : ℕ) (i : Container) → graph_in ts w ≡ Some h
     → gives ts (all_of base) runs name w j i ≡ option_map with_return_code (runs (at (part name j) (all_of base)) h i)
 gives_scope ts base runs name (Program x) h j i is = absurd (none-some h is)
 gives_scope ts base runs name (Block g) h j i is = ap (λ k. scope_gives (all_of base) runs k (part name j) i) is

@@ -32,10 +32,10 @@ module _ (exit : Option Expr) (given : ℕ → Option Container) where
             ∙ chain.last n (omega arith)
       ]
 
-  stop_of : (o : Option Container) (out : Container) → o ≡ Some out → holds exit out ≡ true → stops exit o ≡ Some out
+  pub stop_of : (o : Option Container) (out : Container) → o ≡ Some out → holds exit out ≡ true → stops exit o ≡ Some out
   stop_of o out is h = rw (is, h) refl
 
-  go_of : (o : Option Container) (out : Container) → o ≡ Some out → holds exit out ≡ false → goes_on exit o ≡ true
+  pub go_of : (o : Option Container) (out : Container) → o ≡ Some out → holds exit out ≡ false → goes_on exit o ≡ true
   go_of o out is h = rw (is, h) refl
 
 module _ (gives : Gives) (t : Trial) (given : ℕ → Option Container) (most : ℕ)
@@ -127,3 +127,25 @@ tries_few gives t (suc n) j i = by_output (gives j i) refl (λ o. tries_few give
         → length (tries (suc n) gives t j i) ≤ suc n
     by_output None is rest = rw is (omega arith)
     by_output (Some o) is rest = on_exit o is (holds t.exit o) refl (rest o)
+
+-- ---- attempts one by one
+
+module _ (gives : Gives) (t : Trial) (n j : ℕ) (i : Container) where
+  pub tries_none : gives j i ≡ None → tries (suc n) gives t j i ≡ []
+  tries_none is = rw is refl
+
+  pub tries_one : (o : Container) → gives j i ≡ Some o → holds t.exit o ≡ true → tries (suc n) gives t j i ≡ o ∷ []
+  tries_one o is closes = rw (is, closes) refl
+
+  pub tries_more : (o : Container) → gives j i ≡ Some o → holds t.exit o ≡ false → tries (suc n) gives t j i ≡ o ∷ tries n gives t (j + 1) (t.loops o)
+  tries_more o is goes = rw (is, goes) refl
+
+-- where attempts give nothing, there is no output
+pub no_tries : (gives : Gives) (t : Trial) (n j : ℕ) (i : Container) → gives j i ≡ None → tries n gives t j i ≡ []
+no_tries gives t zero j i is = refl
+no_tries gives t (suc n) j i is = tries_none gives t n j i is
+
+-- behind an attempt that isn't the last, there is another
+pub some_rest : (exit : Option Expr) (o out : Container) (os : List Container) → last_or (Some o) os ≡ Some out → holds exit o ≡ false → holds exit out ≡ true → 0 < length os
+some_rest exit o out [] last goes closes = absurd (false≢true (sym goes ∙ ap (holds exit) (same_Some o out last) ∙ closes))
+some_rest exit o out (x ∷ os) last goes closes = omega arith

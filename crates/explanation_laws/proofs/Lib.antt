@@ -1,7 +1,14 @@
--- Lists is about lists, Lines about justified lines one behind the other, Attempts about the attempts of a program,
--- Walks about the lines of one scope, Scopes about scopes that have begun and the root.
+-- Lists is about lists, Names about the activity of a name and paths one step down, Lines about justified lines one behind the other, Longer about
+-- lines that go on, Attempts about attempts one after the other. Tries has the lines of a block or process activity, Walks those of one scope,
+-- Scopes those of all scopes, from the root down. Rows says of which activity a row is, and Exact puts them together. Example is a computed root of which the laws speak.
 pub mod Lists
+pub mod Names
 pub mod Lines
+pub mod Longer
 pub mod Attempts
+pub mod Tries
 pub mod Walks
 pub mod Scopes
+pub mod Rows
+pub mod Exact
+mod Example

@@ -1,23 +1,14 @@
--- The lines of one scope: along the order of its activities, one for each that is settled.
-use Rattle.std.proofs.Common.{◌≡◌, ℕ, zero, suc, ◌<◌, ◌≤◌, ◌==◌, Bool, true, false, if◌then◌else◌, List, [], ◌∷◌, ◌++◌, length, length-append, take, ◌-◌, ◌&&◌, Option, Some, None, refl, sym, ap, subst, ◌∙◌, arith, inl, inr, get_or}
-use Rattle.std.specs.Prelude.{option_map, option_and_then, is_some, unwrap_or, slice_get, slice_set, slice_index, position, bytes_eq, nat_lt, ◌^◌}
-use Rattle.std.specs.List.{All, last_or, list_all, position_or_len}
-use Rattle.std.specs.Option.{option_or}
-use Rattle.std.proofs.lemmas.Bool.{cases_lt, cond-false, cond-true, false≢true}
-use Rattle.std.proofs.lemmas.Bool.Decides.{eqb_tells, leb_tells}
-use Rattle.std.proofs.lemmas.List.{length-set}
-use Rattle.std.proofs.lemmas.List.Sums.{position_or_len_is}
-use Rattle.std.proofs.lemmas.Option.{slice_get-get_or, slice_get_within, get_or_from_slice_get, same_Some, slice_get_past}
-use Rattle.std.proofs.lemmas.Slice.Eq.{bytes_eq-Decides}
-use Rattle.std.proofs.Math.Path.{fun_ext}
-use Rattle.std.proofs.Math.Seq.{take-append_seam}
-use Rattle.std.proofs.lemmas.List.Elements.{All-append}
+-- The lines of one scope: along the order of its activities, those of the scopes inside it, and one for each activity that is settled.
+use Rattle.std.proofs.Common.{◌≡◌, ℕ, zero, suc, ◌<◌, ◌≤◌, ◌==◌, Bool, true, false, List, [], ◌∷◌, ◌++◌, length, Option, Some, None, refl, sym, ap, subst, ◌∙◌, arith, inl, inr}
+use Rattle.std.specs.Prelude.{option_map, option_and_then, is_none, unwrap_or, slice_get, slice_set, slice_index, ◌^◌}
+use Rattle.std.specs.List.{last_or}
+use Rattle.std.proofs.lemmas.Bool.{cases_lt, cond-true, false≢true}
+use Rattle.std.proofs.lemmas.Option.{none-some, same_Some, slice_get_within, slice_get_past}
 use Rattle.flow_model.specs.declared.graphs.Activity.{Activity}
 use Rattle.flow_model.specs.declared.graphs.Container.{Container}
 use Rattle.flow_model.specs.declared.graphs.Graph.{Graph, out-Graph}
 use Rattle.flow_model.specs.declared.graphs.Program.{Program as ProgramWork}
-use Rattle.flow_model.specs.declared.graphs.Template.{Template}
-use Rattle.flow_model.specs.declared.graphs.Work.{Work, Program}
+use Rattle.flow_model.specs.declared.graphs.Work.{Work, Program, Block, Process}
 use Rattle.flow_model.specs.declared.instances.Fate.{Fate}
 use Rattle.flow_model.specs.declared.instances.Fate.TheVariants as fate
 use Rattle.flow_model.specs.declared.instances.Path.{Path}
@@ -25,476 +16,419 @@ use Rattle.flow_model.specs.declared.instances.SourceEnd.{SourceEnd}
 use Rattle.flow_model.specs.declared.instances.SourceEnd.TheVariants as end
 use Rattle.flow_model.specs.Conditions.{holds}
 use Rattle.flow_model.specs.Fates.{Ends, is_open, is_settled, joined}
-use Rattle.flow_model.specs.Paths.{spelling}
 use Rattle.flow_model.specs.Rows.{below}
-use Rattle.flow_model.specs.ScopeContainers.{base_of, fed, graph_in, is_complete}
-use Rattle.flow_model.specs.Scopes.{Known, all_of, is_fed, part, gives, trial, output, tree_ends, tree_fate}
-use Rattle.flow_model.specs.declared.instances.Part.{Part}
-use Rattle.flow_model.specs.Containers.{fresh, with_return_code}
-use Rattle.flow_model.specs.declared.graphs.MapEnd.TheVariants.{Border}
+use Rattle.flow_model.specs.ScopeContainers.{base_of, graph_in}
+use Rattle.flow_model.specs.Scopes.{Known, all_of, gives, is_fed, output, part, scope_gives, trial}
 use Rattle.blocks_subprocs.specs.Ends.{ends_of}
-use Rattle.fate_laws.specs.Equations.{IsEnd, IsFate, Solves, join_of, outputs_of}
+use Rattle.fate_laws.specs.Equations.{IsEnd, IsFate, Solves, join_of, outputs_of, values_into}
 use Rattle.fate_laws.specs.WellFormed.{Well}
-use Rattle.fate_laws.proofs.Extends.{Extends, and_true, both_true}
+use Rattle.fate_laws.proofs.Extends.{Extends, both_true}
+use Rattle.fate_laws.proofs.Forward.{SameControls, SameLines, is_fed_same, values_same}
+use Rattle.fate_laws.proofs.Solutions.{HasOrder, activity_at as activity_in, order_of, settled_inside}
 use Rattle.fate_laws.proofs.Stays.{unsettled_past}
-use Rattle.fate_laws.proofs.Forward.{SameControls, values_same}
-use Rattle.fate_laws.proofs.Solutions.{HasOrder, order_of, activity_at as activity_in}
-use Rattle.certificates.proofs.Laid.{stands}
+use Rattle.fate_laws.proofs.Wired.{fed_where_known, known_values}
 use Rattle.certificates.specs.declared.lines.CertLine.{CertLine}
-use Rattle.certificates.specs.declared.lines.CertLine.TheVariants.{Scope, Dead, Finished, Ended}
-use Rattle.certificates.specs.Justified.{told, AreJustified}
-use Rattle.certificates.specs.Told.{Basis, Told, Opened, Placed, opened, with_end, with_output, scope_gives, same_path, beginning, changed, accepted, activity_at, join_in, joined_at, is_known, placed, gave, final, final_at, begins_as, inner_begins, first_input, first_start, attempt_start, start, is_active, last_part, outer, taken}
-use Rattle.certificate_laws.specs.Standings.{Standing, ends_in}
-use Rattle.certificate_laws.specs.Right.{AreOwn, IsLineRead, IsRead}
-use Rattle.certificate_laws.proofs.Told.{all_in}
+use Rattle.certificates.specs.declared.lines.CertLine.TheVariants.{Dead, Finished}
+use Rattle.certificates.specs.Justified.{told}
+use Rattle.certificates.specs.Told.{Basis, Opened, Placed, Told, accepted, changed, final, final_at, gave, is_active, is_known, join_in, joined_at, root_graph, same_path, taken, with_end}
+use Rattle.certificates.proofs.Growth.{Grows}
+use Rattle.certificate_laws.specs.Right.{AreOwn, IsLineRead, IsRead, root_in}
+use Rattle.certificate_laws.specs.Standings.{Standing, ends_in, fate_in}
 use Rattle.certificate_laws.proofs.Lines.{below_read}
-use Rattle.certificate_laws.proofs.Scopes.{standing_of, RightAt, solves}
+use Rattle.certificate_laws.proofs.Scopes.{RightAt, solves, standing_of}
 use Rattle.certificate_laws.proofs.Spellings.{accepted_is}
-use Rattle.explanation_laws.specs.Certified.{HasCertificate, IsCertified, HasReadActivities, OnlyProgramsFinished}
-use Rattle.explanation_laws.proofs.Attempts.{chain_final, tries_chain, tries_few, some_last}
-use Rattle.explanation_laws.proofs.Lines.{told_more, justified_more}
-use Rattle.explanation_laws.proofs.Lists.{all_settled, at_end, set_cases, set_here}
-
--- ---- tests that pass
-
-pub same_number : (n : ℕ) → (n == n) ≡ true
-same_number n = elim (eqb_tells n n) [ inl is ↦ is.0 | inr other ↦ absurd (other.1 refl) ]
-
-is_less : (a n : ℕ) → a < n → nat_lt a n ≡ true
-is_less a n h = elim (leb_tells (suc a) n) [ inl is ↦ is.0 | inr other ↦ absurd (omega (arith, h, other.1)) ]
-
-pub same_itself : (p : Path) → same_path p p ≡ true
-same_itself p = (bytes_eq-Decides (spelling p) (spelling p)).1 refl
-
-known_as : (v : Bool) (o : Option Bool) → o ≡ Some v → is_known v o ≡ true
-known_as true o is = ap (is_known true) is
-known_as false o is = ap (is_known false) is
-
--- ---- the activity of a name
-
--- no name stands twice
-named_once : (ts : List Template) (depth : ℕ) (g : Graph) → Well ts depth g → (a c : ℕ) (x y : Activity)
-    → slice_get (out-Graph g).activities a ≡ Some x → slice_get (out-Graph g).activities c ≡ Some y → x.name ≡ y.name → a ≡ c
-named_once ts zero g well = well.named
-named_once ts (suc depth) g well = well.named
-
-module _ (ts : List Template) (depth : ℕ) (g : Graph) (well : Well ts depth g) (acts : HasReadActivities g) (a : ℕ) (x : Activity)
-    (is : slice_get (out-Graph g).activities a ≡ Some x) where
-  abbrev pub here : Placed
-  here = record { place = a; activity = x }
-
-  abbrev test : Activity → Bool
-  test y = bytes_eq y.name x.name
-
-  inside : a < length (out-Graph g).activities
-  inside = slice_get_within (out-Graph g).activities a x is
-
-  other : (k : ℕ) → k < a → test (get_or (out-Graph g).activities k x) ≡ false
-  other k less = by_test (test (get_or (out-Graph g).activities k x)) refl
-    where
-      by_test : (v : Bool) → test (get_or (out-Graph g).activities k x) ≡ v → test (get_or (out-Graph g).activities k x) ≡ false
-      by_test false e = e
-      by_test true e =
-          let y = get_or (out-Graph g).activities k x in
-          let there = slice_get-get_or (out-Graph g).activities k x (omega (arith, less, inside)) in
-          let same : k ≡ a = named_once ts depth g well k a y x there is ((bytes_eq-Decides y.name x.name).0 e) in
-          absurd (omega (arith, same, less))
-
-  first_place : position_or_len test (out-Graph g).activities ≡ a
-  first_place =
-      position_or_len_is test (out-Graph g).activities a x (omega (arith, inside)) other
-      (λ less. ap test (get_or_from_slice_get (out-Graph g).activities a x x is) ∙ (bytes_eq-Decides x.name x.name).1 refl)
-
-  found : position test (out-Graph g).activities ≡ Some a
-  found =
-      cond-true (nat_lt (position_or_len test (out-Graph g).activities) (length (out-Graph g).activities)) _ None
-      (ap (λ (k : ℕ). nat_lt k (length (out-Graph g).activities)) first_place ∙ is_less a (length (out-Graph g).activities) inside)
-      ∙ ap (λ (k : ℕ). let o : Option ℕ = Some k in o) first_place
-
-  few_enough : a < 2 ^ 32
-  few_enough = let few = acts.few in let less = inside in omega (arith, few, less)
-
-  pub placed_here : activity_at g x.name ≡ Some here
-  placed_here =
-      ap (option_and_then (placed g)) found
-      ∙ cond-true (nat_lt a (2 ^ 32)) _ None (is_less a (2 ^ 32) few_enough)
-      ∙ ap (option_map (λ (y : Activity). let r : Placed = record { place = a; activity = y } in r)) is
-
-  -- it is found by its name where its join is known
-  pub joined_here : (v : Bool) (s : Opened) → s.graph ≡ g → join_in s here ≡ Some v → joined_at v x.name s ≡ Some here
-  joined_here v s graph join =
-      ap (option_and_then (λ (y : Placed). if is_known v (join_in s y) then Some y else None))
-      (ap (λ (h : Graph). activity_at h x.name) graph ∙ placed_here)
-      ∙ cond-true (is_known v (join_in s here)) (Some here) None (known_as v (join_in s here) join)
-
--- ---- paths one step down
-
-last_place : (p : Path) (q : Part) → length (below p q).parts - 1 ≡ length p.parts
-last_place p q = let long = length-append p.parts (q ∷ []) in omega (arith, long)
-
-last_below : (p : Path) (q : Part) → last_part (below p q) ≡ Some q
-last_below p q = ap (slice_get (p.parts ++ q ∷ [])) (last_place p q) ∙ at_end p.parts q
-
-outer_below : (p : Path) (q : Part) → outer (below p q) ≡ p
-outer_below p q =
-    ap (λ (l : List Part). let r : Path = record { root = p.root; parts = l } in r)
-    (ap (λ (n : ℕ). take n (p.parts ++ q ∷ [])) (last_place p q) ∙ take-append_seam p.parts (q ∷ []))
+use Rattle.explanation_laws.specs.Certified.{HasCertificate, HasReadActivities, IsCertified}
+use Rattle.explanation_laws.proofs.Attempts.{chain_final, no_tries, some_last, tries_chain, tries_few}
+use Rattle.explanation_laws.proofs.Lines.{told_more}
+use Rattle.explanation_laws.proofs.Lists.{set_cases, set_here}
+use Rattle.explanation_laws.proofs.Longer.{Good, Longer, Whole, WholeAt, longer_none, longer_on, one_more, right_scope}
+use Rattle.explanation_laws.proofs.Names.{joined_here, known_as, same_itself, same_number}
+use Rattle.explanation_laws.proofs.Tries.{final_told}
 
 -- the join of an activity whose attempts start is true
-open_join : (x : Activity) (v : Option Bool) (outs : List Container) (f : Fate) → IsFate x v outs f → is_open f ≡ true → v ≡ Some true
+pub open_join : (x : Activity) (v : Option Bool) (outs : List Container) (f : Fate) → IsFate x v outs f → is_open f ≡ true → v ≡ Some true
 open_join x v outs fate.Waiting of open_ = absurd (false≢true open_)
 open_join x v outs fate.Dead of open_ = absurd (false≢true open_)
 open_join x v outs (fate.Ready n) of open_ = ((of.ready n).0 refl).0
 open_join x v outs (fate.Running n) of open_ = ((of.running n).0 refl).0
 open_join x v outs (fate.Finished n) of open_ = ((of.finished n).0 refl).0
 
-one_of : {X : Type 0} (P : X → Type 0) (x : X) → P x → All P (x ∷ [])
-one_of P x is zero y less = is
-one_of P x is (suc k) y less = absurd (omega arith)
+-- ends that are told as they are stay so
+still : (e l m : Ends) → Extends l m → Extends m e → (c : ℕ) → l c ≡ e c → m c ≡ e c
+still e l m more kept c is = by_end (m c) refl
+  where
+    unsettled : (t : SourceEnd) → e c ≡ t → m c ≡ end.Unsettled → m c ≡ e c
+    unsettled end.Unsettled ended now_ = now_ ∙ sym ended
+    unsettled end.Dead ended now_ = more.kept c (ap is_settled (is ∙ ended)) ∙ is
+    unsettled (end.Finished out) ended now_ = more.kept c (ap is_settled (is ∙ ended)) ∙ is
 
--- ---- one scope
+    by_end : (t : SourceEnd) → m c ≡ t → m c ≡ e c
+    by_end end.Unsettled now_ = unsettled (e c) refl now_
+    by_end end.Dead now_ = sym (kept.kept c (ap is_settled now_))
+    by_end (end.Finished out) now_ = sym (kept.kept c (ap is_settled now_))
 
-module _ (b : Basis) (most total : ℕ) (root : Standing) (bounded : most < 2 ^ 64) (own : AreOwn most b.root b.facts)
-    (p : Path) (read : IsRead most p) (own_root : p.root ≡ b.root)
-    (before : List CertLine) (start_justified : AreJustified b before (length before)) (start_read : All (IsLineRead total most) before) (s0 : Opened) (begun : told b before p ≡ Some s0)
-    (d : ℕ) (base : Known) (right : RightAt b.templates root b.facts most total p s0 d base)
-    (acts : HasReadActivities s0.graph) (plain : OnlyProgramsFinished s0.graph (ends_in b.templates (standing_of d base s0))) where
-  abbrev g : Graph
-  g = s0.graph
-
+-- of a scope that has begun, such that there are lines for all that lies inside it
+module _ (b : Basis) (g : Graph) (total most : ℕ) (bounded : most < 2 ^ 64) (is_root : root_graph b ≡ Some g) (well : Well b.templates total g)
+    (own : AreOwn most b.root b.facts) (p : Path) (read : IsRead most p) (own_root : p.root ≡ b.root) (d : ℕ)
+    (inside : (m : ℕ) → suc m ≡ d → WholeAt b (root_in b g total most) total most m)
+    (base : Known) (s0 : Opened) (right : RightAt b.templates (root_in b g total most) b.facts most total p s0 d base) (acts : HasReadActivities s0.graph)
+    (before : List CertLine) (good : Good b total most before) (begun : told b before p ≡ Some s0) where
   abbrev known : Known
   known = all_of base
 
+  abbrev st : Standing
+  st = standing_of d base s0
+
   abbrev e : Ends
-  e = tree_ends b.templates d known g s0.input
+  e = ends_in b.templates st
 
   abbrev fates : ℕ → Fate
-  fates = tree_fate b.templates d known g s0.input
+  fates = fate_in b.templates st
 
-  -- the scope with these ends
-  abbrev scope_with : List SourceEnd → Opened
-  scope_with l = record { graph = s0.graph; input = s0.input; ends = l; output = s0.output }
+  solved : Solves b.templates d known s0.graph s0.input fates e
+  solved = solves b.templates d base s0.graph s0.input right.well
 
-  solved : Solves b.templates d known g s0.input fates e
-  solved = solves b.templates d base g s0.input right.well
+  ordered : HasOrder s0.graph
+  ordered = order_of b.templates d s0.graph right.well
 
-  pub ordered : HasOrder g
-  ordered = order_of b.templates d g right.well
+  abbrev place : ℕ → ℕ
+  place j = slice_index ordered.order j
 
   abbrev outs : ℕ → Activity → List Container
-  outs a x = outputs_of b.templates d known g s0.input e a x
+  outs a x = outputs_of b.templates d known s0.graph s0.input e a x
 
   own_line : (p.root == b.root) ≡ true
   own_line = ap (λ (n : ℕ). n == b.root) own_root ∙ same_number b.root
 
-  -- lines that tell how the first activities of the order have ended
-  pub record Walk (count : ℕ) : Type 0 where
-    pub lines : List CertLine
-    pub ends : List SourceEnd
-    pub justified : AreJustified b lines (length lines)
-    pub lines_read : All (IsLineRead total most) lines
-    pub here : told b lines p ≡ Some (scope_with ends)
-    pub long : length ends ≡ length (out-Graph g).activities
-    pub kept : Extends (ends_of ends) e
-    pub passed : (j : ℕ) → j < count → ends_of ends (slice_index ordered.order j) ≡ e (slice_index ordered.order j)
+  -- what such lines tell of the scope
+  record Later (lines : List CertLine) : Type 0 where
+    scope : Opened
+    here : told b lines p ≡ Some scope
+    grown : Grows s0 scope
+    kept : Extends (ends_of scope.ends) e
 
-  first_walk : Walk 0
-  first_walk = record {
-    lines = before;
-    ends = s0.ends;
-    justified = start_justified;
-    lines_read = start_read;
-    here = begun;
-    long = right.long;
-    kept = right.ends;
-    passed = λ j less. absurd (omega (arith, less));
-  }
+  later : (lines : List CertLine) → Longer b total most before lines → Later lines
+  later lines longer =
+      let stays = longer.grow p s0 begun in
+      let r = right_scope b g total most bounded is_root well own lines longer.good p stays.scope read stays.told in
+      let same : standing_of r.depth r.base stays.scope ≡ st = same_Some (standing_of r.depth r.base stays.scope) st (sym r.right.there ∙ right.there) in
+      record {
+        scope = stays.scope;
+        here = stays.told;
+        grown = stays.grows;
+        kept = subst (λ (u : Standing). Extends (ends_of stays.scope.ends) (ends_in b.templates u)) same r.right.ends;
+      }
+
+  -- lines that tell how the first activities of the order have ended
+  record Walk (count : ℕ) : Type 0 where
+    lines : List CertLine
+    longer : Longer b total most before lines
+    passed : (s : Opened) → told b lines p ≡ Some s → (j : ℕ) → j < count → ends_of s.ends (place j) ≡ e (place j)
 
   -- ---- one activity of the order
 
-  module _ (i : ℕ) (less : i < length ordered.order) (w : Walk i) (x : Activity) (is : slice_get (out-Graph g).activities (slice_index ordered.order i) ≡ Some x) where
+  module _ (i : ℕ) (less : i < length ordered.order) (w : Walk i) (x : Activity) (is : slice_get (out-Graph s0.graph).activities (place i) ≡ Some x) where
     abbrev a : ℕ
-    a = slice_index ordered.order i
+    a = place i
 
-    abbrev s : Opened
-    s = scope_with w.ends
+    abbrev placed_x : Placed
+    placed_x = record { place = place i; activity = x }
 
-    fate_of : IsFate x (join_of g e a x) (outs a x) (fates a)
+    fate_of : IsFate x (join_of s0.graph e a x) (outs a x) (fates a)
     fate_of = solved.fate a x is
 
     end_of : IsEnd (fates a) (outs a x) (e a)
     end_of = solved.end a x is
 
-    sources : SameControls (out-Graph g).controls a (ends_of w.ends) e
-    sources n d h to = let source = ordered.flow.ordered.forward i less n d h to in rw source.2 at (w.passed source.0 source.1)
+    -- behind the lines of the activities before it
+    module _ (lines : List CertLine) (more : Longer b total most w.lines lines) where
+      all_more : Longer b total most before lines
+      all_more = longer_on b total most before w.lines lines w.longer more
 
-    join_told : join_of g (ends_of w.ends) a x ≡ join_of g e a x
-    join_told = ap (joined x.join) (values_same known (out-Graph g).controls (ends_of w.ends) e a (out-Graph g).controls sources)
+      now : Later lines
+      now = later lines all_more
 
-    x_here : Placed
-    x_here = record { place = a; activity = x }
+      passed_now : (j : ℕ) → j < i → ends_of now.scope.ends (place j) ≡ e (place j)
+      passed_now j earlier =
+          let was = later w.lines w.longer in
+          let stays = more.grow p was.scope was.here in
+          let same : stays.scope ≡ now.scope = same_Some stays.scope now.scope (sym stays.told ∙ now.here) in
+          subst (λ (u : Opened). ends_of u.ends (place j) ≡ e (place j)) same
+          (still e (ends_of was.scope.ends) (ends_of stays.scope.ends) stays.grows.ends (subst (λ (u : Opened). Extends (ends_of u.ends) e) (sym same) now.kept) (place j)
+          (w.passed was.scope was.here j earlier))
 
-    joined_told : (v : Bool) → join_of g e a x ≡ Some v → option_and_then (joined_at v x.name) (told b w.lines p) ≡ Some (record { place = a; activity = x })
-    joined_told v join =
-        ap (option_and_then (joined_at v x.name)) w.here
-        ∙ joined_here b.templates d g right.well acts a x is v s refl (join_told ∙ join)
+      sources : SameControls (out-Graph s0.graph).controls a (ends_of now.scope.ends) e
+      sources n c h to = let source = ordered.flow.ordered.forward i less n c h to in rw source.2 at (passed_now source.0 source.1)
 
-    abbrev ended_as : SourceEnd → Told
-    ended_as end_ = changed (told b w.lines) p (with_end a end_)
+      feeding : SameLines (out-Graph s0.graph).lines a (ends_of now.scope.ends) e
+      feeding n l h to c from_ = let source = ordered.flow.fed i less n l h to c from_ in rw source.2 at (passed_now source.0 source.1)
 
-    dead_taken : fates a ≡ fate.Dead → taken b (told b w.lines) (Dead p x.name) ≡ Some (ended_as end.Dead)
-    dead_taken dead =
-        cond-true (p.root == b.root) _ None own_line
-        ∙ ap (option_map (λ (y : Placed). changed (told b w.lines) p (with_end y.place end.Dead))) (joined_told false (fate_of.dead.0 dead))
+      join_told : join_in now.scope placed_x ≡ join_of s0.graph e a x
+      join_told =
+          ap (λ (k : Graph). join_of k (ends_of now.scope.ends) a x) now.grown.graph
+          ∙ ap (joined x.join) (values_same known (out-Graph s0.graph).controls (ends_of now.scope.ends) e a (out-Graph s0.graph).controls sources)
 
-    -- what an attempt of a program gives
-    module _ (program : ProgramWork) (runs : x.work ≡ Program program) where
-      abbrev given : ℕ → Option Container
-      given j = accepted b.facts (below p (part x.name j))
+      joined_told : (v : Bool) → join_of s0.graph e a x ≡ Some v → option_and_then (joined_at v x.name) (told b lines p) ≡ Some placed_x
+      joined_told v join =
+          ap (option_and_then (joined_at v x.name)) now.here
+          ∙ joined_here b.templates d s0.graph right.well acts a x is v now.scope now.grown.graph (join_told ∙ join)
 
-      gives_given : (j : ℕ) (input : Container) → 1 ≤ j → j ≤ most
-          → gives b.templates known (output b.templates d) x.name x.work j input ≡ given j
-      gives_given j input pos le =
-          ap (λ (work : Work). gives b.templates known (output b.templates d) x.name work j input) runs
-          ∙ right.given (part x.name j ∷ [])
-          ∙ sym (accepted_is most bounded b.root (below p (part x.name j)) (below_read most p x.name j bounded read (acts.named a x is) pos le) own_root b.facts own)
+      active_told : join_of s0.graph e a x ≡ Some true → is_fed (out-Graph s0.graph).lines a e ≡ true → is_active now.scope placed_x ≡ true
+      active_told join fed_ =
+          both_true (is_known true (join_in now.scope placed_x)) (is_fed (out-Graph now.scope.graph).lines a (ends_of now.scope.ends))
+          (known_as true (join_in now.scope placed_x) (join_told ∙ join))
+          (ap (λ (k : Graph). is_fed (out-Graph k).lines a (ends_of now.scope.ends)) now.grown.graph
+          ∙ is_fed_same (out-Graph s0.graph).lines a (ends_of now.scope.ends) e feeding ∙ fed_)
 
-      final_told : (out : Container) → last_or None (outs a x) ≡ Some out → holds x.exit out ≡ true
-          → final x.exit given (length (outs a x)) ≡ Some out
-      final_told out last closes =
-          let first = base_of g x a s0.input e in
-          let bound = right.bound in
-          chain_final x.exit given (length (outs a x)) out (some_last (outs a x) out last)
-          (tries_chain (gives b.templates known (output b.templates d) x.name x.work) (trial g a x first) given most gives_given
-          base.most 1 first out None (omega arith) (omega (arith, bound)) (some_last (outs a x) out last) last closes)
+      abbrev ended_as : SourceEnd → Told
+      ended_as end_ = changed (told b lines) p (with_end a end_)
 
-      final_here : (t : Told) (n : ℕ) (out : Container) → length (outs a x) ≡ n → last_or None (outs a x) ≡ Some out → holds x.exit out ≡ true
-          → final_at b t p n (record { place = a; activity = x }) ≡ Some out
-      final_here t n out long last closes =
-          ap (λ (work : Work). final x.exit (gave b t p x.name work) n) runs
-          ∙ ap (final x.exit given) (sym long)
-          ∙ final_told out last closes
+      dead_taken : fates a ≡ fate.Dead → taken b (told b lines) (Dead p x.name) ≡ Some (ended_as end.Dead)
+      dead_taken dead =
+          cond-true (p.root == b.root) _ None own_line
+          ∙ ap (option_map (λ (y : Placed). changed (told b lines) p (with_end y.place end.Dead))) (joined_told false (fate_of.dead.0 dead))
 
-    finished_taken : (n : ℕ) (out : Container) → fates a ≡ fate.Finished n → e a ≡ end.Finished out
-        → taken b (told b w.lines) (Finished p x.name n) ≡ Some (ended_as (end.Finished out))
-    finished_taken n out finished ended =
-        let parts = (fate_of.finished n).0 finished in
-        let program = plain a x is (out, ended) in
-        let last = ((end_of.finished out).0 ended).2 in
-        let same : parts.2 ≡ out = same_Some parts.2 out (sym parts.3 ∙ last) in
-        cond-true (p.root == b.root) _ None own_line
-        ∙ ap (option_and_then (λ (y : Placed). option_map (λ (o : Container). changed (told b w.lines) p (with_end y.place (end.Finished o))) (final_at b (told b w.lines) p n y)))
-        (joined_told true parts.0)
-        ∙ ap (option_map (λ (o : Container). changed (told b w.lines) p (with_end a (end.Finished o))))
-        (final_here program.0 program.1 (told b w.lines) n out parts.1 last (ap (holds x.exit) (sym same) ∙ parts.4))
+      finished_taken : (n : ℕ) (out : Container) → join_of s0.graph e a x ≡ Some true → final_at b (told b lines) p n placed_x ≡ Some out
+          → taken b (told b lines) (Finished p x.name n) ≡ Some (ended_as (end.Finished out))
+      finished_taken n out join is_final =
+          cond-true (p.root == b.root) _ None own_line
+          ∙ ap (option_and_then (λ (y : Placed). option_map (λ (o : Container). changed (told b lines) p (with_end y.place (end.Finished o))) (final_at b (told b lines) p n y)))
+          (joined_told true join)
+          ∙ ap (option_map (λ (o : Container). changed (told b lines) p (with_end a (end.Finished o)))) is_final
+
+      inside_ends : a < length now.scope.ends
+      inside_ends =
+          let within = slice_get_within (out-Graph s0.graph).activities a x is in
+          let long = right.long in
+          let same = now.grown.long in
+          omega (arith, within, long, same)
+
+      -- the walk with a line more
+      walk_on : (line : CertLine) → IsLineRead total most line → (end_ : SourceEnd) → e a ≡ end_ → taken b (told b lines) line ≡ Some (ended_as end_) → Walk (suc i)
+      walk_on line line_read end_ ended takes =
+          let one = one_more b total most lines more.good line line_read (ended_as end_) takes in
+          record {
+            lines = lines ++ line ∷ [];
+            longer = longer_on b total most before lines (lines ++ line ∷ []) all_more one;
+            passed = λ s is_told j before_. subst (λ (u : Opened). ends_of u.ends (place j) ≡ e (place j)) (same_Some (with_end a end_ now.scope) s (sym told_now ∙ is_told)) (ended_at j before_);
+          }
+        where
+          told_now : told b (lines ++ line ∷ []) p ≡ Some (with_end a end_ now.scope)
+          told_now =
+              ap (λ (t : Told). t p) (told_more b lines line (ended_as end_) takes)
+              ∙ cond-true (same_path p p) (option_map (with_end a end_) (told b lines p)) (told b lines p) (same_itself p)
+              ∙ ap (option_map (with_end a end_)) now.here
+
+          ended_at : (j : ℕ) → j < suc i → ends_of (slice_set now.scope.ends a end_) (place j) ≡ e (place j)
+          ended_at j before_ = elim (cases_lt j i) [
+            | inl earlier ↦ elim (set_cases now.scope.ends a (place j) end_) [
+              | inl changed_ ↦ changed_.1 ∙ sym ended ∙ sym (ap e changed_.0)
+              | inr same ↦ same ∙ passed_now j earlier
+            ]
+            | inr last ↦
+                let at_i : j ≡ i = omega (arith, before_, last) in
+                ap (λ (k : ℕ). ends_of (slice_set now.scope.ends a end_) (place k)) at_i
+                ∙ set_here now.scope.ends a end_ inside_ends ∙ sym ended ∙ ap (λ (k : ℕ). e (place k)) (sym at_i)
+          ]
+
+    -- ---- the line of the activity
+
+    -- a line that tells how it has ended follows, behind lines of scopes inside
+    record LineFollows (line : CertLine) (end_ : SourceEnd) : Type 0 where
+      lines : List CertLine
+      more : Longer b total most w.lines lines
+      takes : taken b (told b lines) line ≡ Some (changed (told b lines) p (with_end a end_))
+
+    own_walk : Longer b total most w.lines w.lines
+    own_walk = longer_none b total most w.lines w.longer.good
+
+    dead_follows : fates a ≡ fate.Dead → LineFollows (Dead p x.name) end.Dead
+    dead_follows dead = record { lines = w.lines; more = own_walk; takes = dead_taken w.lines own_walk dead }
+
+    module _ (n : ℕ) (out : Container) (finished : fates a ≡ fate.Finished n) (ended : e a ≡ end.Finished out) where
+      join_true : join_of s0.graph e a x ≡ Some true
+      join_true = ((fate_of.finished n).0 finished).0
+
+      counted : length (outs a x) ≡ n
+      counted = ((fate_of.finished n).0 finished).1
+
+      last_is : last_or None (outs a x) ≡ Some out
+      last_is = ((end_of.finished out).0 ended).2
+
+      closes : holds x.exit out ≡ true
+      closes =
+          let parts = (fate_of.finished n).0 finished in
+          let same : parts.2 ≡ out = same_Some parts.2 out (sym parts.3 ∙ last_is) in
+          ap (holds x.exit) (sym same) ∙ parts.4
+
+      final_follows : (lines : List CertLine) → Longer b total most w.lines lines → final_at b (told b lines) p n placed_x ≡ Some out → LineFollows (Finished p x.name n) (end.Finished out)
+      final_follows lines more is_final = record { lines = lines; more = more; takes = finished_taken lines more n out join_true is_final }
+
+      -- a program
+
+      module _ (program : ProgramWork) (runs : x.work ≡ Program program) where
+        abbrev given : ℕ → Option Container
+        given j = accepted b.facts (below p (part x.name j))
+
+        gives_given : (j : ℕ) (input : Container) → 1 ≤ j → j ≤ most → gives b.templates known (output b.templates d) x.name x.work j input ≡ given j
+        gives_given j input pos le =
+            ap (λ (work : Work). gives b.templates known (output b.templates d) x.name work j input) runs
+            ∙ right.given (part x.name j ∷ [])
+            ∙ sym (accepted_is most bounded b.root (below p (part x.name j)) (below_read most p x.name j bounded read (acts.named a x is) pos le) own_root b.facts own)
+
+        program_final : (t : Told) → final_at b t p n placed_x ≡ Some out
+        program_final t =
+            let first = base_of s0.graph x a s0.input e in
+            let bound = right.bound in
+            let some = some_last (outs a x) out last_is in
+            ap (λ (work : Work). final x.exit (gave b t p x.name work) n) runs
+            ∙ ap (final x.exit given) (sym counted)
+            ∙ chain_final x.exit given (length (outs a x)) out some
+            (tries_chain (gives b.templates known (output b.templates d) x.name x.work) (trial s0.graph a x first) given most gives_given
+            base.most 1 first out None (omega arith) (omega (arith, bound)) some last_is closes)
+
+        program_follows : LineFollows (Finished p x.name n) (end.Finished out)
+        program_follows = final_follows w.lines own_walk (program_final (told b w.lines))
+
+      -- a block or process activity
+
+      all_fed : is_fed (out-Graph s0.graph).lines a e ≡ true
+      all_fed =
+          fed_where_known b.templates known (output b.templates d) s0.graph s0.input ordered.order ordered.flow (λ k c less_ v h. h) ordered.wired
+          (settled_inside b.templates d known s0.graph s0.input) a
+          (known_values x (values_into (out-Graph s0.graph).controls e a) (ap is_none join_true))
+
+      inner_follows : (h : Graph) → graph_in b.templates x.work ≡ Some h → LineFollows (Finished p x.name n) (end.Finished out)
+      inner_follows h runs =
+          let at_walk = now w.lines own_walk in
+          let made = final_told b g total most bounded is_root well own p read own_root d inside base s0 right acts a x is h runs (ap is_open finished) all_fed
+          w.lines w.longer.good at_walk.scope at_walk.here at_walk.grown (active_told w.lines own_walk join_true all_fed) n out counted last_is closes in
+          final_follows made.later made.longer made.is_final
+
+      finished_follows : LineFollows (Finished p x.name n) (end.Finished out)
+      finished_follows = by_work x.work refl
+        where
+          no_graph : (t : ℕ) → x.work ≡ Process t → graph_in b.templates (Process t) ≡ None → LineFollows (Finished p x.name n) (end.Finished out)
+          no_graph t runs none =
+              let first = base_of s0.graph x a s0.input e in
+              let gives_nothing : gives b.templates known (output b.templates d) x.name x.work 1 first ≡ None =
+              ap (λ (work : Work). gives b.templates known (output b.templates d) x.name work 1 first) runs
+              ∙ ap (λ (o : Option Graph). scope_gives known (output b.templates d) o (part x.name 1) first) none in
+              absurd (none-some out (ap (last_or None) (sym (no_tries (gives b.templates known (output b.templates d) x.name x.work) (trial s0.graph a x first) base.most 1 first gives_nothing)) ∙ last_is))
+
+          by_graph : (t : ℕ) → x.work ≡ Process t → (o : Option Graph) → graph_in b.templates (Process t) ≡ o → LineFollows (Finished p x.name n) (end.Finished out)
+          by_graph t runs None none = no_graph t runs none
+          by_graph t runs (Some h) has = inner_follows h (ap (graph_in b.templates) runs ∙ has)
+
+          by_work : (work : Work) → x.work ≡ work → LineFollows (Finished p x.name n) (end.Finished out)
+          by_work (Program program) runs = program_follows program runs
+          by_work (Block h) runs = inner_follows h (ap (graph_in b.templates) runs)
+          by_work (Process t) runs = by_graph t runs (graph_in b.templates (Process t)) refl
 
     few_attempts : (n : ℕ) → fates a ≡ fate.Finished n → n ≤ most
     few_attempts n finished =
         let long = ((fate_of.finished n).0 finished).1 in
         let bound = right.bound in
-        let few = tries_few (gives b.templates known (output b.templates d) x.name x.work) (trial g a x (base_of g x a s0.input e)) base.most 1 (base_of g x a s0.input e) in
+        let few = tries_few (gives b.templates known (output b.templates d) x.name x.work) (trial s0.graph a x (base_of s0.graph x a s0.input e)) base.most 1 (base_of s0.graph x a s0.input e) in
         omega (arith, long, bound, few)
 
-    inside_ends : a < length w.ends
-    inside_ends = let long = w.long in let within = slice_get_within (out-Graph g).activities a x is in omega (arith, long, within)
-
-    -- the walk with a line more
-    walk_on : (line : CertLine) → IsLineRead total most line → (end_ : SourceEnd) → e a ≡ end_ → taken b (told b w.lines) line ≡ Some (ended_as end_) → Walk (suc i)
-    walk_on line line_read end_ is_end takes = record {
-      lines = w.lines ++ line ∷ [];
-      ends = slice_set w.ends a end_;
-      justified = justified_more b w.lines line (ended_as end_) takes w.justified;
-      lines_read = All-append (IsLineRead total most) w.lines (line ∷ []) w.lines_read (one_of (IsLineRead total most) line line_read);
-      here = ap (λ (t : Told). t p) (told_more b w.lines line (ended_as end_) takes)
-          ∙ cond-true (same_path p p) (option_map (with_end a end_) (told b w.lines p)) (told b w.lines p) (same_itself p)
-          ∙ ap (option_map (with_end a end_)) w.here;
-      long = length-set w.ends a end_ ∙ w.long;
-      kept = record {
-        kept = λ c settled. elim (set_cases w.ends a c end_) [
-          | inl changed_ ↦ ap e changed_.0 ∙ is_end ∙ sym changed_.1
-          | inr same ↦ w.kept.kept c (ap is_settled (sym same) ∙ settled) ∙ sym same
-        ];
-      };
-      passed = λ j before. elim (cases_lt j i) [
-        | inl earlier ↦ elim (set_cases w.ends a (slice_index ordered.order j) end_) [
-          | inl changed_ ↦ changed_.1 ∙ sym is_end ∙ sym (ap e changed_.0)
-          | inr same ↦ same ∙ w.passed j earlier
-        ]
-        | inr now ↦
-            let last : j ≡ i = omega (arith, before, now) in
-            ap (λ (k : ℕ). ends_of (slice_set w.ends a end_) (slice_index ordered.order k)) last
-            ∙ set_here w.ends a end_ inside_ends ∙ sym is_end ∙ ap (λ (k : ℕ). e (slice_index ordered.order k)) (sym last)
-      ];
-    }
-
     -- the walk as it is, where the activity isn't settled
-    not_yet : e a ≡ end.Unsettled → ends_of w.ends a ≡ e a
-    not_yet open_ = by_end (ends_of w.ends a) refl
-      where
-        by_end : (t : SourceEnd) → ends_of w.ends a ≡ t → ends_of w.ends a ≡ e a
-        by_end end.Unsettled told_ = told_ ∙ sym open_
-        by_end end.Dead told_ = sym (w.kept.kept a (ap is_settled told_))
-        by_end (end.Finished out) told_ = sym (w.kept.kept a (ap is_settled told_))
-
     walk_past : e a ≡ end.Unsettled → Walk (suc i)
-    walk_past open_ = record {
+    walk_past ended = record {
       lines = w.lines;
-      ends = w.ends;
-      justified = w.justified;
-      lines_read = w.lines_read;
-      here = w.here;
-      long = w.long;
-      kept = w.kept;
-      passed = λ j before. elim (cases_lt j i) [
-        | inl earlier ↦ w.passed j earlier
-        | inr now ↦
-            let last : j ≡ i = omega (arith, before, now) in
-            ap (λ (k : ℕ). ends_of w.ends (slice_index ordered.order k)) last
-            ∙ not_yet open_ ∙ ap (λ (k : ℕ). e (slice_index ordered.order k)) (sym last)
+      longer = w.longer;
+      passed = λ s is_told j before_. elim (cases_lt j i) [
+        | inl earlier ↦ w.passed s is_told j earlier
+        | inr last ↦
+            let at_i : j ≡ i = omega (arith, before_, last) in
+            ap (λ (k : ℕ). ends_of s.ends (place k)) at_i ∙ not_yet s is_told ∙ ap (λ (k : ℕ). e (place k)) (sym at_i)
       ];
     }
+      where
+        not_yet : (s : Opened) → told b w.lines p ≡ Some s → ends_of s.ends a ≡ e a
+        not_yet s is_told =
+            let was = later w.lines w.longer in
+            let same : was.scope ≡ s = same_Some was.scope s (sym was.here ∙ is_told) in
+            by_end (subst (λ (u : Opened). Extends (ends_of u.ends) e) same was.kept) (ends_of s.ends a) refl
+          where
+            by_end : Extends (ends_of s.ends) e → (t : SourceEnd) → ends_of s.ends a ≡ t → ends_of s.ends a ≡ e a
+            by_end kept end.Unsettled told_ = told_ ∙ sym ended
+            by_end kept end.Dead told_ = sym (kept.kept a (ap is_settled told_))
+            by_end kept (end.Finished out) told_ = sym (kept.kept a (ap is_settled told_))
 
     next_walk : Walk (suc i)
     next_walk = by_end (e a) refl
       where
         by_end : (t : SourceEnd) → e a ≡ t → Walk (suc i)
-        by_end end.Unsettled is_end = walk_past is_end
-        by_end end.Dead is_end = walk_on (Dead p x.name) (read, acts.named a x is) end.Dead is_end (dead_taken (end_of.dead.0 is_end))
-        by_end (end.Finished out) is_end =
-            let parts = (end_of.finished out).0 is_end in
-            walk_on (Finished p x.name parts.0) (read, acts.named a x is, few_attempts parts.0 parts.1) (end.Finished out) is_end (finished_taken parts.0 out parts.1 is_end)
+        by_end end.Unsettled ended = walk_past ended
+        by_end end.Dead ended =
+            let f = dead_follows (end_of.dead.0 ended) in
+            walk_on f.lines f.more (Dead p x.name) (read, acts.named a x is) end.Dead ended f.takes
+        by_end (end.Finished out) ended =
+            let parts = (end_of.finished out).0 ended in
+            let f = finished_follows parts.0 out parts.1 ended in
+            walk_on f.lines f.more (Finished p x.name parts.0) (read, acts.named a x is, few_attempts parts.0 parts.1) (end.Finished out) ended f.takes
 
-    -- its line follows from those of the activities before it
-    line_certified : IsCertified b p x.name (fates a)
+    follows_certified : (line : CertLine) (end_ : SourceEnd) → IsLineRead total most line → LineFollows line end_ → HasCertificate b total most line
+    follows_certified line end_ line_read f =
+        let one = one_more b total most f.lines f.more.good line line_read (changed (told b f.lines) p (with_end a end_)) f.takes in
+        record { before = f.lines; read = one.good.read; justified = one.good.justified }
+
+    line_certified : IsCertified b total most p x.name (fates a)
     line_certified = record {
-      dead = λ dead. record { before = w.lines; justified = justified_more b w.lines (Dead p x.name) (ended_as end.Dead) (dead_taken dead) w.justified };
+      dead = λ dead. follows_certified (Dead p x.name) end.Dead (read, acts.named a x is) (dead_follows dead);
       finished = λ n finished.
           let parts = (fate_of.finished n).0 finished in
-          let out = parts.2 in
-          let ended : e a ≡ end.Finished out = (end_of.finished out).1 (n, finished, parts.3) in
-          record { before = w.lines; justified = justified_more b w.lines (Finished p x.name n) (ended_as (end.Finished out)) (finished_taken n out finished ended) w.justified };
+          let ended : e a ≡ end.Finished parts.2 = (end_of.finished parts.2).1 (n, finished, parts.3) in
+          follows_certified (Finished p x.name n) (end.Finished parts.2) (read, acts.named a x is, few_attempts n finished) (finished_follows n parts.2 finished ended);
     }
 
   -- ---- all activities
+
+  first_walk : Walk 0
+  first_walk = record {
+    lines = before;
+    longer = longer_none b total most before good;
+    passed = λ s is_told j less. absurd (omega (arith, less));
+  }
 
   walk : (i : ℕ) → i ≤ length ordered.order → Walk i
   walk zero le = first_walk
   walk (suc i) le =
       let less : i < length ordered.order = omega (arith, le) in
-      let x = activity_in g (slice_index ordered.order i) (ordered.flow.ordered.in_range i 0 less) in
+      let x = activity_in s0.graph (place i) (ordered.flow.ordered.in_range i 0 less) in
       next_walk i less (walk i (omega (arith, le))) x.0 x.1
 
-  pub all_certified : (a : ℕ) (x : Activity) → slice_get (out-Graph g).activities a ≡ Some x → IsCertified b p x.name (fates a)
+  pub all_certified : (a : ℕ) (x : Activity) → slice_get (out-Graph s0.graph).activities a ≡ Some x → IsCertified b total most p x.name (fates a)
   all_certified a x is =
-      let place = ordered.flow.ordered.covers a (slice_get_within (out-Graph g).activities a x is) in
-      subst (λ (c : ℕ). IsCertified b p x.name (fates c)) place.2
-      (line_certified place.0 place.1 (walk place.0 (omega (arith, place.1))) x (ap (slice_get (out-Graph g).activities) place.2 ∙ is))
-
-  -- ---- the end of the scope
-
-  pub all_passed : Walk (length ordered.order)
-  all_passed = walk (length ordered.order) (omega arith)
+      let at_ = ordered.flow.ordered.covers a (slice_get_within (out-Graph s0.graph).activities a x is) in
+      subst (λ (c : ℕ). IsCertified b total most p x.name (fates c)) at_.2
+      (line_certified at_.0 at_.1 (walk at_.0 (omega (arith, at_.1))) x (ap (slice_get (out-Graph s0.graph).activities) at_.2 ∙ is))
 
   -- all that the completions say of the ends is told
-  all_told : (a : ℕ) → ends_of all_passed.ends a ≡ e a
-  all_told a = elim (cases_lt a (length (out-Graph g).activities)) [
-    | inl within ↦
-        let place = ordered.flow.ordered.covers a within in
-        ap (ends_of all_passed.ends) (sym place.2) ∙ all_passed.passed place.0 place.1 ∙ ap e place.2
-    | inr past ↦
-        let long = all_passed.long in
-        ap (λ (o : Option SourceEnd). unwrap_or o end.Unsettled) (slice_get_past all_passed.ends a (omega (arith, past, long)))
-        ∙ sym (unsettled_past b.templates known (output b.templates d) g s0.input (length (out-Graph g).activities) a past)
-  ]
-
-  -- a first attempt that starts by the completions, starts by what is told
-  module _ (q : Part) (first : q.attempt ≡ 1) (x : Placed) (named : activity_at g q.name ≡ Some x) (h : Graph) (runs : graph_in b.templates x.activity.work ≡ Some h)
-      (active : (is_open (fates x.place) && is_fed (out-Graph g).lines x.place e) ≡ true) where
-    abbrev told_scope : Opened
-    told_scope = scope_with all_passed.ends
-
-    join_true : join_in told_scope x ≡ Some true
-    join_true =
-        ap (λ (f : Ends). join_of g f x.place x.activity) (fun_ext all_told)
-        ∙ open_join x.activity _ _ (fates x.place) (solved.fate x.place x.activity (stands g q.name x named)) (and_true (is_open (fates x.place)) _ active).0
-
-    is_started : is_active told_scope x ≡ true
-    is_started =
-        both_true (is_known true (join_in told_scope x)) _ (known_as true (join_in told_scope x) join_true)
-        (ap (λ (f : Ends). is_fed (out-Graph g).lines x.place f) (fun_ext all_told) ∙ (and_true (is_open (fates x.place)) _ active).1)
-
-    first_not_zero : (q.attempt == 0) ≡ false
-    first_not_zero = ap (λ (n : ℕ). n == 0) first
-
-    first_is_one : (q.attempt == 1) ≡ true
-    first_is_one = ap (λ (n : ℕ). n == 1) first
-
-    abbrev inner_scope : Opened
-    inner_scope = opened h (first_input told_scope x)
-
-    inner_begun : inner_begins b (told b all_passed.lines) p q ≡ Some inner_scope
-    inner_begun =
-        ap (option_and_then (λ (s : Opened). option_and_then (start b.templates (told b all_passed.lines) p q s) (activity_at s.graph q.name))) all_passed.here
-        ∙ ap (option_and_then (start b.templates (told b all_passed.lines) p q told_scope)) named
-        ∙ cond-true (is_active told_scope x) (attempt_start b.templates (told b all_passed.lines) p q told_scope x) None is_started
-        ∙ cond-false (q.attempt == 0) None _ first_not_zero
-        ∙ cond-true (q.attempt == 1) (first_start b.templates told_scope x) _ first_is_one
-        ∙ ap (option_map (λ (k : Graph). opened k (first_input told_scope x))) runs
-
-    abbrev inner_path : Path
-    inner_path = below p q
-
-    inner_taken : taken b (told b all_passed.lines) (Scope inner_path) ≡ Some (beginning (told b all_passed.lines) inner_path inner_scope)
-    inner_taken =
-        cond-true (p.root == b.root) _ None own_line
-        ∙ ap (option_map (beginning (told b all_passed.lines) inner_path))
-        (ap (λ (o : Option Part). begins_as b (told b all_passed.lines) (outer inner_path) o) (last_below p q)
-        ∙ ap (λ (o : Path). inner_begins b (told b all_passed.lines) o q) (outer_below p q)
-        ∙ inner_begun)
-
-    pub inner_justified : AreJustified b (all_passed.lines ++ Scope inner_path ∷ []) (length (all_passed.lines ++ Scope inner_path ∷ []))
-    inner_justified = justified_more b all_passed.lines (Scope inner_path) (beginning (told b all_passed.lines) inner_path inner_scope) inner_taken all_passed.justified
-
-    pub inner_read : IsRead most inner_path → length inner_path.parts ≤ total → All (IsLineRead total most) (all_passed.lines ++ Scope inner_path ∷ [])
-    inner_read inner deep =
-        All-append (IsLineRead total most) all_passed.lines (Scope inner_path ∷ []) all_passed.lines_read
-        (one_of (IsLineRead total most) (Scope inner_path) (inner, deep))
-
-    pub inner_told : is_some (told b (all_passed.lines ++ Scope inner_path ∷ []) inner_path) ≡ true
-    inner_told =
-        ap (λ (t : Told). is_some (t inner_path)) (told_more b all_passed.lines (Scope inner_path) (beginning (told b all_passed.lines) inner_path inner_scope) inner_taken)
-        ∙ ap is_some (cond-true (same_path inner_path inner_path) (option_or (told b all_passed.lines inner_path) (Some inner_scope)) (told b all_passed.lines inner_path) (same_itself inner_path))
-        ∙ either (told b all_passed.lines inner_path)
-      where
-        either : (o : Option Opened) → is_some (option_or o (Some inner_scope)) ≡ true
-        either None = refl
-        either (Some s) = refl
-
-  module _ (inside : (length p.parts == 0) ≡ false) (complete : is_complete g e ≡ true) where
-    abbrev last : Walk (length ordered.order)
-    last = all_passed
-
-    end_settled : (a : ℕ) → a < length last.ends → is_settled (ends_of last.ends a) ≡ true
-    end_settled a less =
-        let long = last.long in
-        ap is_settled (all_told a)
-        ∙ all_in (λ (c : ℕ). is_settled (e c)) (length (out-Graph g).activities) 0 a complete (omega arith) (omega (arith, less, long))
-
-    abbrev out : Container
-    out = with_return_code (fed (out-Graph g).lines Border s0.input (ends_of last.ends) (fresh (out-Graph g).output))
-
-    gives_out : scope_gives (scope_with last.ends) ≡ Some out
-    gives_out = cond-true (list_all is_settled last.ends) (Some out) None (all_settled last.ends end_settled)
-
-    ended_taken : taken b (told b last.lines) (Ended p) ≡ Some (changed (told b last.lines) p (with_output out))
-    ended_taken =
-        cond-true (p.root == b.root) _ None own_line
-        ∙ cond-false (length p.parts == 0) None (option_map (λ (o : Container). changed (told b last.lines) p (with_output o)) (option_and_then scope_gives (told b last.lines p))) inside
-        ∙ ap (λ (s : Option Opened). option_map (λ (o : Container). changed (told b last.lines) p (with_output o)) (option_and_then scope_gives s)) last.here
-        ∙ ap (option_map (λ (o : Container). changed (told b last.lines) p (with_output o))) gives_out
-
-    pub end_certified : HasCertificate b (Ended p)
-    end_certified = record {
-      before = last.lines;
-      justified = justified_more b last.lines (Ended p) (changed (told b last.lines) p (with_output out)) ended_taken last.justified;
-    }
+  pub whole : Whole b (root_in b g total most) total most before p
+  whole =
+      let all = walk (length ordered.order) (omega arith) in
+      let l = later all.lines all.longer in
+      let r = right_scope b g total most bounded is_root well own all.lines all.longer.good p l.scope read l.here in
+      let same : st ≡ standing_of r.depth r.base l.scope = same_Some st (standing_of r.depth r.base l.scope) (sym right.there ∙ r.right.there) in
+      record {
+        lines = all.lines;
+        longer = all.longer;
+        scope = l.scope;
+        here = l.here;
+        right = r;
+        all = λ a. all_told all l.scope l.here l.grown a ∙ ap (λ (u : Standing). ends_in b.templates u a) same;
+      }
+    where
+      all_told : (w : Walk (length ordered.order)) (s : Opened) → told b w.lines p ≡ Some s → Grows s0 s → (a : ℕ) → ends_of s.ends a ≡ e a
+      all_told w s is_told grown a = elim (cases_lt a (length (out-Graph s0.graph).activities)) [
+        | inl within ↦
+            let at_ = ordered.flow.ordered.covers a within in
+            ap (ends_of s.ends) (sym at_.2) ∙ w.passed s is_told at_.0 at_.1 ∙ ap e at_.2
+        | inr past ↦
+            let long = right.long in
+            let same = grown.long in
+            ap (λ (o : Option SourceEnd). unwrap_or o end.Unsettled) (slice_get_past s.ends a (omega (arith, past, long, same)))
+            ∙ sym (unsettled_past b.templates known (output b.templates d) s0.graph s0.input (length (out-Graph s0.graph).activities) a past)
+      ]
