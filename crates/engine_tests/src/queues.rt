@@ -29,6 +29,7 @@ fn messages_are_counted(rt: HostRuntime) -> Result<(), Fail> {
 #[test]
 fn first_in_first_out(rt: HostRuntime) -> Result<(), Fail> {
     let mut queues = begun(rt.alloc())?;
+    assert_eq!(rt; queues.count(), 2);
     assert!(rt; matches!(queues.front(2), Some(Message::Begin(scope)) if scope.root == 7));
     assert!(rt; matches!(queues.take(2), Some(Message::Begin(scope)) if scope.root == 7));
     assert!(rt; matches!(queues.take(2), Some(Message::Begin(scope)) if scope.root == 8));
