@@ -37,7 +37,9 @@ fn a_value_is_replaced(rt: HostRuntime) -> Result<(), Fail> {
 
 #[test]
 fn values_come_by_rising_numbers(rt: HostRuntime) -> Result<(), Fail> {
-    let map = filled(rt.alloc(), &[(3, 30), (9, 90), (1, 10)])?;
+    let mut map = filled(rt.alloc(), &[(3, 30), (4, 40), (9, 80), (1, 10)])?;
+    assert_eq!(rt; map.remove(4), Some(40));
+    map.insert(9, 90)?;
     let mut found = Vec::new(rt.alloc());
     for (number, value) in map.iter() {
         found.push((number, *value))?;

@@ -1,5 +1,7 @@
--- What is so by the completions is certified: there are lines, each justified by those before it, the last of which says so.
-use Rattle.std.specs.Prelude.{◌≡◌, ◌≢◌, ◌↔◌, ℕ, ◌≤◌, ◌<◌, ◌^◌, true, Some, List, [], ◌∷◌, ◌++◌, length, slice_get}
+-- What is so by the completions is certified: there are lines, each justified by those before it, the last of which
+-- says so.
+use Rattle.std.specs.Prelude.{◌≡◌, ◌≢◌, ◌↔◌, ℕ, ◌≤◌, ◌<◌, ◌^◌, true, Some, List, [], ◌∷◌, ◌++◌, length}
+use Rattle.std.specs.Prelude.{slice_get}
 use Rattle.std.specs.List.{All}
 use Rattle.fate_laws.specs.WellFormed.{Well}
 use Rattle.flow_model.specs.declared.graphs.Activity.{Activity}
@@ -40,7 +42,8 @@ pub record HasReadActivities (g : Graph) : Type 0 where
 -- so have those of each scope that starts by the completions
 abbrev pub AreReadScopes : Basis → Graph → ℕ → ℕ → Type 0
 AreReadScopes b g depth most =
-    (path : List Part) (scope : Standing) → scope_in b.templates (root_in b g depth most) path ≡ Some scope → HasReadActivities scope.graph
+    (path : List Part) (scope : Standing) → scope_in b.templates (root_in b g depth most) path ≡ Some scope
+    → HasReadActivities scope.graph
 
 -- a root of a well-formed process, with completions of its own and no more attempts than this
 pub record IsReadRoot (b : Basis) (g : Graph) (depth most : ℕ) : Type 0 where
