@@ -1,108 +1,151 @@
-//! Reading lines and the names of activities.
-ghost use Rattle.std.specs.Prelude.{◌≡◌, IfOk, IfSome};
-ghost use Rattle.certificates.specs.Lines.{line_text};
+//! Reading the lines of a certificate.
+ghost use Rattle.std.specs.Prelude.{◌≡◌, ◌<◌, ◌^◌, ℕ, true, None, Some, List as Bytes, ◌++◌, ◌∷◌, [], decimal};
+ghost use Rattle.std.specs.Prelude.{IfOk, IfSome, MatchOption};
+ghost use Rattle.std.specs.Option.{option_copied};
+ghost use Rattle.certificates.specs.Lines.{in_quotes, scope_in_quotes, activity_in_quotes, IsSpellable};
+ghost use Rattle.certificates.specs.Lines.{Writes, WritesNoOther, WritesNoLine};
+ghost use Rattle.certificates.specs.declared.lines.CertLine.{CertLine as Line};
+ghost use Rattle.certificates.specs.declared.lines.CertLine.TheVariants as lines;
+ghost use Rattle.flow_model.specs.Paths.{BeginsNot, IsPath};
+ghost use Rattle.flow_model.specs.Words.{is_name};
+ghost use Rattle.flow_model.specs.declared.instances.Path.{Path as Way};
 
 use crate::lines::{CertLine, line_bytes};
-use flow_model::{Name, NameFault, Path, PathFault, path_of};
+use crate::naming::{cut_at_last, named_activity, scope_in};
+use flow_model::{Name, Path};
 use std::alloc::{AllocError, Global};
+use std::str::from_utf8;
 
-/// The path that these bytes write, if they do.
-fn path_in(alloc: Global, bytes: &[u8]) -> Result<Option<Path>, AllocError> {
-    match path_of(alloc, bytes) {
-        Ok(path) => Ok(Some(path)),
-        Err(PathFault::BadPath) => Ok(None),
-        Err(PathFault::NoMemory) => Err(AllocError),
+/// The number that these digits write.
+fn number_of(digits: &[u8]) -> Option<u64>
+    ensures { (n : ℕ) → n < 2 ^ 64 → digits.now ≡ decimal n → result ≡ Some n }
+{
+    match from_utf8(digits) {
+        Ok(text) => text.parse::<u64>().ok(),
+        Err(_) => None,
     }
 }
 
-/// The name that these bytes are, if they are one.
-fn name_in(alloc: Global, bytes: &[u8]) -> Result<Option<Name>, AllocError> {
-    match Name::new(alloc, bytes) {
-        Ok(name) => Ok(Some(name)),
-        Err(NameFault::Bad) => Ok(None),
-        Err(NameFault::NoMemory) => Err(AllocError),
-    }
-}
-
-/// The bytes before the last one like this, and those behind it.
-fn split_last(bytes: &[u8], mark: u8) -> Option<(&[u8], &[u8])> {
-    let behind = bytes.iter().rev().take_while(|byte| **byte != mark).count();
-    if behind >= bytes.len() {
-        return None;
-    }
-    let place = bytes.len() - behind - 1;
-    Some((&bytes[..place], &bytes[place + 1..]))
-}
-
-/// The scope and the name that a path, `/` and an activity's name write.
-pub fn activity_in(alloc: Global, bytes: &[u8]) -> Result<Option<(Path, Name)>, AllocError> {
-    let Some((before, behind)) = split_last(bytes, b'/') else {
-        return Ok(None);
-    };
-    let Some(path) = path_in(alloc, before)? else {
-        return Ok(None);
-    };
-    match name_in(alloc, behind)? {
-        None => Ok(None),
-        Some(name) => Ok(Some((path, name))),
-    }
-}
-
-/// The number that these digits write, where it has 64 bits.
-fn number_in(digits: &[u8]) -> Option<u64> {
-    let mut value = 0u64;
-    for digit in digits {
-        value = value
-            .checked_mul(10)?
-            .checked_add(u64::from(digit.wrapping_sub(b'0')))?;
-    }
-    Some(value)
-}
-
-/// What stands between the first byte and the last one; they aren't looked at.
-fn unquoted(bytes: &[u8]) -> Option<&[u8]> {
+/// What stands in single quotes.
+fn unquoted(bytes: &[u8]) -> Option<&[u8]>
+    ensures { (inner : Bytes ℕ) → bytes.now ≡ in_quotes inner → option_copied result ≡ Some inner }
+{
     match bytes {
-        [_, inner @ .., _] => Some(inner),
+        [b'\'', inner @ .., b'\''] => Some(inner),
         _ => None,
     }
 }
 
-/// What stands in quotes behind a word.
-fn behind<'a>(bytes: &'a [u8], word: &[u8]) -> Option<&'a [u8]> {
-    unquoted(bytes.strip_prefix(word)?)
+/// The scope in quotes.
+fn quoted_scope(alloc: Global, bytes: &[u8]) -> Result<Option<Path>, AllocError>
+    ensures fine { IfOk result (λ found. IfSome found IsPath) }
+    ensures found { IfOk result (λ found. (p : Way) → IsPath p → bytes.now ≡ scope_in_quotes p → found ≡ Some p) }
+{
+    match unquoted(bytes) {
+        Some(inner) => scope_in(alloc, inner),
+        None => Ok(None),
+    }
+}
+
+/// The activity in quotes.
+fn quoted_activity(alloc: Global, bytes: &[u8]) -> Result<Option<(Path, Name)>, AllocError>
+    ensures fine { IfOk result (λ found. IfSome found (λ named. IsPath named.0 × (is_name named.1 ≡ true))) }
+    ensures found { IfOk result (λ found. (p : Way) (name : Bytes ℕ) → IsPath p → is_name name ≡ true
+        → bytes.now ≡ activity_in_quotes p name → found ≡ Some (p, name)) }
+{
+    match unquoted(bytes) {
+        Some(inner) => named_activity(alloc, inner),
+        None => Ok(None),
+    }
+}
+
+/// The line `SCOPE` with what stands behind its word.
+fn scope_line(alloc: Global, rest: &[u8]) -> Result<Option<CertLine>, AllocError>
+    ensures fine { IfOk result (λ found. IfSome found IsSpellable) }
+    ensures found { IfOk result (λ found. (p : Way) → IsPath p → rest.now ≡ scope_in_quotes p
+        → found ≡ Some (lines.Scope p)) }
+{
+    match quoted_scope(alloc, rest)? {
+        Some(scope) => Ok(Some(CertLine::Scope(scope))),
+        None => Ok(None),
+    }
+}
+
+/// The line `ENDED` with what stands behind its word.
+fn ended_line(alloc: Global, rest: &[u8]) -> Result<Option<CertLine>, AllocError>
+    ensures fine { IfOk result (λ found. IfSome found IsSpellable) }
+    ensures found { IfOk result (λ found. (p : Way) → IsPath p → rest.now ≡ scope_in_quotes p
+        → found ≡ Some (lines.Ended p)) }
+{
+    match quoted_scope(alloc, rest)? {
+        Some(scope) => Ok(Some(CertLine::Ended(scope))),
+        None => Ok(None),
+    }
+}
+
+/// The line `DEAD` with what stands behind its word.
+fn dead_line(alloc: Global, rest: &[u8]) -> Result<Option<CertLine>, AllocError>
+    ensures fine { IfOk result (λ found. IfSome found IsSpellable) }
+    ensures found { IfOk result (λ found. (p : Way) (name : Bytes ℕ) → IsPath p → is_name name ≡ true
+        → rest.now ≡ activity_in_quotes p name → found ≡ Some (lines.Dead p name)) }
+{
+    match quoted_activity(alloc, rest)? {
+        Some((scope, name)) => Ok(Some(CertLine::Dead(scope, name))),
+        None => Ok(None),
+    }
 }
 
 /// The line `FINISHED` with what stands behind its word.
-fn finished_in(alloc: Global, rest: &[u8]) -> Result<Option<CertLine>, AllocError> {
-    let Some((before, digits)) = split_last(rest, b' ') else {
+fn finished_line(alloc: Global, rest: &[u8]) -> Result<Option<CertLine>, AllocError>
+    ensures fine { IfOk result (λ found. IfSome found IsSpellable) }
+    ensures found { IfOk result (λ found. (p : Way) (name : Bytes ℕ) (n : ℕ) → IsPath p → is_name name ≡ true
+        → n < 2 ^ 64 → rest.now ≡ activity_in_quotes p name ++ 32 ∷ decimal n
+        → found ≡ Some (lines.Finished p name n)) }
+{
+    let Some((quoted, digits)) = cut_at_last(rest, b' ') else {
         return Ok(None);
     };
-    let (Some(inner), Some(attempt)) = (unquoted(before), number_in(digits)) else {
+    let Some(attempt) = number_of(digits) else {
         return Ok(None);
     };
-    Ok(activity_in(alloc, inner)?.map(|named| CertLine::Finished(named.0, named.1, attempt)))
-}
-
-/// The line that these bytes may be: only its own text may be, and that isn't compared yet.
-fn guessed(alloc: Global, bytes: &[u8]) -> Result<Option<CertLine>, AllocError> {
-    if let Some(inner) = behind(bytes, b"SCOPE ") {
-        return Ok(path_in(alloc, inner)?.map(|scope| CertLine::Scope(scope)));
-    }
-    if let Some(inner) = behind(bytes, b"ENDED ") {
-        return Ok(path_in(alloc, inner)?.map(|scope| CertLine::Ended(scope)));
-    }
-    if let Some(inner) = behind(bytes, b"DEAD ") {
-        return Ok(activity_in(alloc, inner)?.map(|named| CertLine::Dead(named.0, named.1)));
-    }
-    match bytes.strip_prefix(b"FINISHED ") {
+    match quoted_activity(alloc, quoted)? {
+        Some((scope, name)) => Ok(Some(CertLine::Finished(scope, name, attempt))),
         None => Ok(None),
-        Some(rest) => finished_in(alloc, rest),
     }
 }
 
-/// The line whose text these bytes are; None where they are of none.
+/// What stands behind a front, if the bytes begin with it.
+fn behind<'t>(bytes: &'t [u8], front: &[u8]) -> Option<&'t [u8]>
+    ensures { MatchOption result (BeginsNot bytes.now front.now) (λ rest. bytes.now ≡ front.now ++ rest.now) }
+{
+    bytes.strip_prefix(front)
+}
+
+/// The line whose text these bytes may be: they are that of no other one.
+fn guessed(alloc: Global, bytes: &[u8]) -> Result<Option<CertLine>, AllocError>
+    ensures fine { IfOk result (λ found. IfSome found IsSpellable) }
+    ensures found { IfOk result (λ found. (line : Line) → Writes bytes.now line → found ≡ Some line) }
+{
+    if let Some(rest) = behind(bytes, b"SCOPE ") {
+        return scope_line(alloc, rest);
+    }
+    if let Some(rest) = behind(bytes, b"ENDED ") {
+        return ended_line(alloc, rest);
+    }
+    if let Some(rest) = behind(bytes, b"DEAD ") {
+        return dead_line(alloc, rest);
+    }
+    match behind(bytes, b"FINISHED ") {
+        Some(rest) => finished_line(alloc, rest),
+        None => Ok(None),
+    }
+}
+
+/// The line whose text these bytes are; None exactly where they are that of no line.
 pub fn read_line(alloc: Global, bytes: &[u8]) -> Result<Option<CertLine>, AllocError>
-    ensures { IfOk result (λ found. IfSome found (λ line. line_text line ≡ bytes.now)) }
+    ensures line { IfOk result (λ found. IfSome found (Writes bytes.now)) }
+    ensures one { IfOk result (λ found. IfSome found (WritesNoOther bytes.now)) }
+    ensures none { IfOk result (λ found. found ≡ None → WritesNoLine bytes.now) }
 {
     let Some(line) = guessed(alloc, bytes)? else {
         return Ok(None);

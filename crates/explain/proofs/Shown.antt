@@ -20,7 +20,8 @@ use Rattle.flow_model.specs.declared.instances.FateRow.{FateRow}
 use Rattle.navigator.specs.declared.instance.Instance.{Instance}
 use Rattle.flow_model.specs.declared.instances.Path.{Path}
 use Rattle.explain.specs.Explained.{HasNone, IsWithout}
-use Rattle.explain.specs.Shown.{activity_spelling, fate_at, fate_in, IsShown}
+use Rattle.certificates.specs.Naming.{activity_spelling}
+use Rattle.explain.specs.Shown.{fate_at, fate_in, IsShown}
 use Rattle.explain.specs.declared.making.ExplainFault.{ExplainFault}
 use Rattle.explain.specs.declared.making.ExplainFault.TheVariants.{Root, Activity, Unsettled, NoMemory}
 

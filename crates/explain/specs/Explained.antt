@@ -12,7 +12,8 @@ use Rattle.flow_model.specs.declared.instances.Fate.{Fate}
 use Rattle.flow_model.specs.declared.instances.Path.{Path}
 use Rattle.reply_text.specs.Replies.{fate_text}
 use Rattle.explain.specs.Certificates.{Settles, IsUnsettled, certificate_printed}
-use Rattle.explain.specs.Shown.{activity_spelling, IsShown}
+use Rattle.certificates.specs.Naming.{activity_spelling}
+use Rattle.explain.specs.Shown.{IsShown}
 use Rattle.explain.specs.Verified.{basis_in}
 use Rattle.explain.specs.declared.making.ExplainFault.{ExplainFault}
 use Rattle.explain.specs.declared.making.ExplainFault.TheVariants.{Root, Activity, Unsettled, NoMemory}

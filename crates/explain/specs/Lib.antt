@@ -1,5 +1,4 @@
 pub mod Shown
-pub mod Naming
 pub mod Certificates
 pub mod Verified
 pub mod Explained

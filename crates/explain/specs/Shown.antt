@@ -1,17 +1,12 @@
 -- What the begun scopes of a root show of an activity, which is named by its text.
-use Rattle.std.specs.Prelude.{◌≡◌, ℕ, if◌then◌else◌, Bool, Option, Some, None, List, [], ◌∷◌, ◌++◌, bytes_eq, fold}
+use Rattle.std.specs.Prelude.{◌≡◌, ℕ, if◌then◌else◌, Bool, Option, Some, None, List, bytes_eq, fold}
 use Rattle.std.specs.Global.{Vec}
 use Rattle.std.specs.HashMap.{HashMap, get_by}
+use Rattle.certificates.specs.Naming.{activity_spelling}
 use Rattle.flow_core.specs.Answers.{instance_of, AreBegun}
 use Rattle.flow_core.specs.declared.state.Core.{Core}
-use Rattle.flow_model.specs.Paths.{spelling}
 use Rattle.flow_model.specs.declared.instances.Fate.{Fate}
 use Rattle.flow_model.specs.declared.instances.FateRow.{FateRow}
-use Rattle.flow_model.specs.declared.instances.Path.{Path}
-
--- how a word names an activity: its scope, `/`, its name
-abbrev pub activity_spelling : Path → List ℕ → List ℕ
-activity_spelling p name = spelling p ++ 47 ∷ [] ++ name
 
 -- a row is of the activity that a text names
 abbrev pub is_row_of : List ℕ → FateRow → Bool

@@ -1,10 +1,12 @@
 -- What `verify` answers: how many of the lines, from the first on, are lines of a certificate that are justified by a
 -- root of a state.
-use Rattle.std.specs.Prelude.{◌≡◌, ◌⊎◌, ℕ, ◌≤◌, Bool, None, List, [], ◌∷◌, length, map, take}
+use Rattle.std.specs.Prelude.{◌≡◌, ◌⊎◌, ℕ, ◌≤◌, Bool, true, false, None, List, [], ◌∷◌, length, map, take, slice_get}
+use Rattle.std.specs.Prelude.{IfSome}
 use Rattle.std.specs.Global.{Vec}
+use Rattle.std.specs.List.{All}
 use Rattle.certificates.specs.Justified.{AreJustified, IsFirstUnjustified}
 use Rattle.certificates.specs.Kept.{AreLaidTemplates}
-use Rattle.certificates.specs.Lines.{line_text}
+use Rattle.certificates.specs.Lines.{line_text, IsSpellable, WritesNoLine}
 use Rattle.certificates.specs.Told.{Basis, line_scope}
 use Rattle.certificates.specs.declared.lines.CertLine.{CertLine}
 use Rattle.flow_core.specs.Driving.{templates, graph_now}
@@ -13,9 +15,17 @@ use Rattle.flow_core.specs.declared.state.Core.{Core}
 use Rattle.flow_core.specs.declared.views.RootFacts.{RootFacts}
 use Rattle.explain.specs.Certificates.{IsVerdict}
 
--- these lines are the first ones of a text, each by its exact bytes
-abbrev pub AreFirst : List CertLine → List (Vec ℕ × Bool) → Type 0
-AreFirst read lines = map line_text read ≡ map (λ line. line.0.items) (take (length read) lines)
+-- a line that was read, with whether it was too long: it is so, or it is no line of a certificate
+abbrev pub IsNoLine : Vec ℕ × Bool → Type 0
+IsNoLine line = (line.1 ≡ true) ⊎ WritesNoLine line.0.items
+
+-- these are the first lines of a text, up to the one that is no line of a certificate
+pub record AreFirst (read : List CertLine) (lines : List (Vec ℕ × Bool)) : Type 0 where
+  pub few : length read ≤ length lines
+  pub writable : All IsSpellable read
+  pub written : map line_text read ≡ map (λ line. line.0.items) (take (length read) lines)
+  pub whole : All (λ line. line.1 ≡ false) (take (length read) lines)
+  pub next : IfSome (slice_get lines (length read)) IsNoLine
 
 -- a certificate rests on the library of a state and what the fates of a root follow from
 abbrev pub basis_in : Core → RootFacts → Basis
@@ -44,7 +54,6 @@ AreGoodIn c (first ∷ rest) good =
 pub record IsVerified (c : Core) (lines : List (Vec ℕ × Bool)) (text : List ℕ) (refused : Bool) : Type 0 where
   pub read : List CertLine
   pub first : AreFirst read lines
-  pub few : length read ≤ length lines
   pub good : ℕ
   pub judged : AreGoodIn c read good
   pub given : IsVerdict good (length lines) text refused

@@ -8,9 +8,7 @@
 mod checking;
 mod graphs;
 mod making;
-mod naming;
 mod words;
 
 pub use making::{ExplainFault, explain};
-pub use naming::named_activity;
 pub use words::{explain_word, verify_lines};

@@ -6,13 +6,13 @@ ghost use Rattle.flow_core.specs.Facts.{AreFactsOf};
 ghost use Rattle.flow_model.specs.ScopeContainers.{graph_of};
 ghost use Rattle.explain.specs.Certificates.{Settles, IsUnsettled};
 ghost use Rattle.explain.specs.Explained.{EndsAs, IsCertificate, IsWithout, HasNone};
-ghost use Rattle.explain.specs.Shown.{activity_spelling, fate_at, fate_in, AreShown};
+ghost use Rattle.certificates.specs.Naming.{activity_spelling};
+ghost use Rattle.explain.specs.Shown.{fate_at, fate_in, AreShown};
 ghost use Rattle.explain.specs.declared.making.ExplainFault.TheVariants.{NoMemory};
 
 use crate::checking::checked;
 use crate::graphs::{all_sources, control_sources, graph_at, split_path};
-use crate::naming::activity_text;
-use certificates::{CertLine, activity_at, line_bytes, path_below};
+use certificates::{CertLine, activity_at, activity_text, line_bytes, path_below};
 use flow_core::{Core, RootFacts};
 use flow_model::{Fate, FateRow, Graph, Library, List, Name, Path, Work};
 use indexmap::IndexMap;

@@ -1,14 +1,13 @@
 //! The texts of the words `explain` and `verify`, with whether each is a refusal.
-ghost use Rattle.std.specs.Prelude.{◌≡◌, ◌≤◌, None, ◌∷◌, [], ◌++◌, length, IfOk, IfSome, vec_len, decimal as digits_of};
+ghost use Rattle.std.specs.Prelude.{◌≡◌, ◌≤◌, None, ◌∷◌, [], ◌++◌, length, IfOk, IfSome, decimal as digits_of};
+ghost use Rattle.certificates.specs.Naming.{NamesNoActivity};
 ghost use Rattle.explain.specs.Certificates.{certificate_printed, IsVerdict};
 ghost use Rattle.explain.specs.Explained.{IsFaultText, IsExplained, ExplainsWord};
-ghost use Rattle.explain.specs.Naming.{NamesNoActivity};
 ghost use Rattle.explain.specs.Verified.{AreFirst, AreGoodIn, IsVerified};
 
 use crate::checking::justified;
 use crate::making::{ExplainFault, explain};
-use crate::naming::named_activity;
-use certificates::{CertLine, read_line, write_line};
+use certificates::{CertLine, named_activity, read_line, write_line};
 use flow_core::Core;
 use flow_model::{Name, Path};
 use flow_text::decimal;
@@ -88,7 +87,7 @@ pub fn explain_word(
 
 /// The lines up to the first that isn't a line of a certificate or is too long.
 fn read_lines(alloc: Global, lines: &[(Vec<u8>, bool)]) -> Result<Vec<CertLine>, AllocError>
-    ensures { IfOk result (λ read. AreFirst read.items lines.now × (vec_len read ≤ length lines.now)) }
+    ensures { IfOk result (λ read. AreFirst read.items lines.now) }
 {
     let mut read = Vec::new(alloc);
     for (bytes, too_long) in lines {

@@ -9,7 +9,7 @@ use Rattle.flow_session.specs.Histories.{StandsFor}
 use Rattle.flow_session.specs.Replaying.{Replays}
 use Rattle.worklist_laws.specs.Shelved.{IsRightAndListed}
 use Rattle.deadlines.specs.Texts.{IsOverdueText}
-use Rattle.explain.specs.Naming.{NamesNoActivity}
+use Rattle.certificates.specs.Naming.{NamesNoActivity}
 use Rattle.explain.specs.Explained.{ExplainsWord}
 use Rattle.explain.specs.Verified.{IsVerified}
 use Rattle.text_words.specs.Gathered.{AreLines}

@@ -12,8 +12,9 @@ ghost use Rattle.flow_words.specs.declared.status.Status.TheVariants.{Refused as
 use crate::refusing::refuse;
 use crate::script::{line_status, print};
 use crate::status::Status;
+use certificates::named_activity;
 use deadlines::overdue_text;
-use explain::{explain_word, named_activity, verify_lines};
+use explain::{explain_word, verify_lines};
 use flow_core::Core;
 use flow_disk::Disk;
 use flow_io::{Sink, Source};

@@ -1,7 +1,8 @@
 use Rattle.std.proofs.Common.{ℕ, sym, subst}
 use Rattle.std.proofs.lemmas.Result.{err_from_is_err_and}
 use Rattle.explain.specs.Explained.{EndsWith}
-use Rattle.explain.specs.Shown.{activity_spelling, fate_at, IsShown}
+use Rattle.certificates.specs.Naming.{activity_spelling}
+use Rattle.explain.specs.Shown.{fate_at, IsShown}
 use Rattle.explain.proofs.Shown.{facts_here, has_none}
 use Rattle.explain.proofs.making.explain_over.Goals as goal
 

@@ -1,9 +1,8 @@
 //! The texts of activities, and the activities that words name.
 ghost use Rattle.std.specs.Prelude.{◌≡◌, ℕ, true, false, None, List as Bytes, ◌∷◌, ◌++◌, IfOk, IfSome};
 ghost use Rattle.std.specs.Option.{option_map};
-ghost use Rattle.explain.specs.Naming.{IsCut, NamesActivity, NamesNoActivity};
-ghost use Rattle.explain.specs.Shown.{activity_spelling};
-ghost use Rattle.flow_model.specs.Paths.{Spells, SpellsNoPath};
+ghost use Rattle.certificates.specs.Naming.{activity_spelling, IsCutAt, NamesActivity, NamesNoOther, NamesNoActivity};
+ghost use Rattle.flow_model.specs.Paths.{Spells, SpellsNoOther, SpellsNoPath};
 ghost use Rattle.flow_model.specs.Words.{is_name};
 
 use flow_model::{Name, NameFault, Path, PathFault, path_of, path_text};
@@ -19,20 +18,21 @@ pub fn activity_text(alloc: Global, scope: &Path, name: &Name) -> Result<Vec<u8>
     Ok(text)
 }
 
-/// The bytes before the last `/`, and those behind it; None where there is no `/`.
-fn cut_word(word: &[u8]) -> Option<(&[u8], &[u8])>
-    ensures whole { IfSome result (λ cut. cut.0.now ++ 47 ∷ cut.1.now ≡ word.now) }
-    ensures found { IsCut word.now (option_map {U = Bytes ℕ × Bytes ℕ} (λ cut. (cut.0.now, cut.1.now)) result) }
+/// The bytes before the last one like this, and those behind it; None where there is none like it.
+pub(crate) fn cut_at_last(bytes: &[u8], mark: u8) -> Option<(&[u8], &[u8])>
+    ensures whole { IfSome result (λ cut. cut.0.now ++ mark ∷ cut.1.now ≡ bytes.now) }
+    ensures found { IsCutAt mark bytes.now (option_map {U = Bytes ℕ × Bytes ℕ} (λ cut. (cut.0.now, cut.1.now)) result) }
 {
-    match word.iter().rposition(|byte| *byte == b'/') {
-        Some(place) => Some((&word[..place], &word[place + 1..])),
+    match bytes.iter().rposition(|byte| *byte == mark) {
+        Some(place) => Some((&bytes[..place], &bytes[place + 1..])),
         None => None,
     }
 }
 
 /// The path that these bytes spell.
-fn scope_in(alloc: Global, bytes: &[u8]) -> Result<Option<Path>, AllocError>
+pub(crate) fn scope_in(alloc: Global, bytes: &[u8]) -> Result<Option<Path>, AllocError>
     ensures spelled { IfOk result (λ found. IfSome found (Spells bytes.now)) }
+    ensures one { IfOk result (λ found. IfSome found (SpellsNoOther bytes.now)) }
     ensures none { IfOk result (λ found. found ≡ None → SpellsNoPath bytes.now) }
 {
     match path_of(alloc, bytes) {
@@ -58,9 +58,10 @@ fn name_in(alloc: Global, bytes: &[u8]) -> Result<Option<Name>, AllocError>
 /// of that form.
 pub fn named_activity(alloc: Global, word: &[u8]) -> Result<Option<(Path, Name)>, AllocError>
     ensures named { IfOk result (λ found. IfSome found (λ named. NamesActivity word.now named.0 named.1)) }
+    ensures one { IfOk result (λ found. IfSome found (λ named. NamesNoOther word.now named.0 named.1)) }
     ensures none { IfOk result (λ found. found ≡ None → NamesNoActivity word.now) }
 {
-    let Some((before, behind)) = cut_word(word) else {
+    let Some((before, behind)) = cut_at_last(word, b'/') else {
         return Ok(None);
     };
     let Some(scope) = scope_in(alloc, before)? else {
