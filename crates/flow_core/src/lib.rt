@@ -8,6 +8,7 @@
 mod adopting;
 mod answering;
 mod applying;
+mod item_changes;
 mod item_commands;
 mod items;
 mod judging;
@@ -15,6 +16,8 @@ mod listings;
 mod open_items;
 mod paths;
 mod refusals;
+mod root_changes;
+mod shelving;
 mod state;
 mod views;
 mod words;
