@@ -6,7 +6,7 @@ use flow_words::Status;
 use std::alloc::Global;
 use std::test::Fail;
 
-/// A diamond with a dead side, and a block that was repeated.
+/// A diamond with a dead side, a block that was repeated, and a program that was.
 const SCRIPT: &[u8] = b"IMPORT
 STRUCTURE 'N' 'n' : LONG ; END 'N'
 PERSON 'ann' END 'ann'
@@ -19,6 +19,7 @@ DATA FROM 'X' TO SINK MAP 'n' TO 'n'
 END 'L'
 PROGRAM_ACTIVITY 'D' ('N','N') END 'D'
 PROGRAM_ACTIVITY 'W' ('N','N') END 'W'
+PROGRAM_ACTIVITY 'T' ('N','N') EXIT WHEN ('n' = 1) END 'T'
 CONTROL FROM 'A' TO 'B' WHEN ('n' > 5)
 CONTROL FROM 'A' TO 'L' OTHERWISE
 CONTROL FROM 'B' TO 'D'
@@ -34,6 +35,8 @@ FORCE '1/L#1/X#1' WITH 'n' = 1
 DRAIN
 FORCE '1/L#2/X#1' WITH 'n' = 2
 DRAIN
+FORCE '1/T#1' WITH 'n' = 0
+FORCE '1/T#2' WITH 'n' = 1
 START 'P' BY 'ann'
 ";
 
@@ -53,10 +56,15 @@ const LINES: [&str; 11] = [
 ];
 
 /// The path that is asked for, what `explain` answers, and the status.
-const ASKED: [(&str, &str, Status); 9] = [
+const ASKED: [(&str, &str, Status); 11] = [
     (
         "1/B",
         "ok EXPLAIN 3\nSCOPE '1'\nFINISHED '1/A' 1\nDEAD '1/B'\n",
+        Status::Done,
+    ),
+    (
+        "1/T",
+        "ok EXPLAIN 2\nSCOPE '1'\nFINISHED '1/T' 2\n",
         Status::Done,
     ),
     ("1/W", "no UNSETTLED READY 1\n", Status::Refused),
@@ -67,6 +75,7 @@ const ASKED: [(&str, &str, Status); 9] = [
     ("3/A", "no ROOT 3\n", Status::Refused),
     ("1", "no USAGE\n", Status::Usage),
     ("01/A", "no USAGE\n", Status::Usage),
+    ("'1/B'", "no USAGE\n", Status::Usage),
 ];
 
 /// A line, another one in its place, and the number of the line that isn't justified then.
@@ -85,6 +94,83 @@ const CHANGED: [(usize, &str, usize); 14] = [
     (9, "FINISHED '1/L' 3", 10),
     (10, "FINISHED '1/D' 1", 11),
     (10, "DEAD '1/E'", 11),
+];
+
+/// Lines, with the number of the first that isn't justified; 0 where all are. A line that stands before is looked up.
+const REPEATED: [(&[&str], usize); 11] = [
+    (&["SCOPE '1'", "FINISHED '1/T' 2"], 0),
+    (&["SCOPE '1'", "FINISHED '1/T' 1"], 2),
+    (&["SCOPE '1'", "FINISHED '1/T' 3"], 2),
+    (
+        &[
+            "SCOPE '1'",
+            "FINISHED '1/T' 2",
+            "SCOPE '1'",
+            "FINISHED '1/T' 2",
+        ],
+        0,
+    ),
+    (
+        &[
+            "SCOPE '1'",
+            "FINISHED '1/T' 2",
+            "FINISHED '1/T' 2",
+            "FINISHED '1/T' 1",
+        ],
+        4,
+    ),
+    (&["SCOPE '1'", "FINISHED '1/T' 2", "FINISHED '1/T' 3"], 3),
+    (
+        &[
+            "SCOPE '1'",
+            "FINISHED '1/A' 1",
+            "DEAD '1/B'",
+            "DEAD '1/B'",
+            "DEAD '1/A'",
+        ],
+        5,
+    ),
+    (&["SCOPE '1'", "DEAD '1/B'", "DEAD '1/B'"], 2),
+    (
+        &[
+            "SCOPE '1'",
+            "FINISHED '1/A' 1",
+            "SCOPE '1/L#1'",
+            "SCOPE '1/L#1'",
+            "ENDED '1/L#1'",
+        ],
+        5,
+    ),
+    (
+        &[
+            "SCOPE '1'",
+            "FINISHED '1/A' 1",
+            "SCOPE '1/L#1'",
+            "FINISHED '1/L#1/X' 1",
+            "ENDED '1/L#1'",
+            "SCOPE '1/L#2'",
+            "FINISHED '1/L' 2",
+        ],
+        7,
+    ),
+    (
+        &[
+            "SCOPE '1'",
+            "FINISHED '1/A' 1",
+            "SCOPE '1/L#1'",
+            "FINISHED '1/L#1/X' 1",
+            "ENDED '1/L#1'",
+            "SCOPE '1/L#2'",
+            "FINISHED '1/L#2/X' 1",
+            "ENDED '1/L#2'",
+            "FINISHED '1/L' 2",
+            "SCOPE '1/L#2'",
+            "ENDED '1/L#1'",
+            "FINISHED '1/L' 2",
+            "FINISHED '1/L' 1",
+        ],
+        13,
+    ),
 ];
 
 /// A store on which the script was run.
@@ -114,6 +200,15 @@ fn accept(alloc: Global, shows: &str, lines: &[&str]) -> Result<(), Fail> {
 fn stop_at(alloc: Global, shows: &str, lines: &[&str], number: usize) -> Result<(), Fail> {
     let answer = format!(in alloc; "no STEP {number}\n")?;
     verified(alloc, lines)?.check(shows, answer.as_str(), Status::Refused)
+}
+
+/// Fails where these lines don't stop at this number, or, where it is 0, aren't all justified.
+fn judge(alloc: Global, shows: &str, lines: &[&str], number: usize) -> Result<(), Fail> {
+    if number == 0 {
+        accept(alloc, shows, lines)
+    } else {
+        stop_at(alloc, shows, lines, number)
+    }
 }
 
 /// The lines with another one at a place.
@@ -213,11 +308,7 @@ fn lines_have_an_order(rt: HostRuntime) -> Result<(), Fail> {
     for (i, number) in EXCHANGED.iter().enumerate() {
         let shows = format!(in rt.alloc(); "line {i} behind the next one")?;
         let lines = exchanged(rt.alloc(), i)?;
-        if *number == 0 {
-            accept(rt.alloc(), shows.as_str(), &lines)?;
-        } else {
-            stop_at(rt.alloc(), shows.as_str(), &lines, *number)?;
-        }
+        judge(rt.alloc(), shows.as_str(), &lines, *number)?;
     }
     Ok(())
 }
@@ -226,6 +317,15 @@ fn lines_have_an_order(rt: HostRuntime) -> Result<(), Fail> {
 fn changed_lines_stop(rt: HostRuntime) -> Result<(), Fail> {
     for (at, line, number) in CHANGED {
         stop_at(rt.alloc(), line, &with_line(rt.alloc(), at, line)?, number)?;
+    }
+    Ok(())
+}
+
+#[test]
+fn repeated_lines_are_looked_up(rt: HostRuntime) -> Result<(), Fail> {
+    for (i, case) in REPEATED.iter().enumerate() {
+        let shows = format!(in rt.alloc(); "case {i}")?;
+        judge(rt.alloc(), shows.as_str(), case.0, case.1)?;
     }
     Ok(())
 }
