@@ -3,11 +3,14 @@
 
 - In `crates/NAME/README.md` each row of the table under "Promises" names calls and clauses: each call is a function of
   the crate, and each clause an `ensures` of one of the calls of its row.
+- In `crates/NAME/README.md` each test that is named under "Tested only" is one of some crate, and a number of tests
+  that is said there is the crate's own.
 - In `docs/*.md` each block of ```antt follows a line "In `crates/..`:", and each of its lines stands in that file.
 - Each path below `crates/` that a page names is there.
 
 Usage: promises.py
 """
+import glob
 import os
 import re
 import sys
@@ -69,6 +72,24 @@ def wrong_promises(crate):
     return wrong
 
 
+def tests_of(crate):
+    """The names of the tests of a crate."""
+    sources = sorted(glob.glob(os.path.join(TOP, "crates", crate, "src", "*.rt")))
+    return {name for path in sources for name in re.findall(r"#\[test\]\s*fn (\w+)", text_of(path))}
+
+
+def wrong_tests(crate, tests):
+    """The tests that the README of a crate names or counts and that aren't there; `tests` has those of each crate."""
+    readme = os.path.join("crates", crate, "README.md")
+    section = text_of(readme).partition("## Tested only")[2].partition("\n## ")[0]
+    known = set(tests).union(*tests.values())
+    wrong = [f"{readme}: {name} is no test" for name in re.findall(r"`(\w+)`", section) if name not in known]
+    said = re.search(r"(\d+) tests", section)
+    if said and int(said.group(1)) != len(tests[crate]):
+        wrong.append(f"{readme}: says {said.group(1)} tests, has {len(tests[crate])}")
+    return wrong
+
+
 def wrong_quotes(page):
     """The lines that a page quotes and that don't stand where it says."""
     wrong = []
@@ -94,7 +115,9 @@ def pages():
 
 
 def main():
-    trials = {f"promises of {crate}": wrong_promises(crate) for crate in sorted(os.listdir(os.path.join(TOP, "crates")))}
+    crates = sorted(os.listdir(os.path.join(TOP, "crates")))
+    tests = {crate: tests_of(crate) for crate in crates}
+    trials = {f"promises of {crate}": wrong_promises(crate) + wrong_tests(crate, tests) for crate in crates}
     for page in pages():
         trials[f"quotes and paths of {page}"] = wrong_quotes(page) + wrong_paths(page)
     for wrong in trials.values():
