@@ -1,8 +1,8 @@
 -- A process whose only activity is a block around one program, which has been completed: the laws speak of it, and certify that the block has finished.
-use Rattle.std.proofs.Common.{◌≡◌, ◌⊎◌, ℕ, zero, suc, ◌<◌, ◌≤◌, false, List, [], ◌∷◌, reverse, Some, None, refl, sym, ap, subst, ◌∙◌, arith, inl, inr}
+use Rattle.std.proofs.Common.{◌≡◌, ℕ, zero, suc, ◌<◌, ◌≤◌, false, List, [], ◌∷◌, Some, None, refl, sym, ap, subst, ◌∙◌, arith}
 use Rattle.std.specs.Prelude.{slice_get, slice_index}
 use Rattle.std.proofs.lemmas.List.Elements.{All-cons, All-nil}
-use Rattle.std.proofs.lemmas.Option.{none-some, same_Some}
+use Rattle.std.proofs.lemmas.Option.{none-some}
 use Rattle.flow_model.specs.declared.graphs.Activity.{Activity}
 use Rattle.flow_model.specs.declared.graphs.Container.{Container}
 use Rattle.flow_model.specs.declared.graphs.DoneBy.TheVariants.{Starter}
@@ -19,16 +19,15 @@ use Rattle.flow_model.specs.declared.instances.Part.{Part}
 use Rattle.flow_model.specs.declared.instances.Path.{Path}
 use Rattle.flow_model.specs.Paths.{IsStep}
 use Rattle.flow_model.specs.ScopeContainers.{graph_in}
-use Rattle.flow_model.specs.Scopes.{at, part}
+use Rattle.flow_model.specs.Scopes.{part}
 use Rattle.flow_model.specs.Words.{is_name}
 use Rattle.fate_laws.specs.WellFormed.{IsWell, Well}
 use Rattle.certificates.specs.declared.lines.CertLine.TheVariants.{Finished}
-use Rattle.certificates.specs.Told.{Basis, activity_at}
-use Rattle.certificates.proofs.Growth.{and_then_parts, map_parts}
-use Rattle.certificates.proofs.Laid.{stands}
+use Rattle.certificates.specs.Told.{Basis}
 use Rattle.certificate_laws.specs.Right.{AreOwn, IsRead, root_in}
-use Rattle.certificate_laws.specs.Standings.{Standing, fate_in, input_in, scope_back, step_at, step_by, step_down, step_to}
-use Rattle.explanation_laws.specs.Certified.{AreReadScopes, HasCertificate, HasReadActivities, IsReadRoot}
+use Rattle.certificate_laws.specs.Standings.{Standing, fate_in}
+use Rattle.explanation_laws.specs.Certified.{HasCertificate, HasReadActivities, IsReadRoot}
+use Rattle.explanation_laws.proofs.Inside.{IsReadGraph, ReadTo, read_scopes}
 use Rattle.explanation_laws.proofs.Scopes.{began_at, settled_certified}
 use denote.Hole.Carrier
 
@@ -128,40 +127,7 @@ well_block =
     well_one block (Well templates 0)
     (λ h there. let same : only program ≡ h = cc in subst (Well templates 0) same (well_one program (λ k. Unit {0}) (λ k none. tt)))
 
--- ---- its scopes are the root's and that of the block
-
-in_block : (a : ℕ) (x : Activity) → slice_get (activity block ∷ []) a ≡ Some x → (h : Graph) → graph_in templates x.work ≡ Some h → h ≡ only program
-in_block a x there h runs =
-    let inside : graph_in templates block ≡ Some h = ap (λ (y : Activity). graph_in templates y.work) (first_alone block a x there) ∙ runs in
-    sym (same_Some (only program) h inside)
-
-in_program : (a : ℕ) (x : Activity) → slice_get (activity program ∷ []) a ≡ Some x → (h : Graph) → graph_in templates x.work ≡ Some h → ⊥
-in_program a x there h runs =
-    let inside : graph_in templates program ≡ Some h = ap (λ (y : Activity). graph_in templates y.work) (first_alone program a x there) ∙ runs in
-    none-some h inside
-
-abbrev IsOurs : Graph → Type 0
-IsOurs g = (g ≡ only block) ⊎ (g ≡ only program)
-
-inside_ours : (g : Graph) → IsOurs g → (a : ℕ) (x : Activity) → slice_get (out-Graph g).activities a ≡ Some x → (h : Graph) → graph_in templates x.work ≡ Some h → IsOurs h
-unfolding opened
-inside_ours g (inl is) a x there h runs = inr (in_block a x (ap (λ (k : Graph). slice_get (out-Graph k).activities a) (sym is) ∙ there) h runs)
-inside_ours g (inr is) a x there h runs = absurd (in_program a x (ap (λ (k : Graph). slice_get (out-Graph k).activities a) (sym is) ∙ there) h runs)
-
-scopes_ours : (path : List Part) (scope : Standing) → scope_back templates root path ≡ Some scope → IsOurs scope.graph
-scopes_ours [] scope there = inl (ap (λ (st : Standing). st.graph) (sym (same_Some root scope there)))
-scopes_ours (q ∷ path) scope there =
-    let outside = and_then_parts (step_down templates q) (scope_back templates root path) scope there in
-    by_depth outside.0 (scopes_ours path outside.0 outside.1) outside.0.depth outside.2
-  where
-    by_depth : (st : Standing) → IsOurs st.graph → (d : ℕ) → step_at templates q st d ≡ Some scope → IsOurs scope.graph
-    by_depth st ours zero step = absurd (none-some scope step)
-    by_depth st ours (suc d) step =
-        let found = and_then_parts (step_by templates d q st) (activity_at st.graph q.name) scope step in
-        let runs = and_then_parts (step_to templates d q st found.0) (graph_in templates found.0.activity.work) scope found.2 in
-        let input = map_parts (λ (i : Container). let u : Standing = record { depth = d; known = at q st.known; graph = runs.0; input = i } in u) (input_in templates st found.0 q.attempt) scope runs.2 in
-        subst IsOurs (ap (λ (u : Standing). u.graph) input.2)
-        (inside_ours st.graph ours found.0.place found.0.activity (stands st.graph q.name found.0 found.1) runs.0 runs.1)
+-- ---- its activities, and those of its scopes, are as they are read
 
 read_only : (work : Work) → HasReadActivities (only work)
 unfolding opened
@@ -170,12 +136,17 @@ read_only work = record {
   named = λ a x there. ap (λ (y : Activity). is_name y.name) (sym (first_alone work a x there));
 }
 
-read_scopes : AreReadScopes basis (only block) 1 1
-read_scopes path scope there = by_graph (scopes_ours (reverse path) scope there)
-  where
-    by_graph : IsOurs scope.graph → HasReadActivities scope.graph
-    by_graph (inl is) = subst HasReadActivities (sym is) (read_only block)
-    by_graph (inr is) = subst HasReadActivities (sym is) (read_only program)
+read_one : (work : Work) (P : Graph → Type 0) → ((h : Graph) → graph_in templates work ≡ Some h → P h) → IsReadGraph templates (only work) P
+unfolding opened
+read_one work P inner = record {
+  activities = read_only work;
+  inside = λ a x there h runs. inner h (ap (λ (y : Activity). graph_in templates y.work) (first_alone work a x there) ∙ runs);
+}
+
+read_block : ReadTo templates 1 (only block)
+read_block =
+    read_one block (ReadTo templates 0)
+    (λ h there. let same : only program ≡ h = cc in subst (ReadTo templates 0) same (read_one program (λ k. Unit {0}) (λ k none. tt)))
 
 -- ---- the law speaks of it
 
@@ -196,7 +167,7 @@ own : AreOwn 1 1 (done ∷ [])
 own = All-cons (λ (f : Fact). IsRead 1 f.item × (f.item.root ≡ 1)) done [] (item_read, refl) (All-nil (λ (f : Fact). IsRead 1 f.item × (f.item.root ≡ 1)))
 
 read_root : IsReadRoot basis (only block) 1 1
-read_root = record { bounded = omega arith; graph = refl; well = well_block; own = own; scopes = read_scopes }
+read_root = record { bounded = omega arith; graph = refl; well = well_block; own = own; scopes = read_scopes basis (only block) 1 1 read_block }
 
 abbrev path_of_root : Path
 path_of_root = record { root = 1; parts = [] }

@@ -1,9 +1,9 @@
 //! Has what is so by the completions a justified certificate?
 //!
 //! Each function here is a law: it takes nothing, does nothing, and its `ensures` is a statement about the
-//! definitions of `certificates` and `flow_model`, which is proved. Begin with `specs/Certified.antt`.
+//! definitions of `certificates`, `machine` and `flow_model`, which is proved. Begin with `specs/Certified.antt`.
 #![tactic(auto)]
 
 mod laws;
 
-pub use laws::{certified_are_right, settled_are_certified};
+pub use laws::{certified_are_right, histories_are_read, settled_are_certified};

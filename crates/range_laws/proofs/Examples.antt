@@ -59,9 +59,11 @@ first_alone work (suc a) activity at = absurd (none-some activity at)
 -- a graph of one activity has one level more than what that runs
 one_more : (work : Work) (levels : ℕ) → RunsOnly [] (IsInBounds [] levels) work → IsInBounds [] (suc levels) (only work)
 unfolding opened
-one_more work levels runs = λ a activity at.
-    subst (HasBounds [] (IsInBounds [] levels)) (first_alone work a activity at)
-    (record { named = refl; small = few; inside = runs })
+one_more work levels runs = record {
+  few = omega arith;
+  each = λ a activity at. subst (HasBounds [] (IsInBounds [] levels)) (first_alone work a activity at)
+      (record { named = refl; small = few; inside = runs });
+}
 
 -- a block within a graph makes two levels
 two_levels : IsInBounds [] 2 (only block)
@@ -70,4 +72,4 @@ two_levels = one_more block 1 (one_more program 0 tt)
 -- and no less
 no_one_level : IsInBounds [] 1 (only block) → ⊥
 unfolding opened
-no_one_level here = (here 0 (named block) refl).inside
+no_one_level here = (here.each 0 (named block) refl).inside

@@ -1,5 +1,5 @@
--- What the rules leave of a text that is accepted: structures are small (rule 8), and processes nest at most 16 levels
--- deep (rule 21).
+-- What the rules leave of a text that is accepted: structures are small (rule 8), processes nest at most 16 levels deep
+-- (rule 21), and graphs have few activities (rule 24).
 use Rattle.std.proofs.Common.{◌≡◌, ◌⊎◌, inl, inr, ℕ, zero, suc, ◌<◌, ◌≤◌, List, [], ◌∷◌, ◌++◌, length, Option, Some, None, refl, sym, subst}
 use Rattle.std.specs.Option.{option_map, option_and_then}
 use Rattle.std.specs.Prelude.{slice_get}
@@ -10,17 +10,22 @@ use Rattle.flow_model.specs.declared.graphs.Library.{Library}
 use Rattle.flow_model.specs.declared.trees.ItemTree.{ItemTree}
 use Rattle.flow_model.specs.declared.trees.ProcessTree.{ProcessTree}
 use Rattle.flow_model.specs.declared.trees.StructDef.{StructDef}
+use Rattle.leaf_rules.specs.ArrayCounts.{IsCountOutside}
 use Rattle.leaf_rules.specs.Counts.{IsLarge, HasTooManyLeaves}
 use Rattle.leaf_rules.specs.KindEdges.{IsInStructureCycle}
 use Rattle.leaf_rules.specs.StructureLeaves.{leaves_of, leaves_in}
 use Rattle.leaf_rules.specs.Structures.{structure_in}
+use Rattle.process_rules.specs.Counts.{IsTooMuch, IsTooMuchOf}
+use Rattle.process_rules.specs.Numbers.{IsNumberWrong}
 use Rattle.process_rules.specs.Shapes.{shape_at, shapes_of, IsDeep, IsLargeProcess}
 use Rattle.template_check.specs.Rules.{Rule, IsFirstBroken, rules_on_names, rules_on_structures, rules_on_connectors, rules_on_leaves}
 use Rattle.template_check.specs.Rules.{rules_on_lines, rules_on_callees, rules_on_people, rules_on_counts, from_sizes, from_callees}
 use Rattle.template_check.specs.Rules.{from_leaves, from_connectors, later_rules}
+use Rattle.text_graphs.specs.Graphs.{GraphAt, InGraphs, IsGraphOf}
 use Rattle.text_graphs.specs.Places.{AnyAt}
-use Rattle.text_graphs.specs.Texts.{processes_in, structures_in}
+use Rattle.text_graphs.specs.Texts.{activities_in, processes_in, structures_in}
 use Rattle.range_laws.proofs.Scenes.{some_is}
+use Rattle.range_laws.proofs.Shapes.{there}
 
 -- ---- rules that find nothing
 
@@ -29,10 +34,11 @@ passed : (rule : Rule) (rules : List Rule) → IsFirstBroken (rule ∷ rules) No
 passed rule rules (inl here) = absurd (none-some (rule.0, here.0) here.1)
 passed rule rules (inr past) = past
 
--- the rules on structures and sizes
+-- the rules on structures, sizes and counts
 pub record FindNone (library : Library) (items : List ItemTree) : Type 0 where
   pub small : (p : ℕ) → HasTooManyLeaves (structures_in items) p → ⊥
   pub shallow : (p : ℕ) → IsDeep library (processes_in items) p → ⊥
+  pub few : (p : ℕ) → IsTooMuchOf (processes_in items) (InGraphs items IsTooMuch) p → ⊥
 
 behind : (first second : List Rule) → IsFirstBroken (first ++ second) None → IsFirstBroken second None
 behind [] second none = none
@@ -53,7 +59,11 @@ find_none library items none =
     callees in
     let rule_21 = passed (21, IsDeep library (processes_in items))
     ((22, IsLargeProcess library (processes_in items)) ∷ rules_on_counts items) sizes in
-    record { small = rule_8.0; shallow = rule_21.0 }
+    let counts = behind ((22, IsLargeProcess library (processes_in items)) ∷ []) (rules_on_counts items) rule_21.1 in
+    let rule_23 = passed (23, λ p. IsCountOutside (structures_in items) p ⊎ InGraphs items IsNumberWrong p)
+    ((24, IsTooMuchOf (processes_in items) (InGraphs items IsTooMuch)) ∷ []) counts in
+    let rule_24 = passed (24, IsTooMuchOf (processes_in items) (InGraphs items IsTooMuch)) [] rule_23.1 in
+    record { small = rule_8.0; shallow = rule_21.0; few = rule_24.0 }
 
 -- ---- rule 8
 
@@ -99,3 +109,17 @@ nests_shallow library items none k p at =
         → (shape_at (shapes_of library (processes_in items)) k).depth ≤ 16
     go (inl deep) = absurd (none.shallow p.place (k, p, at, (deep, refl)))
     go (inr shallow) = shallow
+
+-- ---- rule 24
+
+-- a graph of the text has few activities
+pub activities_few : (library : Library) (items : List ItemTree) → FindNone library items → (g : GraphAt)
+    → IsGraphOf items g → length (activities_in g.elements) ≤ 1024
+activities_few library items none g is = go (cases_lt 1024 (length (activities_in g.elements)))
+  where
+    go : (1024 < length (activities_in g.elements)) ⊎ (length (activities_in g.elements) ≤ 1024)
+        → length (activities_in g.elements) ≤ 1024
+    go (inl many) =
+        let extra = there (activities_in g.elements) 1024 many in
+        absurd (none.few extra.0.place (inr (g, is, inl (inl (extra.0, extra.1, refl)))))
+    go (inr fits) = fits

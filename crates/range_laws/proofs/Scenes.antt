@@ -161,7 +161,7 @@ module _ (ts : List Template) (levels : ℕ) (g : Graph) (here : IsInBounds ts (
     (fits : PathFits path) (shallow : length path.parts ≤ 16) (n : ℕ) where
   name_at : (a : ℕ) (activity : Activity) → slice_get (out-Graph g).activities a ≡ Some activity
       → IsName activity.name
-  name_at a activity at = (here a activity at).named
+  name_at a activity at = (here.each a activity at).named
 
   -- ---- signals
 

@@ -93,7 +93,7 @@ module _ (ts : List Template) (e : Entry) where
         → slice_get (out-Graph g).activities a ≡ o → (h : Graph) → graph_under ts o ≡ Some h → IsInBounds ts levels h
     under g a here None at h none = absurd (none-some h none)
     under g a here (Some activity) at h there =
-        runs_graph ts (IsInBounds ts levels) activity.work h (here a activity at).inside there
+        runs_graph ts (IsInBounds ts levels) activity.work h (here.each a activity at).inside there
 
     by_part : (g : Graph) (u : Scopes) (j : ℕ) → IsInBounds ts (suc levels) g → (o : Option ℕ)
         → option_and_then (entry_at ts (r ∷ qs)) (option_and_then
@@ -109,7 +109,7 @@ module _ (ts : List Template) (e : Entry) where
   entry_fits q qs zero g u here is = absurd here
   entry_fits q [] (suc levels) g u here is =
       let there = entry_there g e q (u []) is in
-      record { deep = omega arith; small = (here there.0 e.activity there.1).small }
+      record { deep = omega arith; small = (here.each there.0 e.activity there.1).small }
   entry_fits q (r ∷ qs) (suc levels) g u here is =
       let more = by_part r qs levels (λ h v inner at. entry_fits r qs levels h v inner at) g u q.attempt here
       (place_of g q.name) is in

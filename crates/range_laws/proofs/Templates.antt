@@ -1,5 +1,5 @@
 -- What a text adds to a library in bounds is in bounds: its templates nest as deep as their shapes say, their activities
--- have names, and their containers are small.
+-- are few and have names, and their containers are small.
 use Rattle.std.proofs.Common.{◌≡◌, ℕ, zero, suc, ◌+◌, ◌-◌, ◌^◌, ◌<◌, ◌≤◌, nat_lt, Bool, true, false, List, [], ◌∷◌, ◌++◌, length}
 use Rattle.std.proofs.Common.{Option, Some, None, refl, sym, ap, subst, ◌∙◌, arith, ltb-true}
 use Rattle.std.specs.List.{All, Contains}
@@ -44,7 +44,7 @@ use Rattle.text_graphs.specs.Texts.{activities_in, processes_in, structures_in}
 use Rattle.text_laws.proofs.Inside.{StandsIn, process_stands, block_stands}
 use Rattle.text_laws.proofs.Trees.{tree_one}
 use Rattle.range_laws.specs.Bounds.{RunsOnly, IsInBounds, IsBounded}
-use Rattle.range_laws.proofs.Judged.{FindNone, find_none, leaves_small, nests_shallow}
+use Rattle.range_laws.proofs.Judged.{FindNone, activities_few, find_none, leaves_small, nests_shallow}
 use Rattle.range_laws.proofs.Named.{AreNamedTo, AreAllNamed, block_one, program_no_block, process_no_block, text_named}
 use Rattle.range_laws.proofs.Queues.{all_at}
 use Rattle.range_laws.proofs.Scenes.{some_is}
@@ -68,6 +68,13 @@ part_from R _ _ i y (NoPart one parts) at = absurd one
 part_from R _ _ zero y (OnePart {x} {y = z} one parts) at = (x, refl, subst (R x) (some_is z y at) one)
 part_from R _ _ (suc i) y (OnePart {xs} {ys} one parts) at = part_from R xs ys i y parts at
 
+-- each gives one, so these are as many
+parts_long : {X Y : Type 0} (R : X → Y → Type 0) (xs : List X) (ys : List Y) → AreParts (IsOne R) xs ys
+    → length ys ≡ length xs
+parts_long R _ _ NoneLeft = refl
+parts_long R _ _ (NoPart one parts) = absurd one
+parts_long R _ _ (OnePart {xs} {ys} one parts) = ap suc (parts_long R xs ys parts)
+
 -- ---- more levels, and more templates
 
 runs_weaker : (ts us : List Template) (P Q : Graph → Type 0) → ((g : Graph) → P g → Q g)
@@ -81,14 +88,17 @@ bounds_weaker : (ts us : List Template) → ((t : ℕ) (g : Graph) → graph_of 
     → (levels higher : ℕ) → levels ≤ higher → (g : Graph) → IsInBounds ts levels g → IsInBounds us higher g
 bounds_weaker ts us kept zero higher le g here = absurd here
 bounds_weaker ts us kept (suc levels) zero le g here = absurd (omega (arith, le))
-bounds_weaker ts us kept (suc levels) (suc higher) le g here = λ a activity at. (
-    let one = here a activity at in
-    record {
-      named = one.named;
-      small = one.small;
-      inside = runs_weaker ts us (IsInBounds ts levels) (IsInBounds us higher)
-          (bounds_weaker ts us kept levels higher (omega (arith, le))) kept activity.work one.inside;
-    })
+bounds_weaker ts us kept (suc levels) (suc higher) le g here = record {
+  few = here.few;
+  each = λ a activity at. (
+      let one = here.each a activity at in
+      record {
+        named = one.named;
+        small = one.small;
+        inside = runs_weaker ts us (IsInBounds ts levels) (IsInBounds us higher)
+            (bounds_weaker ts us kept levels higher (omega (arith, le))) kept activity.work one.inside;
+      });
+}
 
 graph_kept : (ts us : List Template) (t : ℕ) (g : Graph) → graph_of ts t ≡ Some g → graph_of (ts ++ us) t ≡ Some g
 graph_kept [] us t g at = absurd (none-some g at)
@@ -189,6 +199,19 @@ module _ (library : Library) (items : List ItemTree) (r : Reading)
       × (r.leaves b.output.name ≡ leaves_in (structures_in items) b.output.name)) (activities_in g.elements) k a
       has.activities at in
       leaves_small (structures_in items) none.small found a.output.name (sym both.1 ∙ is)
+
+  -- ---- activities
+
+  graph_activities : (g : GraphText) → StandsIn items g → length (activities_in g.elements) ≤ 1024
+  graph_activities g stands =
+      let at : GraphAt = record {
+        process = g.process;
+        place = stands.place;
+        input = stands.input;
+        output = stands.output;
+        elements = g.elements;
+      } in
+      activities_few library items none at (g.process, stands.process, stands.listed, stands.stands)
 
   -- ---- the processes that names stand for
 
@@ -370,24 +393,31 @@ module _ (library : Library) (items : List ItemTree) (r : Reading)
       work_runs (Process t) works (BlockOf inner e has) = absurd has
 
     graph_step : AllNest d
-    graph_step g made meant' stands named' depth = λ i activity at. (
-        let part = λ (n : ℕ). part_from (IsActivity (MeantTo r n) r g) (activities_in g.elements)
-        (out-Graph made).activities i activity (meant' (suc n)).activities at in
-        let a = (part 0).0 in
-        let there' = (part 0).1 in
-        let one = (part 0).2 in
-        let all_named = all_at (λ (b : ActivityTree). (is_name b.name.name ≡ true)
-        × ((es : List ElementTree) → IsBlockOf b es → AreNamedTo 0 es)) (activities_in g.elements) i a (named' 1)
-        there' in
-        let works : (n : ℕ) → IsWork (MeantTo r n) r g a activity.work = λ n.
-        subst (λ (x : ActivityTree). IsWork (MeantTo r n) r g x activity.work)
-        (some_is (part n).0 a (sym (part n).1 ∙ there')) (part n).2.works in
-        record {
-          named = subst IsName (sym one.named) all_named.0;
-          small = code_small (r.leaves a.output.name) activity.output.leaves (output_leaves g stands i a there')
-              one.output;
-          inside = work_runs g stands named' depth a i there' activity.work works (works 0);
-        })
+    graph_step g made meant' stands named' depth = record {
+      few =
+          let same = parts_long (IsActivity (MeantTo r 0) r g) (activities_in g.elements) (out-Graph made).activities
+          (meant' 1).activities in
+          let most = graph_activities g stands in
+          omega (arith, same, most);
+      each = λ i activity at. (
+          let part = λ (n : ℕ). part_from (IsActivity (MeantTo r n) r g) (activities_in g.elements)
+          (out-Graph made).activities i activity (meant' (suc n)).activities at in
+          let a = (part 0).0 in
+          let there' = (part 0).1 in
+          let one = (part 0).2 in
+          let all_named = all_at (λ (b : ActivityTree). (is_name b.name.name ≡ true)
+          × ((es : List ElementTree) → IsBlockOf b es → AreNamedTo 0 es)) (activities_in g.elements) i a (named' 1)
+          there' in
+          let works : (n : ℕ) → IsWork (MeantTo r n) r g a activity.work = λ n.
+          subst (λ (x : ActivityTree). IsWork (MeantTo r n) r g x activity.work)
+          (some_is (part n).0 a (sym (part n).1 ∙ there')) (part n).2.works in
+          record {
+            named = subst IsName (sym one.named) all_named.0;
+            small = code_small (r.leaves a.output.name) activity.output.leaves (output_leaves g stands i a there')
+                one.output;
+            inside = work_runs g stands named' depth a i there' activity.work works (works 0);
+          });
+    }
 
   all_nest : (d : ℕ) → AllNest d
   all_nest zero = graph_step zero (λ e is. absurd (omega (arith, is)))

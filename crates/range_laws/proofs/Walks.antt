@@ -76,7 +76,7 @@ module _ (ts : List Template) where
             → graph_under ts o ≡ Some h → IsInBounds ts levels h
         under_bounded a None at h none = absurd (none-some h none)
         under_bounded a (Some activity) at h there =
-            runs_graph ts (IsInBounds ts levels) activity.work h (here a activity at).inside there
+            runs_graph ts (IsInBounds ts levels) activity.work h (here.each a activity at).inside there
 
         by_part : (j : ℕ) (o : Option ℕ) → OutcomeFits after (into_part ts (changes_at ts change qs) g s j o)
         by_part j None = unchanged_fits before after le s counted

@@ -1,4 +1,5 @@
--- Graphs in bounds: how deep they nest, which names their activities have, and how small the outputs of those are.
+-- Graphs in bounds: how deep they nest, how many activities they have, which names these have, and how small the
+-- outputs of these are.
 use Rattle.std.specs.Prelude.{◌≡◌, ℕ, zero, suc, ◌^◌, ◌<◌, ◌≤◌, Some, List, length, slice_get}
 use Rattle.flow_model.specs.ScopeContainers.{graph_of}
 use Rattle.flow_model.specs.declared.graphs.Activity.{Activity}
@@ -20,12 +21,16 @@ pub record HasBounds (ts : List Template) (P : Graph → Type 0) (activity : Act
   pub small : length activity.output.leaves < 2 ^ 16
   pub inside : RunsOnly ts P activity.work
 
--- a graph and those inside it nest no more than this many levels deep, itself the first, and their activities are so
+-- a graph has at most 1,024 activities, and each of them is within these bounds
+pub record IsGraphInBounds (ts : List Template) (P : Graph → Type 0) (g : Graph) : Type 0 where
+  pub few : length (out-Graph g).activities ≤ 1024
+  pub each : (a : ℕ) (activity : Activity) → slice_get (out-Graph g).activities a ≡ Some activity
+      → HasBounds ts P activity
+
+-- a graph and those inside it nest no more than this many levels deep, itself the first, and are so
 abbrev pub IsInBounds : List Template → ℕ → Graph → Type 0
 IsInBounds ts zero g = ⊥
-IsInBounds ts (suc levels) g =
-    (a : ℕ) (activity : Activity) → slice_get (out-Graph g).activities a ≡ Some activity
-    → HasBounds ts (IsInBounds ts levels) activity
+IsInBounds ts (suc levels) g = IsGraphInBounds ts (IsInBounds ts levels) g
 
 -- a template has a version and an input that their bytes hold, and nests as deep as it says, at most 16 levels below
 -- its own graph
