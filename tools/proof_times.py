@@ -34,6 +34,9 @@ def function_and_part(file):
     function, _, last = name.rpartition(".")
     if function.endswith(".Lts"):
         return function[: -len(".Lts")], "borrows"
+    # Functions that call one another have a module of borrows each.
+    if last.startswith("Lts-"):
+        return f"{function}, {last[len('Lts-'):]}", "borrows"
     if last in PARTS:
         return function, PARTS[last]
     return (function, "other") if last[:1].isupper() and function else (name, "other")
