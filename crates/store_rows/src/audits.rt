@@ -96,12 +96,22 @@ const CHANGED: [(usize, &str, usize); 14] = [
     (10, "DEAD '1/E'", 11),
 ];
 
-/// Lines, with the number of the first that isn't justified; 0 where all are. A line that stands before is looked up.
-const REPEATED: [(&[&str], usize); 11] = [
-    (&["SCOPE '1'", "FINISHED '1/T' 2"], 0),
-    (&["SCOPE '1'", "FINISHED '1/T' 1"], 2),
-    (&["SCOPE '1'", "FINISHED '1/T' 3"], 2),
+/// What it shows, lines, and the number of the first that isn't justified; 0 where all are. A line that stands before is
+/// looked up.
+const REPEATED: [(&str, &[&str], usize); 11] = [
+    ("the last attempt", &["SCOPE '1'", "FINISHED '1/T' 2"], 0),
     (
+        "an attempt before the last",
+        &["SCOPE '1'", "FINISHED '1/T' 1"],
+        2,
+    ),
+    (
+        "an attempt behind the last",
+        &["SCOPE '1'", "FINISHED '1/T' 3"],
+        2,
+    ),
+    (
+        "the last attempt again",
         &[
             "SCOPE '1'",
             "FINISHED '1/T' 2",
@@ -111,6 +121,7 @@ const REPEATED: [(&[&str], usize); 11] = [
         0,
     ),
     (
+        "an earlier attempt behind two of the last",
         &[
             "SCOPE '1'",
             "FINISHED '1/T' 2",
@@ -119,8 +130,13 @@ const REPEATED: [(&[&str], usize); 11] = [
         ],
         4,
     ),
-    (&["SCOPE '1'", "FINISHED '1/T' 2", "FINISHED '1/T' 3"], 3),
     (
+        "a later attempt behind the last",
+        &["SCOPE '1'", "FINISHED '1/T' 2", "FINISHED '1/T' 3"],
+        3,
+    ),
+    (
+        "another activity behind a dead one",
         &[
             "SCOPE '1'",
             "FINISHED '1/A' 1",
@@ -130,8 +146,13 @@ const REPEATED: [(&[&str], usize); 11] = [
         ],
         5,
     ),
-    (&["SCOPE '1'", "DEAD '1/B'", "DEAD '1/B'"], 2),
     (
+        "a dead activity before its reason",
+        &["SCOPE '1'", "DEAD '1/B'", "DEAD '1/B'"],
+        2,
+    ),
+    (
+        "an end behind a scope that stands twice",
         &[
             "SCOPE '1'",
             "FINISHED '1/A' 1",
@@ -142,6 +163,7 @@ const REPEATED: [(&[&str], usize); 11] = [
         5,
     ),
     (
+        "the last attempt before its scope has ended",
         &[
             "SCOPE '1'",
             "FINISHED '1/A' 1",
@@ -154,6 +176,7 @@ const REPEATED: [(&[&str], usize); 11] = [
         7,
     ),
     (
+        "an earlier attempt behind all of them",
         &[
             "SCOPE '1'",
             "FINISHED '1/A' 1",
@@ -323,9 +346,8 @@ fn changed_lines_stop(rt: HostRuntime) -> Result<(), Fail> {
 
 #[test]
 fn repeated_lines_are_looked_up(rt: HostRuntime) -> Result<(), Fail> {
-    for (i, case) in REPEATED.iter().enumerate() {
-        let shows = format!(in rt.alloc(); "case {i}")?;
-        judge(rt.alloc(), shows.as_str(), case.0, case.1)?;
+    for (shows, lines, number) in REPEATED {
+        judge(rt.alloc(), shows, lines, number)?;
     }
     Ok(())
 }
