@@ -7,6 +7,7 @@ use Rattle.std.proofs.lemmas.Bool.{and_parts, ltb-false}
 use Rattle.std.proofs.lemmas.Fmt.{decimal_by_steps}
 use Rattle.std.proofs.lemmas.List.Sums.{prefix_len-le-length}
 use Rattle.std.proofs.lemmas.List.Elements.{All-nil, All-cons, All-head, All-tail, All-append, All-push}
+use Rattle.std.proofs.Math.ListN.{take-append-drop}
 use Rattle.std.proofs.Math.Seq.{take-append_seam, drop-append_seam}
 use Rattle.flow_model.specs.Paths.{part_spelling, parts_spelling, IsStep, Spells}
 use Rattle.flow_model.specs.Words.{is_name, is_name_byte}
@@ -172,6 +173,26 @@ next_left steps new step rest front back qs found h some r is_step new_is =
     let same : step ≡ n.step = cc in
     let grown : new ++ n.more ≡ steps ++ n.step ∷ n.more = ap (λ (l : List Part). l ++ n.more) new_is ∙ append_assoc steps (step ∷ []) n.more ∙ ap (λ (s : Part). steps ++ s ∷ n.more) same in
     record { left = n.more; fine = n.fine; spelled = cut.1; whole = n.whole ∙ sym grown }
+
+-- ---- what was read is what is written
+
+spelled_push : (steps : List Part) (step : Part) → parts_spelling (steps ++ step ∷ []) ≡ parts_spelling steps ++ part_spelling step
+spelled_push [] step = append-nil (part_spelling step)
+spelled_push (q ∷ steps) step = ap (λ (l : List ℕ). part_spelling q ++ l) (spelled_push steps step) ∙ sym (append_assoc (part_spelling q) (parts_spelling steps) (part_spelling step))
+
+-- one step more was read
+pub one_read : (bytes rest front back : List ℕ) (steps new : List Part) (step : Part) (found : Option Part) (len : ℕ) → bytes ≡ parts_spelling steps ++ rest → front ≡ take len rest → back ≡ drop len rest
+    → IfSome found (λ q. front ≡ part_spelling q) → found ≡ Some step → new ≡ steps ++ step ∷ [] → bytes ≡ parts_spelling new ++ back
+one_read bytes rest front back steps new step found len read first behind sure is new_is =
+    let spelled : front ≡ part_spelling step = subst (λ (o : Option Part). IfSome o (λ q. front ≡ part_spelling q)) is sure in
+    let cut : rest ≡ part_spelling step ++ back = sym (take-append-drop len rest) ∙ ap₂ (λ (x y : List ℕ). x ++ y) (sym first ∙ spelled) (sym behind) in
+    read ∙ ap (λ (l : List ℕ). parts_spelling steps ++ l) cut ∙ sym (append_assoc (parts_spelling steps) (part_spelling step) back)
+    ∙ ap (λ (l : List ℕ). l ++ back) (sym (spelled_push steps step) ∙ ap parts_spelling (sym new_is))
+
+-- all of them
+pub whole_read : (bytes rest : List ℕ) (steps : List Part) → bytes ≡ parts_spelling steps ++ rest → length rest ≡ 0 → bytes ≡ parts_spelling steps
+whole_read bytes [] steps read none = read ∙ append-nil (parts_spelling steps)
+whole_read bytes (b ∷ rest) steps read none = absurd (omega (arith, none))
 
 -- ---- a path
 

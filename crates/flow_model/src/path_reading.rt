@@ -1,9 +1,10 @@
-//! Which path a text spells: it is cut at its `/` and `#`, and what is found is compared with the text step by step.
+//! Which path a text spells: it is cut at its `/` and `#`, and each number is read as it is written.
 ghost use Rattle.std.specs.Prelude.{◌≡◌, ◌≤◌, ◌<◌, ◌^◌, ◌==◌, ℕ, Some, List as ListOf, ◌∷◌, ◌++◌, length};
 ghost use Rattle.std.specs.Prelude.{decimal, IfOk, IfSome, IsErrOf, MatchOption};
 ghost use Rattle.std.specs.Bool.{Decides};
 ghost use Rattle.std.specs.List.{All, position, position_or_len};
 ghost use Rattle.std.specs.Option.{option_copied};
+ghost use Rattle.std.specs.Str.Parse.{AllDigits, digits_value};
 ghost use Rattle.flow_model.specs.Paths.{spelling, part_spelling, parts_spelling, IsStep, IsPath, Spells};
 ghost use Rattle.flow_model.specs.Paths.{SpellsNoOther, SpellsNoPath, BeginsNot};
 ghost use Rattle.flow_model.specs.declared.instances.Part.{Part as Down};
@@ -13,9 +14,7 @@ use crate::instances::{Part, Path};
 use crate::lists::List;
 use crate::names::{Name, NameFault};
 use crate::paths::PathFault;
-use itoa::Buffer;
 use std::alloc::{AllocError, Global};
-use std::str::from_utf8;
 
 /// The place of the first byte of this kind.
 fn place_of(bytes: &[u8], mark: u8) -> Option<usize>
@@ -46,31 +45,42 @@ fn behind(bytes: &[u8], mark: u8) -> Option<&[u8]>
     }
 }
 
-/// The number that these digits write.
+/// The number that these digits write; None where a byte is no digit, or it has more than 64 bits.
 fn number_of(digits: &[u8]) -> Option<u64>
-    ensures { (n : ℕ) → n < 2 ^ 64 → digits.now ≡ decimal n → result ≡ Some n }
+    ensures small { IfSome result (λ n. n < 2 ^ 64) }
+    ensures sure { IfSome result (λ n. AllDigits 10 digits.now × (digits_value 10 digits.now ≡ n)) }
+    ensures found { AllDigits 10 digits.now → digits_value 10 digits.now < 2 ^ 64
+        → result ≡ Some (digits_value 10 digits.now) }
 {
-    match from_utf8(digits) {
-        Ok(text) => text.parse::<u64>().ok(),
-        Err(_) => None,
+    let mut number = 0u64;
+    for digit in digits {
+        if !digit.is_ascii_digit() {
+            return None;
+        }
+        number = number
+            .checked_mul(10)?
+            .checked_add(u64::from(*digit - b'0'))?;
     }
+    Some(number)
 }
 
-/// The number from 1 on that these digits write.
+/// The number from 1 on that these digits write, with no zero in front.
 fn count_of(digits: &[u8]) -> Option<u64>
     ensures counted { IfSome result (λ n. 1 ≤ n) }
     ensures small { IfSome result (λ n. n < 2 ^ 64) }
+    ensures sure { IfSome result (λ n. digits.now ≡ decimal n) }
     ensures found { (n : ℕ) → 1 ≤ n → n < 2 ^ 64 → digits.now ≡ decimal n → result ≡ Some n }
 {
-    match number_of(digits) {
-        Some(0) => None,
-        number => number,
+    if digits.is_empty() || digits[0] == b'0' {
+        return None;
     }
+    number_of(digits)
 }
 
 /// The step of this name and attempt.
 fn step_of(alloc: Global, name: &[u8], attempt: &[u8]) -> Result<Option<Part>, AllocError>
     ensures is { IfOk result (λ step. IfSome step IsStep) }
+    ensures sure { IfOk result (λ step. IfSome step (λ q. (name.now ≡ q.name) × (attempt.now ≡ decimal q.attempt))) }
     ensures found { IfOk result (λ step. (q : Down) → IsStep q → name.now ≡ q.name → attempt.now ≡ decimal q.attempt
         → step ≡ Some q) }
 {
@@ -87,6 +97,7 @@ fn step_of(alloc: Global, name: &[u8], attempt: &[u8]) -> Result<Option<Part>, A
 /// The step that these bytes write.
 fn step_in(alloc: Global, bytes: &[u8]) -> Result<Option<Part>, AllocError>
     ensures is { IfOk result (λ step. IfSome step IsStep) }
+    ensures sure { IfOk result (λ step. IfSome step (λ q. bytes.now ≡ part_spelling q)) }
     ensures found { IfOk result (λ step. (q : Down) → IsStep q → bytes.now ≡ part_spelling q → step ≡ Some q) }
 {
     let Some(written) = behind(bytes, b'/') else {
@@ -115,6 +126,7 @@ fn step_len(bytes: &[u8]) -> usize
 /// The steps that these bytes write one behind the other.
 fn steps_in(alloc: Global, bytes: &[u8]) -> Result<Option<List<Part>>, AllocError>
     ensures are { IfOk result (λ steps. IfSome steps (All IsStep)) }
+    ensures sure { IfOk result (λ steps. IfSome steps (λ qs. bytes.now ≡ parts_spelling qs)) }
     ensures found { IfOk result (λ steps. (qs : ListOf Down) → All IsStep qs → bytes.now ≡ parts_spelling qs
         → steps ≡ Some qs) }
 {
@@ -131,9 +143,9 @@ fn steps_in(alloc: Global, bytes: &[u8]) -> Result<Option<List<Part>>, AllocErro
     Ok(Some(steps))
 }
 
-/// The path that a text may spell: where it spells one, it is this.
+/// The path that a text spells, if it spells one.
 fn path_in(alloc: Global, text: &[u8]) -> Result<Option<Path>, AllocError>
-    ensures is { IfOk result (λ found. IfSome found IsPath) }
+    ensures is { IfOk result (λ found. IfSome found (Spells text.now)) }
     ensures found { IfOk result (λ found. (path : Way) → Spells text.now path → found ≡ Some path) }
 {
     let (digits, below) = text.split_at(front_len(text, b'/'));
@@ -146,49 +158,6 @@ fn path_in(alloc: Global, text: &[u8]) -> Result<Option<Path>, AllocError>
     }
 }
 
-/// What stands behind these bytes, if a text begins with them.
-fn behind_all<'t>(text: &'t [u8], front: &[u8]) -> Option<&'t [u8]>
-    ensures { MatchOption result (BeginsNot text.now front.now) (λ rest. text.now ≡ front.now ++ rest.now) }
-{
-    text.strip_prefix(front)
-}
-
-/// What stands behind the digits of a number, if a text begins with them.
-fn behind_number(text: &[u8], number: u64) -> Option<&[u8]>
-    ensures { MatchOption result (BeginsNot text.now (decimal number)) (λ rest. text.now ≡ decimal number ++ rest.now) }
-{
-    let mut buffer = Buffer::new();
-    behind_all(text, buffer.format(number).as_bytes())
-}
-
-/// What stands behind a step, if a text begins with it.
-fn behind_step<'t>(text: &'t [u8], step: &Part) -> Option<&'t [u8]>
-    ensures { MatchOption result (BeginsNot text.now (part_spelling step.now))
-        (λ rest. text.now ≡ part_spelling step.now ++ rest.now) }
-{
-    let written = behind(text, b'/')?;
-    let marked = behind_all(written, step.name.as_slice())?;
-    let digits = behind(marked, b'#')?;
-    behind_number(digits, step.attempt)
-}
-
-/// Whether a text is that of this path.
-fn is_spelled(text: &[u8], path: &Path) -> bool
-    ensures { Decides result (text.now ≡ spelling path.now) }
-{
-    let Some(below) = behind_number(text, path.root) else {
-        return false;
-    };
-    let mut rest = below;
-    for step in path.parts.as_slice() {
-        let Some(behind) = behind_step(rest, step) else {
-            return false;
-        };
-        rest = behind;
-    }
-    rest.is_empty()
-}
-
 /// The path that a text spells.
 ///
 /// `BadPath` exactly where it spells none.
@@ -197,12 +166,8 @@ pub fn path_of(alloc: Global, text: &[u8]) -> Result<Path, PathFault>
     ensures one { IfOk result (SpellsNoOther text.now) }
     ensures bad { IsErrOf result PathFault.BadPath → SpellsNoPath text.now }
 {
-    let Some(path) = path_in(alloc, text)? else {
-        return Err(PathFault::BadPath);
-    };
-    if is_spelled(text, &path) {
-        Ok(path)
-    } else {
-        Err(PathFault::BadPath)
+    match path_in(alloc, text)? {
+        Some(path) => Ok(path),
+        None => Err(PathFault::BadPath),
     }
 }

@@ -1,6 +1,0 @@
-use Rattle.std.proofs.lemmas.Slice.Eq.{strip_prefix_is}
-use Rattle.flow_model.proofs.Spelled.{numbers_decide}
-use Rattle.flow_model.proofs.path_reading.behind_all.Goals as goal
-
-pub returns : goal.returns
-returns c = strip_prefix_is numbers_decide c.args.text.now c.args.front.now c.strip_prefix.result c.strip_prefix.ensures.cases
