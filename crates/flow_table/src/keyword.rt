@@ -1,5 +1,6 @@
 //! The keywords, and how each is spelled.
 ghost use Rattle.std.specs.Prelude.{◌≡◌, Some, IfSome};
+ghost use Rattle.std.specs.Str.{bytes_eq};
 ghost use Rattle.flow_table.specs.Spelling.{keyword_spelling, with_letter};
 
 /// A word of the process language or of the commands.
@@ -155,11 +156,22 @@ impl Keyword {
     {
         let letter = word.first().copied().unwrap_or(0);
         for keyword in with_letter(letter) {
-            if keyword.spelling() == word {
+            if is_same(keyword.spelling(), word) {
                 return Some(*keyword);
             }
         }
         None
+    }
+}
+
+/// Whether two spellings are one. Words are short: byte by byte is faster than the comparison of long slices.
+fn is_same(first: &[u8], second: &[u8]) -> bool
+    ensures { result ≡ bytes_eq first.now second.now }
+{
+    match (first, second) {
+        ([], []) => true,
+        ([byte, rest @ ..], [other, others @ ..]) => byte == other && is_same(rest, others),
+        _ => false,
     }
 }
 
