@@ -92,4 +92,11 @@ impl<T: Drop> List<T> {
         self.items.push(item)?;
         Ok(())
     }
+
+    /// Takes all elements away; their memory is kept for others.
+    pub fn clear(&mut self)
+        ensures { self.new ≡ [] }
+    {
+        self.items.clear();
+    }
 }
