@@ -1,16 +1,27 @@
 //! What a token is, and why a text has none.
-ghost use Rattle.std.specs.Prelude.{◌≡◌};
+ghost use Rattle.std.specs.Prelude.{◌≡◌, []};
 ghost use Rattle.fdl_lexer.specs.declared.kinds.LexFault.TheVariants.{NoMemory};
 
 use flow_model::List;
 use flow_table::Keyword;
-use std::alloc::AllocError;
+use std::alloc::{AllocError, Global};
 use thiserror::Error;
 
 /// The tokens of a text, in order.
 #[derive(Drop)]
 pub struct Tokens {
     pub items: List<Token>,
+}
+
+impl Tokens {
+    /// No tokens; they take no memory yet.
+    pub fn new(alloc: Global) -> Tokens
+        ensures { result.items ≡ [] }
+    {
+        Tokens {
+            items: List::new(alloc),
+        }
+    }
 }
 
 /// A token and where it stands: from the byte `from` up to, but without, the byte `to`.

@@ -1,5 +1,5 @@
 //! The tokens of a whole text.
-ghost use Rattle.std.specs.Prelude.{◌≡◌, ◌≤◌, ℕ, Err, length, IfOk, IfErr, MatchOption};
+ghost use Rattle.std.specs.Prelude.{◌≡◌, ◌≤◌, ℕ, Err, length, IfOk, IfErr, OnOk, MatchOption};
 ghost use Rattle.std.specs.List.{list_all};
 ghost use Rattle.fdl_lexer.specs.Bytes.{is_allowed as is_allowed_test};
 ghost use Rattle.fdl_lexer.specs.declared.kinds.LexFault.TheVariants.{Byte};
@@ -49,31 +49,35 @@ pub fn lex(alloc: Global, text: &[u8]) -> Result<Tokens, LexFault>
     if let Some(place) = first_bad(text) {
         return Err(LexFault::Byte(place as u32));
     }
-    lex_allowed(alloc, text)
+    let mut tokens = Tokens {
+        items: List::with_capacity(alloc, text.len() / BYTES_A_TOKEN + 1)?,
+    };
+    lex_allowed(&mut tokens, text)?;
+    Ok(tokens)
 }
 
-/// The tokens of a text whose bytes may all stand in one, or the first place where it has none.
+/// Writes the tokens of a text whose bytes may all stand in one over what a list had, into its memory.
 ///
-/// A caller that has tested the bytes need not have them tested again. `Byte` never comes.
-pub fn lex_allowed(alloc: Global, text: &[u8]) -> Result<Tokens, LexFault>
+/// A caller that has tested the bytes need not have them tested again. `Token` comes as from [`lex`], `Byte` never.
+pub fn lex_allowed(tokens: &mut Tokens, text: &[u8]) -> Result<(), LexFault>
     requires short { length text.now ≤ 1048576 }
     requires allowed { AreAllowed text.now }
-    ensures tokens { IfOk result (λ tokens. AreTokens text.now tokens.items) }
+    ensures tokens { OnOk result (AreTokens text.now tokens.new.items) }
     ensures fault { IfErr result (Faults text.now) }
     ensures byte { (place : ℕ) → result ≡ Err (Byte place) → ⊥ }
 {
-    let mut items = List::with_capacity(alloc, text.len() / BYTES_A_TOKEN + 1)?;
+    tokens.items.clear();
     let mut at = 0;
-    'tokens: loop {
+    'scan: loop {
         let from = at + gap_len(&text[at..]);
         if from == text.len() {
-            return Ok(Tokens { items });
+            return Ok(());
         }
         let Some((what, len)) = first_token(&text[from..]) else {
             return Err(LexFault::Token(from as u32));
         };
         at = from + len;
-        items.push(Token {
+        tokens.items.push(Token {
             what,
             from: from as u32,
             to: at as u32,
