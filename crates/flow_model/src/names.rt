@@ -20,7 +20,7 @@ const NAME_SIZE: usize = 32;
 /// A name: a letter, then up to 31 letters, digits, spaces, `_` and `-`. It takes no memory of its own.
 #[derive(Drop)]
 pub struct Name {
-    len: u8,
+    len: usize,
     /// The bytes of the name, and zeros behind them.
     bytes: [u8; NAME_SIZE],
 }
@@ -179,7 +179,7 @@ impl Name {
         let mut inside = [0; NAME_SIZE];
         inside[..bytes.len()].copy_from_slice(bytes);
         Ok(Name {
-            len: bytes.len() as u8,
+            len: bytes.len(),
             bytes: inside,
         })
     }
@@ -188,14 +188,14 @@ impl Name {
     pub fn as_slice(&self) -> &[u8]
         ensures { result.now ≡ self.now }
     {
-        &self.bytes[..usize::from(self.len)]
+        &self.bytes[..self.len]
     }
 
     /// The number of bytes.
     pub fn len(&self) -> usize
         ensures { result ≡ length self.now }
     {
-        usize::from(self.len)
+        self.len
     }
 
     /// An equal name.
