@@ -1,10 +1,10 @@
 //! Which command, or which completion, does a line say?
 //!
 //! Knows the words of commands and the tokens of lines, not whether a command is allowed. Begin with
-//! [`read_command`] and `specs/Reading.antt`; `specs/Grammar.antt` has the commands one by one.
+//! [`Reader::command`] and `specs/Reading.antt`; `specs/Grammar.antt` has the commands one by one.
 #![tactic(auto)]
 
 mod grammar;
 mod reading;
 
-pub use reading::{CommandFault, read_command, read_completion};
+pub use reading::{CommandFault, Reader, read_command, read_completion};

@@ -1,6 +1,6 @@
 //! From the bytes of a line to what it says. Places are counted from 1.
 ghost use Rattle.std.specs.Prelude.{◌≡◌, ◌≤◌, ◌<◌, ◌+◌, ◌-◌, ◌^◌, ℕ, [], Some, None, Err, length, min, IfOk, IfErr};
-ghost use Rattle.std.specs.Prelude.{IfSome};
+ghost use Rattle.std.specs.Prelude.{IfSome, OnOk};
 ghost use Rattle.std.specs.List.{list_all};
 ghost use Rattle.command_lang.specs.declared.reading.CommandFault.TheVariants.{Word};
 ghost use Rattle.command_lang.specs.Reading.{may_stand as may_stand_test, wrong_byte as wrong_byte_of, spoken_in};
@@ -72,32 +72,32 @@ fn wrong_byte(line: &[u8]) -> Option<usize>
     line.iter().position(|byte| !may_stand(*byte))
 }
 
-/// The tokens of a line whose bytes may all stand in one.
-fn lexed(alloc: Global, line: &[u8]) -> Result<Tokens, CommandFault>
+/// Reads the tokens of a line whose bytes may all stand in one.
+fn lexed(tokens: &mut Tokens, line: &[u8]) -> Result<(), CommandFault>
     requires short { length line.now ≤ 65536 }
     requires allowed { wrong_byte_of line.now ≡ None }
-    ensures tokens { IfOk result (λ tokens. AreLineTokens line.now tokens.items) }
+    ensures tokens { OnOk result (AreLineTokens line.now tokens.new.items) }
     ensures fault { IfErr result (HasNoTokens line.now) }
 {
-    match lex_allowed(alloc, line) {
-        Ok(tokens) => Ok(tokens),
+    match lex_allowed(tokens, line) {
+        Ok(()) => Ok(()),
         Err(LexFault::Byte(_)) => unreachable!(),
         Err(LexFault::Token(place)) => Err(from_one(place)),
         Err(LexFault::NoMemory) => Err(CommandFault::NoMemory),
     }
 }
 
-/// The tokens of a line.
-fn tokens_of(alloc: Global, line: &[u8]) -> Result<Tokens, CommandFault>
+/// Reads the tokens of a line.
+fn read_tokens(tokens: &mut Tokens, line: &[u8]) -> Result<(), CommandFault>
     requires { length line.now ≤ 65536 }
-    ensures tokens { IfOk result (λ tokens. AreLineTokens line.now tokens.items) }
+    ensures tokens { OnOk result (AreLineTokens line.now tokens.new.items) }
     ensures fault { IfErr result (HasNoTokens line.now) }
     ensures byte { (p : ℕ) → wrong_byte_of line.now ≡ Some p → result ≡ Err (Word (p + 1)) }
 {
     if let Some(place) = wrong_byte(line) {
         return Err(from_one(u32::try_from(place).unwrap_or(u32::MAX)));
     }
-    lexed(alloc, line)
+    lexed(tokens, line)
 }
 
 /// The line up to the end of its last token; None where it has none.
@@ -122,10 +122,71 @@ fn command_fault(fault: SyntaxFault) -> CommandFault
     }
 }
 
-/// The command of a line.
-///
-/// None comes where the line has only blanks and comments, and `Word` where that doesn't hold and the
-/// line is no command.
+/// A reader of lines: the tokens of each line stand in the memory that those of the line before had.
+#[derive(Drop)]
+pub struct Reader {
+    alloc: Global,
+    tokens: Tokens,
+}
+
+impl Reader {
+    /// A reader that has read no line.
+    pub fn new(alloc: Global) -> Reader {
+        Reader {
+            alloc,
+            tokens: Tokens::new(alloc),
+        }
+    }
+
+    /// The command of a line.
+    ///
+    /// None comes where the line has only blanks and comments, and `Word` where that doesn't hold and the
+    /// line is no command.
+    pub fn command(&mut self, line: &[u8]) -> Result<Option<Command>, CommandFault>
+        requires { length line.now ≤ 65536 }
+        ensures read { IsReading line.now result }
+        ensures byte { (p : ℕ) → wrong_byte_of line.now ≡ Some p → result ≡ Err (Word (p + 1)) }
+        ensures says { IfOk result (SaysCommand line.now) }
+        ensures one { IfOk result (IsOnlyCommand line.now) }
+        ensures refused { IfErr result (IsRefusal line.now) }
+        ensures first { IfErr result (RefusesFirst SomeCommand line.now) }
+        ensures none { IfErr result (RefusesNoCommand line.now) }
+    {
+        read_tokens(&mut self.tokens, line)?;
+        let Some(spoken) = spoken(line, &self.tokens) else {
+            return Ok(None);
+        };
+        let mut cursor = Cursor::new(self.alloc, spoken, self.tokens.items.as_slice());
+        match command(&mut cursor) {
+            Ok(command) => Ok(Some(command)),
+            Err(fault) => Err(command_fault(fault)),
+        }
+    }
+
+    /// The completion of a line, with None and `Word` as for commands.
+    pub fn completion(&mut self, line: &[u8]) -> Result<Option<Completion>, CommandFault>
+        requires { length line.now ≤ 65536 }
+        ensures read { IsReading line.now result }
+        ensures byte { (p : ℕ) → wrong_byte_of line.now ≡ Some p → result ≡ Err (Word (p + 1)) }
+        ensures says { IfOk result (SaysCompletion line.now) }
+        ensures one { IfOk result (IsOnlyCompletion line.now) }
+        ensures refused { IfErr result (IsRefusal line.now) }
+        ensures first { IfErr result (RefusesFirst SomeCompletion line.now) }
+        ensures none { IfErr result (RefusesNoCompletion line.now) }
+    {
+        read_tokens(&mut self.tokens, line)?;
+        let Some(spoken) = spoken(line, &self.tokens) else {
+            return Ok(None);
+        };
+        let mut cursor = Cursor::new(self.alloc, spoken, self.tokens.items.as_slice());
+        match completion(&mut cursor) {
+            Ok(completion) => Ok(Some(completion)),
+            Err(fault) => Err(command_fault(fault)),
+        }
+    }
+}
+
+/// The command of a single line, as a [`Reader`] reads it.
 pub fn read_command(alloc: Global, line: &[u8]) -> Result<Option<Command>, CommandFault>
     requires { length line.now ≤ 65536 }
     ensures read { IsReading line.now result }
@@ -136,18 +197,10 @@ pub fn read_command(alloc: Global, line: &[u8]) -> Result<Option<Command>, Comma
     ensures first { IfErr result (RefusesFirst SomeCommand line.now) }
     ensures none { IfErr result (RefusesNoCommand line.now) }
 {
-    let tokens = tokens_of(alloc, line)?;
-    let Some(spoken) = spoken(line, &tokens) else {
-        return Ok(None);
-    };
-    let mut cursor = Cursor::new(alloc, spoken, tokens.items.as_slice());
-    match command(&mut cursor) {
-        Ok(command) => Ok(Some(command)),
-        Err(fault) => Err(command_fault(fault)),
-    }
+    Reader::new(alloc).command(line)
 }
 
-/// The completion of a line, with None and `Word` as for commands.
+/// The completion of a single line, as a [`Reader`] reads it.
 pub fn read_completion(alloc: Global, line: &[u8]) -> Result<Option<Completion>, CommandFault>
     requires { length line.now ≤ 65536 }
     ensures read { IsReading line.now result }
@@ -158,13 +211,5 @@ pub fn read_completion(alloc: Global, line: &[u8]) -> Result<Option<Completion>,
     ensures first { IfErr result (RefusesFirst SomeCompletion line.now) }
     ensures none { IfErr result (RefusesNoCompletion line.now) }
 {
-    let tokens = tokens_of(alloc, line)?;
-    let Some(spoken) = spoken(line, &tokens) else {
-        return Ok(None);
-    };
-    let mut cursor = Cursor::new(alloc, spoken, tokens.items.as_slice());
-    match completion(&mut cursor) {
-        Ok(completion) => Ok(Some(completion)),
-        Err(fault) => Err(command_fault(fault)),
-    }
+    Reader::new(alloc).completion(line)
 }

@@ -4,40 +4,40 @@ use Rattle.command_lang.proofs.Spoken.{says_command, refused}
 use Rattle.std.proofs.lemmas.Result.{err_from_is_err_and}
 use Rattle.command_lang.specs.Refusing.{SomeCommand}
 use Rattle.command_lang.proofs.Refused.{refused_first, no_command_refused}
-use Rattle.command_lang.proofs.reading.read_command.Goals as goal
+use Rattle.command_lang.proofs.reading.Reader.command.Goals as goal
 
 pub returns-in-Ok-clause-says : goal.returns-in-Ok-clause-says
 returns-in-Ok-clause-says c =
-    says_command c.args.line.now c.in-Some.spoken.now c.in_ok-tokens.tokens.items c.in-Ok.command c.in_ok-tokens.ensures.tokens c.in-Some.ensures.some.0 c.in-Some.ensures.some.1
+    says_command c.args.line.now c.in-Some.spoken.now c.read_tokens.new.tokens.items c.in-Ok.command c.in_ok-read_tokens.ensures.tokens c.in-Some.ensures.some.0 c.in-Some.ensures.some.1
     (rw (c.new-cursor.ensures, c.as_slice.ensures) at c.in-Ok.ensures.read)
 
-pub returns-clause-refused : goal.returns-clause-refused
-returns-clause-refused c =
-    refused c.args.line.now c.in-Some.spoken.now c.in_ok-tokens.tokens.items c.in-Err.fault c.command_fault.result _ c.in_ok-tokens.ensures.tokens c.in-Some.ensures.some.0 c.in-Some.ensures.some.1
+pub returns-in-Err-clause-refused : goal.returns-in-Err-clause-refused
+returns-in-Err-clause-refused c =
+    refused c.args.line.now c.in-Some.spoken.now c.read_tokens.new.tokens.items c.in-Err.fault c.command_fault.result _ c.in_ok-read_tokens.ensures.tokens c.in-Some.ensures.some.0 c.in-Some.ensures.some.1
     (rw (c.new-cursor.ensures, c.as_slice.ensures) at c.in-Err.ensures.within) c.in-Err.ensures.names c.command_fault.ensures.place c.command_fault.ensures.memory
 
 pub returns-in-Ok-clause-one : goal.returns-in-Ok-clause-one
 returns-in-Ok-clause-one c =
     one_command c.args.line.now c.in-Ok.command
-    (says_command c.args.line.now c.in-Some.spoken.now c.in_ok-tokens.tokens.items c.in-Ok.command c.in_ok-tokens.ensures.tokens c.in-Some.ensures.some.0 c.in-Some.ensures.some.1
+    (says_command c.args.line.now c.in-Some.spoken.now c.read_tokens.new.tokens.items c.in-Ok.command c.in_ok-read_tokens.ensures.tokens c.in-Some.ensures.some.0 c.in-Some.ensures.some.1
     (rw (c.new-cursor.ensures, c.as_slice.ensures) at c.in-Ok.ensures.read))
 
 pub returns-in_default-clause-one : goal.returns-in_default-clause-one
 returns-in_default-clause-one c =
-    no_command c.args.line.now (rw (c.spoken.ensures.none (none_of c.spoken.result c.in_default.not-Some)) at c.in_ok-tokens.ensures.tokens)
+    no_command c.args.line.now (rw (c.spoken.ensures.none (none_of c.spoken.result c.in_default.not-Some)) at c.in_ok-read_tokens.ensures.tokens)
 
-pub returns-clause-first : goal.returns-clause-first
-returns-clause-first c =
-    refused_first SomeCommand c.args.line.now c.in-Some.spoken.now c.in_ok-tokens.tokens.items c.in-Err.fault c.command_fault.result _ c.in_ok-tokens.ensures.tokens c.in-Some.ensures.some.0 c.in-Some.ensures.some.1
+pub returns-in-Err-clause-first : goal.returns-in-Err-clause-first
+returns-in-Err-clause-first c =
+    refused_first SomeCommand c.args.line.now c.in-Some.spoken.now c.read_tokens.new.tokens.items c.in-Err.fault c.command_fault.result _ c.in_ok-read_tokens.ensures.tokens c.in-Some.ensures.some.0 c.in-Some.ensures.some.1
     (rw (c.new-cursor.ensures, c.as_slice.ensures) at c.in-Err.ensures.within) c.in-Err.ensures.names (rw (c.new-cursor.ensures, c.as_slice.ensures) at c.in-Err.ensures.refused) c.command_fault.ensures.place c.command_fault.ensures.memory
 
-pub returns-clause-none : goal.returns-clause-none
-returns-clause-none c =
+pub returns-in-Err-clause-none : goal.returns-in-Err-clause-none
+returns-in-Err-clause-none c =
     no_command_refused c.args.line.now c.command_fault.result
-    (refused_first SomeCommand c.args.line.now c.in-Some.spoken.now c.in_ok-tokens.tokens.items c.in-Err.fault c.command_fault.result _ c.in_ok-tokens.ensures.tokens c.in-Some.ensures.some.0 c.in-Some.ensures.some.1
+    (refused_first SomeCommand c.args.line.now c.in-Some.spoken.now c.read_tokens.new.tokens.items c.in-Err.fault c.command_fault.result _ c.in_ok-read_tokens.ensures.tokens c.in-Some.ensures.some.0 c.in-Some.ensures.some.1
     (rw (c.new-cursor.ensures, c.as_slice.ensures) at c.in-Err.ensures.within) c.in-Err.ensures.names (rw (c.new-cursor.ensures, c.as_slice.ensures) at c.in-Err.ensures.refused) c.command_fault.ensures.place c.command_fault.ensures.memory)
 
-pub returns-in_err-tokens-clause-none : goal.returns-in_err-tokens-clause-none
-returns-in_err-tokens-clause-none c =
+pub returns-in_err-read_tokens-clause-none : goal.returns-in_err-read_tokens-clause-none
+returns-in_err-read_tokens-clause-none c =
     let p = err_from_is_err_and c.from_residual.result c.from_residual.ensures.1 in
-    rw (p.1, p.2) (no_command_refused c.args.line.now c.in_err-tokens.field-0.0 (inl c.in_err-tokens.ensures.fault))
+    rw (p.1, p.2) (no_command_refused c.args.line.now c.in_err-read_tokens.field-0.0 (inl c.in_err-read_tokens.ensures.fault))
