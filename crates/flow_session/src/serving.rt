@@ -30,7 +30,7 @@ ghost use Rattle.flow_session.specs.Stopping.{IsStopCause};
 ghost use Rattle.flow_session.specs.declared.serving.Stop.TheVariants.{NoMemory};
 
 use crate::journal::Journal;
-use command_lang::{CommandFault, read_command};
+use command_lang::{CommandFault, Reader};
 use flow_core::{Core, Refusal, Verdict, write_applied, write_refusal};
 use flow_model::{Bytes, Command, Query, Transaction};
 use flow_text::decimal;
@@ -94,6 +94,7 @@ struct Gathered {
 pub struct Session {
     pub(crate) alloc: Global,
     pub(crate) core: Core,
+    reader: Reader,
     gathered: Option<Gathered>,
 }
 
@@ -176,6 +177,7 @@ impl Session {
         Ok(Session {
             alloc,
             core: Core::new(alloc, queues, limit)?,
+            reader: Reader::new(alloc),
             gathered: None,
         })
     }
@@ -188,6 +190,7 @@ impl Session {
         Session {
             alloc,
             core,
+            reader: Reader::new(alloc),
             gathered: None,
         }
     }
@@ -361,7 +364,7 @@ impl Session {
         if line.len() > MOST_LINE {
             return words(self.alloc, b"no LINE\n");
         }
-        match read_command(self.alloc, line) {
+        match self.reader.command(line) {
             Ok(None) => Ok(Vec::new(self.alloc)),
             Ok(Some(command)) => self.command(journal, &command),
             Err(CommandFault::Word(place)) => {

@@ -35,7 +35,7 @@ pub returns-in-Ok-Some-clause-served : goal.returns-in-Ok-Some-clause-served
 returns-in-Ok-Some-clause-served g c =
     let says = rw c.in-Ok-Some.field-0-is at c.in-Ok-Some.ensures.says in
     let one = rw c.in-Ok-Some.field-0-is at c.in-Ok-Some.ensures.one in
-    says_command c.args.self.now.core c.command.new.self.core (unended c.command.new.self) c.args.line.now c.in-Ok-Some.command c.command.result (search rules) says one c.command.ensures.served
+    says_command c.args.self.now.core c.command-in-Ok-Some.new.self.core (unended c.command-in-Ok-Some.new.self) c.args.line.now c.in-Ok-Some.command c.command-in-Ok-Some.result (search rules) says one c.command-in-Ok-Some.ensures.served
 
 pub returns-in-Err-Word-clause-served : goal.returns-in-Err-Word-clause-served
 returns-in-Err-Word-clause-served g c =
@@ -58,7 +58,7 @@ returns-in-Ok-None-clause-moved g c says =
 pub returns-in-Ok-Some-clause-moved : goal.returns-in-Ok-Some-clause-moved
 returns-in-Ok-Some-clause-moved g c says =
     let one = rw c.in-Ok-Some.field-0-is at c.in-Ok-Some.ensures.one in
-    c.command.ensures.moved (sym (one Checkpoint says.1.0))
+    c.command-in-Ok-Some.ensures.moved (sym (one Checkpoint says.1.0))
 
 pub returns-in-Err-Word-clause-moved : goal.returns-in-Err-Word-clause-moved
 returns-in-Err-Word-clause-moved g c says =
@@ -69,12 +69,12 @@ pub returns-in-Ok-Some-clause-place : goal.returns-in-Ok-Some-clause-place
 returns-in-Ok-Some-clause-place g c no_checkpoint =
     let says = rw c.in-Ok-Some.field-0-is at c.in-Ok-Some.ensures.says in
     let one = rw c.in-Ok-Some.field-0-is at c.in-Ok-Some.ensures.one in
-    c.command.ensures.place (λ is. no_checkpoint (search rules, subst (λ x. Says c.args.line.now x) is (says, one)))
+    c.command-in-Ok-Some.ensures.place (λ is. no_checkpoint (search rules, subst (λ x. Says c.args.line.now x) is (says, one)))
 
 pub returns-in-Ok-Some-clause-makes : goal.returns-in-Ok-Some-clause-makes
 returns-in-Ok-Some-clause-makes g c =
     let says = rw c.in-Ok-Some.field-0-is at c.in-Ok-Some.ensures.says in
     let one = rw c.in-Ok-Some.field-0-is at c.in-Ok-Some.ensures.one in
     asked_so g.J.Journal.tells g.J.Journal.holds g.J.Journal.moment g.J.Journal.left_since
-    c.command.result c.args.journal.now c.command.new.journal c.args.self.now.core c.command.new.self.core _ _
-    c.command.ensures.makes (λ ts asks. inr (c.in-Ok-Some.command, search rules, (says, one), asks))
+    c.command-in-Ok-Some.result c.args.journal.now c.command-in-Ok-Some.new.journal c.args.self.now.core c.command-in-Ok-Some.new.self.core _ _
+    c.command-in-Ok-Some.ensures.makes (λ ts asks. inr (c.in-Ok-Some.command, search rules, (says, one), asks))
