@@ -10,7 +10,7 @@ use crate::counted::Counted;
 use crate::input::Numbered;
 use crate::paths::{Recent, written_item};
 use blocks_subprocs::graph_of;
-use command_lang::{CommandFault, read_completion};
+use command_lang::{CommandFault, Reader};
 use containers::{fresh, settings_of, with_settings};
 use flow_io::MAX_LINE;
 use flow_model::{
@@ -204,6 +204,7 @@ impl Read {
         alloc: Global,
         library: &Library,
         graph: &Graph,
+        reader: &mut Reader,
         numbered: &Numbered,
     ) -> Result<(), AllocError>
         ensures { OnOk result (SaysLine library.now.templates graph.now numbered.now (said self.old) (said self.new)) }
@@ -213,7 +214,7 @@ impl Read {
             self.stop(numbered.number, LineFault::Word(MAX_LINE as u32 + 1));
             return Ok(());
         }
-        match read_completion(alloc, line) {
+        match reader.completion(line) {
             Ok(None) => Ok(()),
             Ok(Some(completion)) => self.add(alloc, library, graph, numbered.number, &completion),
             Err(CommandFault::Word(place)) => {
@@ -230,6 +231,7 @@ impl Read {
         alloc: Global,
         library: &Library,
         graph: &Graph,
+        reader: &mut Reader,
         numbered: &Numbered,
     ) -> Result<(), AllocError>
         ensures { OnOk result (SaysBehind library.now.templates graph.now numbered.now self.old.fault (said self.old)
@@ -237,7 +239,7 @@ impl Read {
     {
         match self.fault {
             Some(_) => Ok(()),
-            None => self.add_line(alloc, library, graph, numbered),
+            None => self.add_line(alloc, library, graph, reader, numbered),
         }
     }
 }
@@ -252,8 +254,9 @@ pub fn read_completions(
     ensures { IfOk result (IsRead library.now.templates graph.now lines.now) }
 {
     let mut read = Read::new(alloc);
+    let mut reader = Reader::new(alloc);
     for numbered in lines {
-        read.add_next(alloc, library, graph, numbered)?;
+        read.add_next(alloc, library, graph, &mut reader, numbered)?;
     }
     Ok(read)
 }

@@ -1,4 +1,7 @@
-use Rattle.text_words.specs.Completions.{said}
+use Rattle.std.proofs.Common.{List, refl, subst, sym}
+use Rattle.std.proofs.Math.ListN.{drop_of_length-le}
+use Rattle.text_words.specs.Completions.{AreRead, said}
+use Rattle.text_words.specs.declared.input.Numbered.{Numbered}
 use Rattle.text_words.proofs.Reading.{next_line}
 use Rattle.text_words.proofs.completions.read_completions.Goals as goal
 
@@ -8,3 +11,9 @@ loop-numbered-preserved c =
     c.numbered-item.is
     c.in_ok-add_next.ensures
     c.loop-numbered.invariant
+
+pub returns : goal.returns
+returns c =
+    let read = said c.loop-numbered.read in
+    c.loop-numbered.invariant read
+    (subst (λ (lines : List Numbered). AreRead c.args.library.now.templates c.args.graph.now lines read read) (sym (drop_of_length-le c.args.lines.now c.loop-numbered-test.false)) refl)
