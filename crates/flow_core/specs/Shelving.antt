@@ -1,7 +1,7 @@
 -- What the worklists list: manual items as they stand, where each stands in show order, and what each transaction lists
 -- anew or takes off.
 use Rattle.std.specs.Prelude.{◌≡◌, ℕ, true, false, if◌then◌else◌, Option, Some, None, option_map, option_and_then}
-use Rattle.std.specs.Prelude.{unwrap_or, List, [], ◌∷◌, ◌++◌, bytes_eq, fold}
+use Rattle.std.specs.Prelude.{unwrap_or, is_some, List, [], ◌∷◌, ◌++◌, bytes_eq, fold}
 use Rattle.activity_states.specs.States.{hold_of}
 use Rattle.activity_states.specs.declared.states.Completed.{Completed}
 use Rattle.containers.specs.Settings.{filled}
@@ -112,13 +112,14 @@ listed c w path = listed_if path (line_now c path) (rank_now c path) w
 abbrev pub all_listed : Core → List Path → Standing → Standing
 all_listed c paths w = fold (listed c) w paths
 
--- an item is taken off
+-- an item of this rank is taken off
 abbrev pub unlisted_at : Option (List ℕ) → Standing → Standing
 unlisted_at None w = w
 unlisted_at (Some own) w = without_rank own w
 
+-- so is an item that is there and manual; no other is on a shelf
 abbrev pub unlisted : Core → Path → Standing → Standing
-unlisted c path w = unlisted_at (rank_now c path) w
+unlisted c path w = if is_some (line_now c path) then unlisted_at (rank_now c path) w else w
 
 -- ---- which items a transaction makes ready
 

@@ -1,5 +1,5 @@
 //! Messages that are taken, and items that are held or completed.
-ghost use Rattle.std.specs.Prelude.{◌≡◌, [], ◌∷◌, option_map, OnOk, IfOk};
+ghost use Rattle.std.specs.Prelude.{◌≡◌, [], ◌∷◌, option_map, is_some, OnOk, IfOk, IfSome};
 ghost use Rattle.flow_model.specs.declared.instances.Message.{Message as MessageOf};
 ghost use Rattle.flow_core.specs.Verdicts.{fate_now, IsFront};
 ghost use Rattle.containers.specs.Settings.{filled};
@@ -12,7 +12,7 @@ ghost use Rattle.flow_core.specs.Answers.{instance_of};
 ghost use Rattle.flow_core.specs.Shelving.{stands, SameStanding, all_listed};
 ghost use Rattle.flow_core.specs.Shelving.{MakesReady, CompletesReady, IfRootLive, TurnShelves, TakesGiving};
 ghost use Rattle.flow_core.specs.Shelving.{CompletesGiving, WhereLive, ExactTurn, CompletesExactly};
-ghost use Rattle.flow_core.specs.Shelving.{CompletesShelves, HoldShelves, performer_named};
+ghost use Rattle.flow_core.specs.Shelving.{CompletesShelves, HoldShelves, performer_named, line_now};
 ghost use Rattle.flow_core.specs.Summaries.{noted};
 ghost use Rattle.flow_core.specs.Keys.{KeepsKeys};
 ghost use Rattle.flow_core.specs.declared.applying.Note.TheVariants as notes;
@@ -167,16 +167,22 @@ impl Core {
         Ok(Note::Turned(queue, message))
     }
 
-    /// The output of a completion.
-    fn output(&self, item: &Path, settings: &[Setting]) -> Result<Option<Container>, AllocError>
-        ensures { IfOk result (λ out. out ≡ option_map (λ e. filled settings.now
+    /// The output of a completion, and whether its item is manual; None where there is no such item.
+    fn output(
+        &self,
+        item: &Path,
+        settings: &[Setting],
+    ) -> Result<Option<(Container, bool)>, AllocError>
+        ensures output { IfOk result (λ out. option_map (λ o. o.0) out ≡ option_map (λ e. filled settings.now
             (fresh_of e.activity.output)) (item_of self.now item.now)) }
+        ensures manual { IfOk result (λ out. IfSome out (λ o. o.1 ≡ is_some (line_now self.now item.now))) }
     {
         let Some(known) = self.known(item) else {
             return Ok(None);
         };
         let output = fresh(self.alloc, &known.item.activity.output)?;
-        Ok(Some(with_settings(self.alloc, output, settings)?))
+        let output = with_settings(self.alloc, output, settings)?;
+        Ok(Some((output, known.program.manual)))
     }
 
     /// What a completion does to its root, where that is live.
@@ -228,17 +234,17 @@ impl Core {
         ensures exact { OnOk result
             (CompletesExactly self.old item.now performer settings.now (item_of self.old item.now) self.new) }
     {
-        let Some(output) = self.output(item, settings)? else {
+        let Some((output, manual)) = self.output(item, settings)? else {
             return Ok(Note::Fated(self.fate_of(item)));
         };
-        self.unlist_item(item)?;
+        self.unlist_item(item, manual)?;
         let (messages, ready) = self.complete_in_root(item, output, performer)?;
         self.follow(messages, ready)?;
         Ok(Note::Fated(self.fate_of(item)))
     }
 
     /// The fate of an item's activity; it waits where there is no such item.
-    fn fate_of(&self, item: &Path) -> Fate
+    pub fn fate_of(&self, item: &Path) -> Fate
         ensures { result ≡ fate_now self.now item.now }
     {
         match self.known(item) {

@@ -1,5 +1,5 @@
 //! What the worklists say of an item that became ready, changed its hold or was completed.
-ghost use Rattle.std.specs.Prelude.{◌≡◌, OnOk, IfOk};
+ghost use Rattle.std.specs.Prelude.{◌≡◌, OnOk, IfOk, is_some};
 ghost use Rattle.flow_core.specs.Shelving.{line_now, stands, SameStanding, listed, all_listed, unlisted};
 
 use crate::paths::rank_of;
@@ -74,11 +74,15 @@ impl Core {
         Ok(())
     }
 
-    /// Takes an item off the worklists.
-    pub(crate) fn unlist_item(&mut self, item: &Path) -> Result<(), AllocError>
+    /// Takes an item off the worklists, where it is manual: no other is on one.
+    pub(crate) fn unlist_item(&mut self, item: &Path, manual: bool) -> Result<(), AllocError>
+        requires { manual ≡ is_some (line_now self.old item.now) }
         ensures rest { self.new ≡ record self.old { worklists = self.new.worklists } }
         ensures shelves { OnOk result (SameStanding (stands self.new) (unlisted self.old item.now (stands self.old))) }
     {
+        if !manual {
+            return Ok(());
+        }
         if let Some(graph) = self.root_graph(item.root) {
             let rank = rank_of(self.alloc, self.library(), graph, item)?;
             self.worklists.drop_item(&rank);

@@ -1,6 +1,6 @@
 -- The items of a root move: those that opened are listed, one that closed is taken off, and the shelves hold what is open then.
-use Rattle.std.proofs.Common.{◌≡◌, ℕ, zero, suc, inl, inr, true, false, List, [], ◌∷◌, Option, Some, None, refl, ap, ap₂, sym, ◌∙◌, subst}
-use Rattle.std.specs.Prelude.{slice_get, option_and_then, option_map}
+use Rattle.std.proofs.Common.{◌≡◌, ℕ, zero, suc, inl, inr, Bool, true, false, List, [], ◌∷◌, Option, Some, None, refl, ap, ap₂, sym, ◌∙◌, subst}
+use Rattle.std.specs.Prelude.{slice_get, option_and_then, option_map, is_some, if◌then◌else◌}
 use Rattle.std.proofs.lemmas.Bool.Decides.{eqb_tells}
 use Rattle.std.proofs.lemmas.Option.{none-some}
 use Rattle.activity_states.specs.States.{State}
@@ -11,6 +11,7 @@ use Rattle.flow_core.specs.declared.state.Core.{Core}
 use Rattle.flow_model.specs.ScopeContainers.{graph_of}
 use Rattle.flow_model.specs.declared.graphs.Graph.{Graph}
 use Rattle.flow_model.specs.declared.graphs.Template.{Template}
+use Rattle.flow_model.specs.declared.instances.ItemLine.{ItemLine}
 use Rattle.flow_model.specs.declared.instances.Part.{Part}
 use Rattle.flow_model.specs.declared.instances.Path.{Path}
 use Rattle.flow_model.specs.declared.names.Name.{Name}
@@ -26,7 +27,7 @@ use Rattle.worklist_laws.proofs.Paths.{path_one, path_tells, told_of, told_here,
 use Rattle.worklist_laws.proofs.Ranks.{Leads}
 use Rattle.worklist_laws.proofs.SameLines.{AsksSettled, line_stays, manual_stays}
 use Rattle.worklist_laws.proofs.Shelves.{Lines, AreThere, hold_same, off_holds, all_listed_hold}
-use Rattle.worklist_laws.specs.Shelved.{is_open_entry, open_line, HoldExactly, IsShelved}
+use Rattle.worklist_laws.specs.Shelved.{is_open_entry, is_open_now, open_line, HoldExactly, IsShelved}
 
 -- ---- the roots that stay
 
@@ -147,6 +148,22 @@ module _ (c c' : Core) (root : ℕ) (library : templates c' ≡ templates c) (ot
           off_holds (rank_now c') (IsNamed c') (named_ranks c') (open_line c) left (stands c) item own (was_there c c' library graphs_same) (still_named c c' library graphs_same item named)
           (ranks_same c c' library graphs_same item ∙ is) (λ q apart. told_other item None (open_line c) q apart) (told_here item None (open_line c)) was_held
 
+      -- an item that isn't manual is on no shelf
+      not_manual : line_now c item ≡ None → (p : Path) → open_line c p ≡ left p
+      not_manual none p = elim (path_tells p item) [
+        | inl is ↦ ap (open_line c) is.1 ∙ unlined (is_open_now c item) (line_now c item) none ∙ sym (told_here item None (open_line c)) ∙ ap left (sym is.1)
+        | inr other ↦ sym (told_other item None (open_line c) p other.1)
+      ]
+        where
+          unlined : (b : Bool) (o : Option ItemLine) → o ≡ None → (if b then o else None) ≡ None
+          unlined true o is = is
+          unlined false o is = refl
+
+      off : (o : Option ItemLine) → line_now c item ≡ o → IsNamed c item → HoldExactly left (rank_now c') (if is_some o then unlisted_at (rank_now c item) (stands c) else stands c)
+      off (Some line) is named = off_at (rank_now c item) refl named
+      off None is named =
+          hold_same (open_line c) left (rank_now c') (rank_now c') (stands c) (stands c) (λ name rank. refl) (λ p. sym (not_manual is p)) (λ path line has. refl) was_held
+
       left_none : (p : Path) → open_line c p ≡ None → left p ≡ None
       left_none p none = elim (path_tells p item) [
         | inl is ↦ ap left is.1 ∙ told_here item None (open_line c)
@@ -156,7 +173,7 @@ module _ (c c' : Core) (root : ℕ) (library : templates c' ≡ templates c) (ot
       pub completion_shelves : (clock : ℕ) (items : List Path) → IsNamed c item → ItemsMove root clock (Some item.parts) items (open_at ts g i.scope) (open_at ts g i'.scope)
           → HoldExactly (open_line c') (rank_now c') (all_listed c' items (unlisted c item (stands c)))
       completion_shelves clock items named moves =
-          listed_now c c' library graphs_same left (unlisted c item (stands c)) items left_there (off_at (rank_now c item) refl named)
+          listed_now c c' library graphs_same left (unlisted c item (stands c)) items left_there (off (line_now c item) refl named)
           (λ n p there. let now = opened_now clock items (Some item.parts) moves n p there in (now.0, λ none. left_none p now.1))
           (λ p unlisted. elim (path_tells p item) [
             | inl is ↦
