@@ -88,10 +88,10 @@ sums_up (Ok text) load core seed roots number turns done finished same is taken 
 }
 sums_up (Err e) load core seed roots number turns done finished same is taken so ended line = tt
 
-pub loaded : {E : Type 0} (r : Result (Vec ℕ) E) (seed roots : ℕ) (first mid last : Loading) → IsFresh 4 10000000 first.session
+pub loaded : (seed roots : ℕ) (text : List ℕ) (first mid last : Loading) → IsFresh 4 10000000 first.session
     → first.bytes ≡ 0 → Serves import_script first mid → Serves (roots_script seed roots) mid last
-    → IfOk r (λ text. IsSummary seed roots last text.items) → IfOk r (λ text. IsLoaded seed roots text.items)
-loaded (Ok text) seed roots first mid last fresh none imports serves sums =
+    → IsSummary seed roots last text → IsLoaded seed roots text
+loaded seed roots text first mid last fresh none imports serves sums =
     let all = serves_behind import_script (roots_script seed roots) first mid last imports serves in
     record {
       before = first.session;
@@ -106,4 +106,3 @@ loaded (Ok text) seed roots first mid last fresh none imports serves sums =
       told = sums.told
           ∙ ap (λ (n : ℕ). load_line (seed ∷ roots ∷ last.session.core.number ∷ turns_of last.session.core.live.items ∷ done_in last.session.core ∷ sums.finished ∷ n ∷ [])) (all.counted ∙ (let e : first.bytes + length (all_replies all.replies) ≡ length (all_replies all.replies) = omega (arith, none) in e));
     }
-loaded (Err e) seed roots first mid last fresh none imports serves sums = tt

@@ -2,13 +2,14 @@
 use Rattle.std.specs.Prelude.{◌≡◌, ◌⊎◌, ℕ, zero, suc, ◌+◌, ◌*◌, ◌/◌, ◌%◌, ◌-◌, ◌^◌, min, nat_lt, Bool, true, false}
 use Rattle.std.specs.Prelude.{◌==◌, ◌&&◌, if◌then◌else◌, count_by, Option, Some, None, List, [], ◌∷◌, ◌++◌, length, map}
 use Rattle.std.specs.Prelude.{bytes_eq, codes, decimal}
-use Rattle.std.specs.List.{flat_map, list_any}
+use Rattle.std.specs.List.{flat_map}
 use Rattle.std.specs.Io.KnownBytes.{Keeps}
-use Rattle.flow_core.specs.Answers.{done_roots, instance_of, AreBegun}
+use Rattle.flow_core.specs.Answers.{done_roots}
+use Rattle.flow_core.specs.Verdicts.{fate_now}
 use Rattle.flow_core.specs.declared.state.Core.{Core}
 use Rattle.flow_model.specs.declared.instances.Fate.{Fate}
 use Rattle.flow_model.specs.declared.instances.Fate.TheVariants.{Finished}
-use Rattle.flow_model.specs.declared.instances.FateRow.{FateRow}
+use Rattle.flow_model.specs.declared.instances.Path.{Path}
 use Rattle.flow_model.specs.declared.transactions.Numbered.{Numbered}
 use Rattle.flow_disk.specs.declared.disk.Slot.TheVariants.{A}
 use Rattle.flow_session.specs.Inputs.{Given, Line}
@@ -119,21 +120,15 @@ abbrev pub is_finished : Fate → Bool
 is_finished (Finished attempt) = true
 is_finished fate = false
 
--- a row says that B is finished, in the scope of the root itself
-abbrev pub finishes_b : FateRow → Bool
-finishes_b row = (length row.scope.parts == 0) && bytes_eq row.name (codes "B") && is_finished row.fate
+-- the item of the first attempt of a root's B
+abbrev pub item_b : ℕ → Path
+item_b root = record { root = root; parts = record { name = codes "B"; attempt = 1 } ∷ [] }
 
--- one of the rows of a root says so; there are none where it isn't live
-abbrev pub has_finished_b : Option (List FateRow) → Bool
-has_finished_b None = false
-has_finished_b (Some rows) = list_any finishes_b rows
-
--- of this number of first roots, by what the state shows of each, so many have a finished B
+-- of this number of first roots, so many have a finished B, as the state shows it
 abbrev pub AreFinished : Core → ℕ → ℕ → Type 0
 AreFinished c zero count = count ≡ 0
-AreFinished c (suc root) count = (before : ℕ) × (shown : Option (List FateRow)) × AreFinished c root before
-    × AreBegun c.store (instance_of c (suc root)) shown
-    × (count ≡ before + (if has_finished_b shown then 1 else 0))
+AreFinished c (suc root) count = (before : ℕ) × AreFinished c root before
+    × (count ≡ before + (if is_finished (fate_now c (item_b (suc root))) then 1 else 0))
 
 -- ---- the line
 

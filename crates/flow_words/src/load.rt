@@ -1,21 +1,21 @@
 //! The word `load`: a made script over a history in memory, and one line that sums it up.
 ghost use Rattle.std.specs.Prelude.{◌≡◌, ◌+◌, ◌<◌, ◌∷◌, [], map, OnOk, IfOk, if◌then◌else◌};
-ghost use Rattle.std.specs.List.{list_any};
 ghost use Rattle.flow_session.specs.Inputs.{Line as LineOf};
 ghost use Rattle.flow_words.specs.Loading.{next_number as number_behind, amount_by, is_above as above_test};
 ghost use Rattle.flow_words.specs.Loading.{drained as drained_lines, force_line as force_of, force_with};
 ghost use Rattle.flow_words.specs.Loading.{start_line as start_of, root_script, roots_script};
-ghost use Rattle.flow_words.specs.Loading.{finishes_b as finishing, AreFinished};
+ghost use Rattle.flow_words.specs.Loading.{item_b as item_b_of, is_finished as finished_test, AreFinished};
 ghost use Rattle.flow_words.specs.Loading.{import_script, lines as lines_of, turns_of, load_line};
 ghost use Rattle.flow_words.specs.Loading.{Serves, IsSummary, IsLoaded};
 ghost use Rattle.flow_words.specs.Scripts.{IsFresh};
 
 use flow_core::Core;
-use flow_model::{Fate, FateRow};
+use flow_model::{Fate, List, Name, NameFault, Part, Path};
 use flow_session::{Input, NoJournal, Session};
 use flow_text::decimal;
 use live_history::History;
 use std::alloc::{AllocError, Global};
+use std::mem;
 
 /// The text that the script imports: amounts above 100 take one way, the others another.
 const TEXT: [&[u8]; 14] = [
@@ -89,37 +89,34 @@ fn with_more(count: u64, more: u64) -> Result<u64, AllocError>
     }
 }
 
-/// A START with this amount.
-fn start_line(alloc: Global, amount: u64) -> Result<Vec<u8>, AllocError>
-    ensures { IfOk result (λ line. line.items ≡ start_of amount) }
+/// Writes a START with this amount over what a buffer had.
+fn write_start(line: &mut Vec<u8>, amount: u64) -> Result<(), AllocError>
+    ensures { OnOk result (line.new.items ≡ start_of amount) }
 {
-    let mut line = Vec::with_capacity(alloc, LINE_ROOM)?;
+    line.clear();
     line.extend_from_slice(b"START 'P' BY 'ann' WITH 'Amount' = ")?;
-    decimal(&mut line, amount)?;
-    Ok(line)
+    decimal(line, amount)
 }
 
-/// A FORCE of the first attempt of an activity of a root.
-fn force_line(alloc: Global, root: u64, activity: u8) -> Result<Vec<u8>, AllocError>
-    ensures { IfOk result (λ line. line.items ≡ force_of root activity) }
+/// Writes a FORCE of the first attempt of an activity of a root over what a buffer had.
+fn write_force(line: &mut Vec<u8>, root: u64, activity: u8) -> Result<(), AllocError>
+    ensures { OnOk result (line.new.items ≡ force_of root activity) }
 {
-    let mut line = Vec::with_capacity(alloc, LINE_ROOM)?;
+    line.clear();
     line.extend_from_slice(b"FORCE '")?;
-    decimal(&mut line, root)?;
+    decimal(line, root)?;
     line.push(b'/')?;
     line.push(activity)?;
-    line.extend_from_slice(b"#1'")?;
-    Ok(line)
+    line.extend_from_slice(b"#1'")
 }
 
-/// The FORCE of a root's first activity, with its amount.
-fn first_line(alloc: Global, root: u64, amount: u64) -> Result<Vec<u8>, AllocError>
-    ensures { IfOk result (λ line. line.items ≡ force_with root 65 amount) }
+/// Writes the FORCE of a root's first activity, with its amount, over what a buffer had.
+fn write_first(line: &mut Vec<u8>, root: u64, amount: u64) -> Result<(), AllocError>
+    ensures { OnOk result (line.new.items ≡ force_with root 65 amount) }
 {
-    let mut line = force_line(alloc, root, b'A')?;
+    write_force(line, root, b'A')?;
     line.extend_from_slice(b" WITH 'Amount' = ")?;
-    decimal(&mut line, amount)?;
-    Ok(line)
+    decimal(line, amount)
 }
 
 impl Loading {
@@ -178,38 +175,38 @@ impl Loading {
         Ok(())
     }
 
-    /// Starts a root with an amount.
-    fn start(&mut self, amount: u64) -> Result<(), AllocError>
+    /// Starts a root with an amount; the line is written into a buffer.
+    fn start(&mut self, line: &mut Vec<u8>, amount: u64) -> Result<(), AllocError>
         ensures { OnOk result (Serves (drained_lines (start_of amount)) self.old self.new) }
     {
-        let line = start_line(self.alloc, amount)?;
-        self.drained(&line)
+        write_start(line, amount)?;
+        self.drained(line)
     }
 
-    /// Forces the first activity of a root, with an amount.
-    fn force_first(&mut self, root: u64, amount: u64) -> Result<(), AllocError>
+    /// Forces the first activity of a root, with an amount; the line is written into a buffer.
+    fn force_first(&mut self, line: &mut Vec<u8>, root: u64, amount: u64) -> Result<(), AllocError>
         ensures { OnOk result (Serves (drained_lines (force_with root 65 amount)) self.old self.new) }
     {
-        let line = first_line(self.alloc, root, amount)?;
-        self.drained(&line)
+        write_first(line, root, amount)?;
+        self.drained(line)
     }
 
-    /// Forces an activity of a root.
-    fn force(&mut self, root: u64, activity: u8) -> Result<(), AllocError>
+    /// Forces an activity of a root; the line is written into a buffer.
+    fn force(&mut self, line: &mut Vec<u8>, root: u64, activity: u8) -> Result<(), AllocError>
         ensures { OnOk result (Serves (drained_lines (force_of root activity)) self.old self.new) }
     {
-        let line = force_line(self.alloc, root, activity)?;
-        self.drained(&line)
+        write_force(line, root, activity)?;
+        self.drained(line)
     }
 
-    /// A root with an amount, from its start to its end.
-    fn root(&mut self, root: u64, amount: u64) -> Result<(), AllocError>
+    /// A root with an amount, from its start to its end; each line is written into a buffer.
+    fn root(&mut self, line: &mut Vec<u8>, root: u64, amount: u64) -> Result<(), AllocError>
         ensures { OnOk result (Serves (root_script root amount) self.old self.new) }
     {
-        self.start(amount)?;
-        self.force_first(root, amount)?;
-        self.force(root, way(amount))?;
-        self.force(root, b'D')?;
+        self.start(line, amount)?;
+        self.force_first(line, root, amount)?;
+        self.force(line, root, way(amount))?;
+        self.force(line, root, b'D')?;
         Ok(())
     }
 
@@ -217,10 +214,11 @@ impl Loading {
     fn roots(&mut self, seed: u64, roots: u64) -> Result<(), AllocError>
         ensures { OnOk result (Serves (roots_script seed roots) self.old self.new) }
     {
+        let mut line = Vec::with_capacity(self.alloc, LINE_ROOM)?;
         let mut x = seed;
         for before in 0..roots {
             x = next_number(x);
-            self.root(before + 1, amount(x))?;
+            self.root(&mut line, before + 1, amount(x))?;
         }
         Ok(())
     }
@@ -233,20 +231,25 @@ fn turns(history: &History) -> u64
     history.turns() as u64
 }
 
-/// Whether a row says that B is finished, in the scope of the root itself.
-fn finishes_b(row: &FateRow) -> bool
-    ensures { result ≡ finishing row.now }
+/// The item of the first attempt of a root's B.
+fn item_b(alloc: Global, root: u64) -> Result<Path, AllocError>
+    ensures { IfOk result (λ item. item ≡ item_b_of root) }
 {
-    row.scope.parts.is_empty()
-        && row.name.as_slice() == b"B".as_slice()
-        && matches!(row.fate, Fate::Finished(_))
+    let name = match Name::new(alloc, b"B") {
+        Ok(name) => name,
+        Err(NameFault::Bad) => unreachable!(),
+        Err(NameFault::NoMemory) => return Err(AllocError),
+    };
+    let mut parts = List::new(alloc);
+    parts.push(Part { name, attempt: 1 })?;
+    Ok(Path { root, parts })
 }
 
-/// Whether one of the rows of a root says so.
-fn has_finished_b(rows: &[FateRow]) -> bool
-    ensures { result ≡ list_any finishing rows.now }
+/// Whether a fate is Finished.
+fn is_finished(fate: Fate) -> bool
+    ensures { result ≡ finished_test fate }
 {
-    rows.iter().any(|row| finishes_b(row))
+    matches!(fate, Fate::Finished(_))
 }
 
 /// How many of this number of first roots have a finished B; one that isn't live has none.
@@ -255,10 +258,8 @@ fn finished_roots(alloc: Global, core: &Core, roots: u64) -> Result<u64, AllocEr
 {
     let mut finished = 0u64;
     for before in 0..roots {
-        let Some(rows) = core.begun_rows(alloc, before + 1)? else {
-            continue;
-        };
-        if has_finished_b(rows.as_slice()) {
+        let item = item_b(alloc, before + 1)?;
+        if is_finished(core.fate_of(&item)) {
             finished = with_more(finished, 1)?;
         }
     }
@@ -305,5 +306,8 @@ pub fn load(alloc: Global, seed: u64, roots: u64) -> Result<Vec<u8>, AllocError>
     let mut load = Loading::new(alloc)?;
     load.import()?;
     load.roots(seed, roots)?;
-    summary(&load, seed, roots)
+    let line = summary(&load, seed, roots)?;
+    // Nothing follows but the end of the program: root by root it would take long to give the memory back.
+    mem::forget(load);
+    Ok(line)
 }
