@@ -256,11 +256,12 @@ fn is_finished(fate: Fate) -> bool
 fn finished_roots(alloc: Global, core: &Core, roots: u64) -> Result<u64, AllocError>
     ensures { IfOk result (AreFinished core.now roots) }
 {
+    let mut item = item_b(alloc, 0)?;
     let mut finished = 0u64;
     for before in 0..roots {
-        let item = item_b(alloc, before + 1)?;
+        item.root = before + 1;
         if is_finished(core.fate_of(&item)) {
-            finished = with_more(finished, 1)?;
+            finished += 1;
         }
     }
     Ok(finished)
