@@ -96,8 +96,8 @@ const CHANGED: [(usize, &str, usize); 14] = [
     (10, "DEAD '1/E'", 11),
 ];
 
-/// What it shows, lines, and the number of the first that isn't justified; 0 where all are. A line that stands before is
-/// looked up.
+/// What it shows, lines, and the number of the first that isn't justified; 0 where all are. A line that stands before
+/// is looked up.
 const REPEATED: [(&str, &[&str], usize); 11] = [
     ("the last attempt", &["SCOPE '1'", "FINISHED '1/T' 2"], 0),
     (
