@@ -1,5 +1,5 @@
 //! Which texts are paths.
-use flow_model::{PathFault, path_of, path_text};
+use flow_model::{path_of, path_text};
 use std::test::Fail;
 
 #[test]

@@ -7,12 +7,11 @@ use Rattle.std.proofs.lemmas.Bool.{and_parts}
 use Rattle.std.proofs.lemmas.Fmt.{decimal_by_steps}
 use Rattle.std.proofs.lemmas.List.{drop_more, get_or-drop}
 use Rattle.std.proofs.lemmas.List.Elements.{All-nil, All-cons, All-head, All-tail, All-push, All-from_get_or}
-use Rattle.flow_model.specs.Paths.{spelling, IsPath, SpellsNoOther}
+use Rattle.flow_model.specs.Paths.{spelling, SpellsNoOther}
 use Rattle.flow_model.specs.Words.{is_name, is_name_byte}
 use Rattle.flow_model.specs.declared.instances.Path.{Path}
 use Rattle.certificates.specs.Lines.{activity_in_quotes}
 use Rattle.certificates.specs.Naming.{IsCutAt, Lacks, NamesNoOther, NamesNoActivity}
-use Rattle.certificates.specs.declared.lines.CertLine.{CertLine}
 use Rattle.certificates.specs.declared.lines.CertLine.TheVariants.{Finished}
 
 -- ---- bytes without a mark

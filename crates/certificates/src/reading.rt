@@ -1,5 +1,5 @@
 //! Reading the lines of a certificate.
-ghost use Rattle.std.specs.Prelude.{◌≡◌, ◌<◌, ◌^◌, ℕ, true, None, Some, List as Bytes, ◌++◌, ◌∷◌, [], decimal};
+ghost use Rattle.std.specs.Prelude.{◌≡◌, ◌<◌, ◌^◌, ℕ, true, None, Some, List as Bytes, ◌++◌, ◌∷◌, decimal};
 ghost use Rattle.std.specs.Prelude.{IfOk, IfSome, MatchOption};
 ghost use Rattle.std.specs.Option.{option_copied};
 ghost use Rattle.certificates.specs.Lines.{in_quotes, scope_in_quotes, activity_in_quotes, IsSpellable};

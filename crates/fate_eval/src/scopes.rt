@@ -13,7 +13,7 @@ ghost use Rattle.flow_model.specs.declared.graphs.MapEnd.TheVariants.{Activity a
 ghost use Rattle.fate_eval.specs.Timely.{after_of, AfterControls, AfterLines};
 
 use dead_paths::{connector_value, row};
-use flow_model::{Control, DataLine, Graph, List, MapEnd, SourceEnd};
+use flow_model::{Control, DataLine, Graph, MapEnd, SourceEnd};
 use std::alloc::{AllocError, Global};
 
 /// The value of a connector.

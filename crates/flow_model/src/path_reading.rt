@@ -1,12 +1,11 @@
 //! Which path a text spells: it is cut at its `/` and `#`, and each number is read as it is written.
 ghost use Rattle.std.specs.Prelude.{◌≡◌, ◌≤◌, ◌<◌, ◌^◌, ◌==◌, ℕ, Some, List as ListOf, ◌∷◌, ◌++◌, length};
-ghost use Rattle.std.specs.Prelude.{decimal, IfOk, IfSome, IsErrOf, MatchOption};
-ghost use Rattle.std.specs.Bool.{Decides};
+ghost use Rattle.std.specs.Prelude.{decimal, IfOk, IfSome, IsErrOf};
 ghost use Rattle.std.specs.List.{All, position, position_or_len};
 ghost use Rattle.std.specs.Option.{option_copied};
 ghost use Rattle.std.specs.Str.Parse.{AllDigits, digits_value};
-ghost use Rattle.flow_model.specs.Paths.{spelling, part_spelling, parts_spelling, IsStep, IsPath, Spells};
-ghost use Rattle.flow_model.specs.Paths.{SpellsNoOther, SpellsNoPath, BeginsNot};
+ghost use Rattle.flow_model.specs.Paths.{part_spelling, parts_spelling, IsStep, Spells};
+ghost use Rattle.flow_model.specs.Paths.{SpellsNoOther, SpellsNoPath};
 ghost use Rattle.flow_model.specs.declared.instances.Part.{Part as Down};
 ghost use Rattle.flow_model.specs.declared.instances.Path.{Path as Way};
 

@@ -1,7 +1,7 @@
 -- What `load` serves and prints: a script that two numbers make, and the line that sums it up.
 use Rattle.std.specs.Prelude.{◌≡◌, ◌⊎◌, ℕ, zero, suc, ◌+◌, ◌*◌, ◌/◌, ◌%◌, ◌-◌, ◌^◌, min, nat_lt, Bool, true, false}
-use Rattle.std.specs.Prelude.{◌==◌, ◌&&◌, if◌then◌else◌, count_by, Option, Some, None, List, [], ◌∷◌, ◌++◌, length, map}
-use Rattle.std.specs.Prelude.{bytes_eq, codes, decimal}
+use Rattle.std.specs.Prelude.{if◌then◌else◌, count_by, Option, List, [], ◌∷◌, ◌++◌, length, map}
+use Rattle.std.specs.Prelude.{codes, decimal}
 use Rattle.std.specs.List.{flat_map}
 use Rattle.std.specs.Io.KnownBytes.{Keeps}
 use Rattle.flow_core.specs.Answers.{done_roots}

@@ -10,7 +10,7 @@ ghost use Rattle.name_rules.specs.Names.{IsTwice};
 ghost use Rattle.text_graphs.specs.Places.{IsLeastOf, AnyAt, PairAt};
 ghost use Rattle.text_graphs.specs.Texts.{activities_in, processes_in, structures_in, people_in};
 
-use flow_model::{ActivityTree, AttrAt, AttrTree, ItemTree, NameAt, PersonTree, StructDef, Tree};
+use flow_model::{AttrAt, AttrTree, ItemTree, NameAt, PersonTree, StructDef, Tree};
 use std::alloc::{AllocError, Global};
 use text_graphs::{Repeats, Scope, lesser};
 
