@@ -453,6 +453,27 @@ def audits_beside():
     return audits(scaled(200_000))
 
 
+# ---- imports
+
+def chain_of(title, count):
+    """A chain of structures, of which the last has 512 leaves that many members deep."""
+    first = f"STRUCTURE '{title}0' 'n' : LONG (512) ; END '{title}0'\n"
+    return first + "".join(f"STRUCTURE '{title}{i}' 'm' : '{title}{i - 1}' ; END '{title}{i}'\n" for i in range(1, count))
+
+
+def deep_imports():
+    """An IMPORT of 256 processes whose containers have 512 leaves, each 10,000 members deep, and two IMPORTs that call
+    all of them, with structures of their own."""
+    count, called = scaled(10_000), scaled(256)
+    depth = lambda k: count - 1 - k
+    process = lambda k: f"PROCESS 'Q{k}' ('W{depth(k)}','W{depth(k)}')\n" + \
+        f"{activity('A', container=f'W{depth(k)}')}END 'Q{k}'\n"
+    callees = chain_of("W", count) + "".join(process(k) for k in range(called))
+    call = lambda k: f"PROCESS_ACTIVITY 'C{k}' ('V{depth(k)}','V{depth(k)}') PROCESS 'Q{k}' END 'C{k}'\n"
+    caller = chain_of("V", count) + "PROCESS 'P' ('V0','V0')\n" + "".join(call(k) for k in range(called)) + "END 'P'\n"
+    return "".join(f"IMPORT\n{text}.\n" for text in (callees, caller, caller))
+
+
 # ---- verify
 
 VERIFIED = """IMPORT
@@ -509,6 +530,7 @@ def rows():
     found["try deletions"] = Row(deletions, SERVED, 3, 1024)
     found["try audits_alone"] = Row(audits_alone, SERVED, 0.2, 64)
     found["try audits_beside"] = Row(audits_beside, SERVED, 2, 1024)
+    found["try deep_imports"] = Row(deep_imports, SERVED, 5, 1024)
     found["load 1 20000"] = Row(lambda: "", ["load", "1", str(scaled(20_000))], 1, 64)
     return found
 

@@ -4,6 +4,8 @@
 #![tactic(auto)]
 
 #[cfg(test)]
+mod classes;
+#[cfg(test)]
 mod imports;
 #[cfg(test)]
 mod printing;

@@ -10,7 +10,7 @@ use Rattle.flow_model.specs.declared.trees.KindTree.TheVariants as kind
 use Rattle.flow_model.specs.declared.trees.Member.{Member}
 use Rattle.flow_model.specs.declared.trees.StructDef.{StructDef}
 use Rattle.text_graphs.proofs.Naming.{first_below}
-use Rattle.leaf_rules.specs.Classes.{Numbering, AreClasses, leaves_at, AreLeavesKnown}
+use Rattle.leaf_rules.specs.Classes.{Numbering, leaves_at, AreLeavesKnown, HasKnownLeaves}
 use Rattle.leaf_rules.specs.KindEdges.{kind_in}
 use Rattle.leaf_rules.specs.Ordered.{IsOrdered}
 use Rattle.leaf_rules.specs.ReturnCodes.{return_code}
@@ -135,8 +135,14 @@ module _ (structures : List StructDef) (order : List ℕ) (is_order : IsOrdered 
       made = λ number s is m has. kind_made m.kind;
     }
 
-    -- so classes of what is known are classes of the table
-    pub classed : (forms : List StructureLeaves) (classes : List ℕ) → map (λ f. f.coded.leaves) forms ≡ map (leaves_in_run table) runs
-        → ((table : List Leaf) (inner : List ℕ → List Leaf) (leaves : Numbering) → AreLeavesKnown structures runs table inner leaves → AreClasses leaves classes) → AreClasses (leaves_at forms) classes
-    classed forms classes same h = λ first second class here there.
-        numbered_leaves structures runs table forms made same first ∙ h table all by_number are_known first second class here there ∙ sym (numbered_leaves structures runs table forms made same second)
+    -- so it is of the leaves that are made by the table
+    pub has_known : (forms : List StructureLeaves) → map (λ f. f.coded.leaves) forms ≡ map (leaves_in_run table) runs → HasKnownLeaves structures runs forms
+    has_known forms same = record {
+      table = table;
+      inner = all;
+      known = record {
+        whole = λ number s is. numbered_leaves structures runs table forms made same number ∙ are_known.whole number s is;
+        named = λ name number is. numbered_leaves structures runs table forms made same number ∙ are_known.named name number is;
+        made = are_known.made;
+      };
+    }

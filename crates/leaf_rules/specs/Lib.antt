@@ -7,6 +7,7 @@ pub mod Counts
 pub mod Ordered
 pub mod Runs
 pub mod Classes
+pub mod TableClasses
 pub mod Tables
 pub mod ArrayCounts
 pub mod LeafUses

@@ -1,61 +1,48 @@
-//! Classes of structures: members that say the same make the same leaves.
-ghost use Rattle.std.specs.Prelude.{◌≡◌, ◌<◌, [], ℕ, length, IfOk, IfSome, IsTrue, slice_get, Some};
-ghost use Rattle.std.specs.Prelude.{List as Seq};
+//! Which class each structure of a text is of: members that tell the same make the same leaves.
+ghost use Rattle.std.specs.Prelude.{◌≡◌, ◌<◌, [], ℕ, length, map, IfOk, IfSome, OnOk, IsTrue, Some};
+ghost use Rattle.std.specs.Prelude.{List as Seq, option_copied, slice_get};
 ghost use Rattle.std.specs.List.{All};
 ghost use Rattle.flow_model.specs.declared.graphs.Leaf.{Leaf};
-ghost use Rattle.leaf_rules.specs.Classes.{Numbering, AreClasses, AreLeavesKnown, class_named, kind_code, size_said};
+ghost use Rattle.leaf_rules.specs.Classes.{Numbering, IsClassOf, AreClassed, HasKnownLeaves, class_leaves};
+ghost use Rattle.leaf_rules.specs.Classes.{class_named, forms_leaves, kind_form, leaves_at, member_form, size_said};
+ghost use Rattle.leaf_rules.specs.TableClasses.{text_classes};
 ghost use Rattle.leaf_rules.specs.Runs.{IsKindMade, AreKindsMade};
 ghost use Rattle.leaf_rules.specs.Structures.{behind};
 ghost use Rattle.leaf_rules.specs.StructureLeaves.{member_leaves, members_leaves};
+ghost use Rattle.leaf_rules.specs.declared.forms.StructureLeaves.{StructureLeaves as Forms};
+ghost use Rattle.leaf_rules.specs.declared.leaf_classes.LeafClass.{LeafClass};
 
+use crate::forms::StructureLeaves;
+use crate::leaf_classes::{MemberForm, MemberKind};
+use crate::members::TextClasses;
 use crate::rows::Run;
 use crate::structures::{Structures, element_count};
-use flow_model::{KindTree, Member, NameAt, StructDef};
-use indexmap::IndexMap;
+use flow_model::{KindTree, List, Member, NameAt, StructDef};
 use std::alloc::{AllocError, Global};
-use text_graphs::narrow;
 
-/// The first structure of such members, by what they say.
-type Firsts = IndexMap<Vec<u8>, u32>;
-
-/// Each structure in a class of its own.
-fn single_classes(alloc: Global, structures: usize) -> Result<Vec<u32>, AllocError>
-    ensures { IfOk result (λ classes. (leaves : Numbering) → AreClasses leaves classes.items) }
+/// No class is found yet.
+fn no_classes(alloc: Global, structures: usize) -> Result<Vec<Option<u32>>, AllocError>
+    ensures { IfOk result (λ found. (leaves : Numbering) (classes : Seq LeafClass)
+        → AreClassed leaves classes found.items) }
 {
-    let mut classes = Vec::new(alloc);
-    for number in 0..structures {
-        classes.push(narrow(number)?)?;
-    }
-    Ok(classes)
+    Ok(vec![in alloc; None; structures]?)
 }
 
-/// Puts a structure into a class.
-fn set_class(classes: &mut Vec<u32>, number: u32, class: u32)
-    ensures { (leaves : Numbering) (other : ℕ) → AreClasses leaves classes.old.items
-        → slice_get classes.old.items other ≡ Some class → leaves number ≡ leaves other
-        → AreClasses leaves classes.new.items }
+/// Notes the class of the structure of a number.
+fn set_class(found: &mut Vec<Option<u32>>, number: u32, class: u32)
+    ensures { (leaves : Numbering) (classes : Seq LeafClass) → IsClassOf classes class (leaves number)
+        → AreClassed leaves classes found.old.items → AreClassed leaves classes found.new.items }
 {
-    if (number as usize) < classes.len() {
-        classes[number as usize] = class;
+    if (number as usize) < found.len() {
+        found[number as usize] = Some(class);
     }
 }
 
-/// The class of the structure of a number.
-fn class_at(classes: &[u32], number: u32) -> Option<u32>
-    ensures { result ≡ slice_get classes.now number }
+/// The leaves that are made for the structure of a number.
+fn leaves_of(made: &[StructureLeaves], number: u32) -> Option<&StructureLeaves>
+    ensures { option_copied result ≡ slice_get made.now number }
 {
-    classes.get(number as usize).copied()
-}
-
-/// Puts a structure into the class of one with the same leaves.
-fn join(classes: &mut Vec<u32>, number: u32, other: u32)
-    ensures { (leaves : Numbering) → AreClasses leaves classes.old.items → leaves number ≡ leaves other
-        → AreClasses leaves classes.new.items }
-{
-    match class_at(classes, other) {
-        None => {}
-        Some(class) => set_class(classes, number, class),
-    }
+    made.get(number as usize)
 }
 
 /// The size that a member says of an array.
@@ -68,77 +55,68 @@ fn size_said(member: &Member) -> Option<u64>
     }
 }
 
-/// Whether two members have one name, and say the same size of an array.
-fn same_said(ours: &Member, theirs: &Member) -> bool
-    ensures { IsTrue result → (size_said ours.now ≡ size_said theirs.now)
-        × (ours.now.name.name ≡ theirs.now.name.name) }
-{
-    size_said(ours) == size_said(theirs) && ours.name.name.as_slice() == theirs.name.name.as_slice()
-}
-
 impl<'a> Structures<'a> {
-    /// The class of the structure of this name.
-    pub(crate) fn class(&self, classes: &[u32], name: &'a NameAt) -> Option<u32>
-        ensures { result ≡ class_named (behind self.now.definitions.items) classes.now name.now.name }
+    /// The class of the structure of this name, where it is found.
+    pub(crate) fn class(&self, found: &[Option<u32>], name: &'a NameAt) -> Option<u32>
+        ensures { result ≡ class_named (behind self.now.definitions.items) found.now name.now.name }
     {
         let number = self.number(name)?;
-        class_at(classes, number)
+        let class = found.get(number as usize).copied()?;
+        class
     }
 
-    /// A number for each kind: kinds of one number have the same leaves.
-    fn kind_code(&self, classes: &[u32], kind: &'a KindTree) -> Option<u64>
-        ensures { result ≡ kind_code (behind self.now.definitions.items) classes.now kind.now }
+    /// What a kind tells, where the class of its structure is found.
+    fn kind_form(&self, found: &[Option<u32>], kind: &'a KindTree) -> Option<MemberKind>
+        ensures { result ≡ kind_form (behind self.now.definitions.items) found.now kind.now }
     {
         match kind {
-            KindTree::Long => Some(0),
-            KindTree::Str => Some(1),
-            KindTree::Struct(name) => match self.class(classes, name) {
+            KindTree::Long => Some(MemberKind::Long),
+            KindTree::Str => Some(MemberKind::Str),
+            KindTree::Struct(name) => match self.class(found, name) {
                 None => None,
-                Some(class) => Some(u64::from(class) + 2),
+                Some(class) => Some(MemberKind::Class(class)),
             },
         }
     }
 
-    /// Whether two kinds are known to have the same leaves.
-    fn same_kinds(&self, classes: &[u32], ours: &'a KindTree, theirs: &'a KindTree) -> bool
-        ensures { IsTrue result → (code : ℕ)
-            × (kind_code (behind self.now.definitions.items) classes.now ours.now ≡ Some code)
-            × (kind_code (behind self.now.definitions.items) classes.now theirs.now ≡ Some code) }
+    /// What a member tells, where the class of its structure is found.
+    fn member_form(
+        &self,
+        alloc: Global,
+        found: &[Option<u32>],
+        member: &'a Member,
+    ) -> Result<Option<MemberForm>, AllocError>
+        ensures { IfOk result (λ form. form
+            ≡ member_form (behind self.now.definitions.items) found.now member.now) }
     {
-        match self.kind_code(classes, ours) {
-            None => false,
-            Some(code) => self.kind_code(classes, theirs) == Some(code),
+        match self.kind_form(found, &member.kind) {
+            None => Ok(None),
+            Some(kind) => Ok(Some(MemberForm {
+                name: member.name.name.copy(alloc)?,
+                size: size_said(member),
+                kind,
+            })),
         }
     }
 
-    /// Whether two members are known to have the same leaves.
-    fn same_member(&self, classes: &[u32], ours: &'a Member, theirs: &'a Member) -> bool
-        ensures { IsTrue result → (runs : Seq Run) (table : Seq Leaf) (inner : Seq ℕ → Seq Leaf) (leaves : Numbering)
-            → AreLeavesKnown (behind self.now.definitions.items) runs table inner leaves
-            → AreClasses leaves classes.now → member_leaves inner ours.now ≡ member_leaves inner theirs.now }
+    /// What members tell, where the classes of all their structures are found.
+    fn forms(
+        &self,
+        alloc: Global,
+        found: &[Option<u32>],
+        members: &[&'a Member],
+    ) -> Result<Option<List<MemberForm>>, AllocError>
+        ensures { IfOk result (λ made. IfSome made (λ forms. map (λ form. Some form) forms
+            ≡ map (member_form (behind self.now.definitions.items) found.now) (behind members.now))) }
     {
-        if !same_said(ours, theirs) {
-            return false;
-        }
-        self.same_kinds(classes, &ours.kind, &theirs.kind)
-    }
-
-    /// Whether members have the same leaves, one by one.
-    fn same_members(&self, classes: &[u32], ours: &[&'a Member], theirs: &[&'a Member]) -> bool
-        ensures { IsTrue result → (runs : Seq Run) (table : Seq Leaf) (inner : Seq ℕ → Seq Leaf) (leaves : Numbering)
-            → AreLeavesKnown (behind self.now.definitions.items) runs table inner leaves
-            → AreClasses leaves classes.now
-            → members_leaves inner (behind ours.now) ≡ members_leaves inner (behind theirs.now) }
-    {
-        if ours.len() != theirs.len() {
-            return false;
-        }
-        for i in 0..ours.len() {
-            if !self.same_member(classes, ours[i], theirs[i]) {
-                return false;
+        let mut forms = List::new(alloc);
+        for member in members {
+            match self.member_form(alloc, found, member)? {
+                None => return Ok(None),
+                Some(form) => forms.push(form)?,
             }
         }
-        true
+        Ok(Some(forms))
     }
 
     /// Whether a member has no leaves.
@@ -170,110 +148,70 @@ impl<'a> Structures<'a> {
         Ok(found)
     }
 
-    /// Adds what a member says. No name has the byte 0.
-    fn add_to_key(
-        &self,
-        key: &mut Vec<u8>,
-        classes: &[u32],
-        member: &'a Member,
-    ) -> Result<(), AllocError> {
-        let kind = self.kind_code(classes, &member.kind).unwrap_or(u64::MAX);
-        let size = size_said(member).unwrap_or(u64::MAX);
-        key.extend_from_slice(member.name.name.as_slice())?;
-        key.push(0)?;
-        key.extend_from_slice(&size.to_be_bytes())?;
-        key.extend_from_slice(&kind.to_be_bytes())
-    }
-
-    /// What some members say. It only leads to a structure to compare with, so nothing rests on it but time.
-    fn key(
+    /// What the members of a structure tell that have leaves, where the classes of all their structures are found.
+    fn leafy_forms(
         &self,
         alloc: Global,
-        classes: &[u32],
-        members: &[&'a Member],
-    ) -> Result<Vec<u8>, AllocError> {
-        let mut key = Vec::new(alloc);
-        for member in members {
-            self.add_to_key(&mut key, classes, member)?;
-        }
-        Ok(key)
-    }
-
-    /// Whether the structure of a number has the same leaves as some members.
-    fn has_members(
-        &self,
-        alloc: Global,
-        classes: &[u32],
-        runs: &[Run],
-        members: &[&'a Member],
-        number: u32,
-    ) -> Result<bool, AllocError>
-        ensures { IfOk result (λ same. IsTrue same → (table : Seq Leaf) (inner : Seq ℕ → Seq Leaf) (leaves : Numbering)
-            → AreLeavesKnown (behind self.now.definitions.items) runs.now table inner leaves
-            → AreClasses leaves classes.now → leaves number ≡ Some (members_leaves inner (behind members.now))) }
-    {
-        match self.nth(number) {
-            None => Ok(false),
-            Some(structure) => {
-                let theirs = self.leafy(alloc, runs, structure)?;
-                Ok(self.same_members(classes, members, &theirs))
-            }
-        }
-    }
-
-    /// A structure before this one in the order that has the same leaves, as far as members tell.
-    fn twin(
-        &self,
-        alloc: Global,
-        firsts: &mut Firsts,
-        classes: &[u32],
+        found: &[Option<u32>],
         runs: &[Run],
         number: u32,
-    ) -> Result<Option<u32>, AllocError>
+    ) -> Result<Option<List<MemberForm>>, AllocError>
         requires { number < length (behind self.now.definitions.items) }
-        ensures { IfOk result (λ found. IfSome found (λ other. (table : Seq Leaf) (inner : Seq ℕ → Seq Leaf)
-            (leaves : Numbering) → AreLeavesKnown (behind self.now.definitions.items) runs.now table inner leaves
-            → AreClasses leaves classes.now → leaves number ≡ leaves other)) }
+        ensures { IfOk result (λ made. IfSome made (λ forms. (made : Seq Forms) (classes : Seq LeafClass)
+            → HasKnownLeaves (behind self.now.definitions.items) runs.now made
+            → AreClassed (leaves_at made) classes found.now
+            → forms_leaves (class_leaves classes) forms ≡ leaves_at made number)) }
     {
         let members = self.leafy(alloc, runs, self.structure(number))?;
-        let key = self.key(alloc, classes, &members)?;
-        let first = firsts.get(key.as_slice()).copied();
-        match first {
-            None => {
-                firsts.insert(key, number)?;
-                Ok(None)
-            }
-            Some(other) => {
-                if self.has_members(alloc, classes, runs, &members, other)? {
-                    Ok(Some(other))
-                } else {
-                    Ok(None)
-                }
-            }
-        }
+        self.forms(alloc, found, &members)
     }
 
-    /// The classes of all structures. A class tells the most in an order in which each structure comes behind its
-    /// kinds, for then their classes are known.
+    /// Finds the class of the structure of a number, whose kinds come before it.
+    fn add_class(
+        &self,
+        alloc: Global,
+        text: &mut TextClasses<'a>,
+        found: &mut Vec<Option<u32>>,
+        runs: &[Run],
+        made: &[StructureLeaves],
+        number: u32,
+    ) -> Result<(), AllocError>
+        requires within { number < length (behind self.now.definitions.items) }
+        requires made { HasKnownLeaves (behind self.now.definitions.items) runs.now made.now }
+        requires classed { AreClassed (leaves_at made.now) (text_classes text.old) found.old.items }
+        ensures known { text.new.known ≡ text.old.known }
+        ensures classed { OnOk result (AreClassed (leaves_at made.now) (text_classes text.new) found.new.items) }
+    {
+        let Some(forms) = self.leafy_forms(alloc, found, runs, number)? else {
+            return Ok(());
+        };
+        let Some(leaves) = leaves_of(made, number) else {
+            return Ok(());
+        };
+        let class = text.class_of(alloc, forms, &leaves.plain)?;
+        set_class(found, number, class);
+        Ok(())
+    }
+
+    /// The class of each structure, found in an order in which each comes behind its kinds: then their classes are
+    /// known.
     pub(crate) fn classes(
         &self,
         alloc: Global,
+        text: &mut TextClasses<'a>,
         order: &[u32],
         runs: &[Run],
-    ) -> Result<Vec<u32>, AllocError>
-        requires { All (λ a. a < length (behind self.now.definitions.items)) order.now }
-        ensures { IfOk result (λ classes. (table : Seq Leaf) (inner : Seq ℕ → Seq Leaf) (leaves : Numbering)
-            → AreLeavesKnown (behind self.now.definitions.items) runs.now table inner leaves
-            → AreClasses leaves classes.items) }
+        made: &[StructureLeaves],
+    ) -> Result<Vec<Option<u32>>, AllocError>
+        requires order { All (λ a. a < length (behind self.now.definitions.items)) order.now }
+        requires made { HasKnownLeaves (behind self.now.definitions.items) runs.now made.now }
+        ensures known { text.new.known ≡ text.old.known }
+        ensures classed { IfOk result (λ found. AreClassed (leaves_at made.now) (text_classes text.new) found.items) }
     {
-        let mut classes = single_classes(alloc, self.len())?;
-        let mut firsts = IndexMap::new(alloc);
+        let mut found = no_classes(alloc, self.len())?;
         for number in order {
-            match self.twin(alloc, &mut firsts, &classes, runs, *number)? {
-                None => {}
-                Some(other) => join(&mut classes, *number, other),
-            }
+            self.add_class(alloc, text, &mut found, runs, made, *number)?;
         }
-        Ok(classes)
+        Ok(found)
     }
 }

@@ -1,8 +1,9 @@
 //! The leaves of the containers of graphs, each structure's made once.
-ghost use Rattle.std.specs.Prelude.{◌≡◌, ◌<◌, ◌^◌, ℕ, List, length, IfOk, IfSome, option_copied, option_map};
+ghost use Rattle.std.specs.Prelude.{◌≡◌, ◌<◌, ◌^◌, ℕ, List as Seq, length, IfOk, IfSome, option_copied, option_map};
 ghost use Rattle.std.specs.Prelude.{IsTrue};
 ghost use Rattle.text_graphs.specs.GraphTexts.{text_of};
-ghost use Rattle.leaf_rules.specs.Classes.{HaveSameLeaves, class_named};
+ghost use Rattle.leaf_rules.specs.Classes.{HaveSameLeaves, AreMadeBehind, IsClassOf};
+ghost use Rattle.leaf_rules.specs.TableClasses.{table_classes};
 ghost use Rattle.leaf_rules.specs.Structures.{behind};
 ghost use Rattle.leaf_rules.specs.StructureLeaves.{leaves_in};
 ghost use Rattle.leaf_rules.specs.Ordered.{IsOrdered};
@@ -10,28 +11,39 @@ ghost use Rattle.leaf_rules.specs.Leaves.{with_code, forms_named, table_leaves, 
 ghost use Rattle.leaf_rules.specs.Leaves.{source_leaves, target_leaves, line_source, line_target};
 
 use crate::forms::{StructureLeaves, all_forms};
-use crate::members::LeafTable;
+use crate::leaf_classes::{LeafClass, LeafClasses};
+use crate::members::{LeafTable, TextClasses};
 use crate::structures::Structures;
-use flow_model::{ControlTree, EndTree, EndsTree, Leaves, NameAt};
+use flow_model::{ControlTree, EndTree, EndsTree, Leaves, List, NameAt};
 use std::alloc::{AllocError, Global};
 use std::rc::Rc;
 use text_graphs::Scope;
 
 impl<'a> LeafTable<'a> {
-    /// The leaves of structures that have an order: see `Structures::cycle`.
-    pub fn new(alloc: Global, structures: Structures<'a>) -> Result<LeafTable<'a>, AllocError>
+    /// The leaves of structures that have an order: see `Structures::cycle`. A class of theirs that earlier texts
+    /// have is found there; the others are added behind those.
+    pub fn new(
+        alloc: Global,
+        structures: Structures<'a>,
+        known: &'a LeafClasses,
+    ) -> Result<LeafTable<'a>, AllocError>
         requires { IsOrdered (behind structures.definitions.items) structures.order }
         ensures kept { IfOk result (λ table. behind table.structures.definitions.items
             ≡ behind structures.entry.definitions.items) }
-        ensures there { IfOk result (λ table. (name : List ℕ)
+        ensures there { IfOk result (λ table. (name : Seq ℕ)
             → table_leaves table name ≡ leaves_in (behind structures.entry.definitions.items) name) }
+        ensures known { IfOk result (λ table. table.known.now ≡ known.now) }
     {
         let (table, runs) = structures.rows(alloc, structures.order())?;
         let leaves = all_forms(alloc, &Rc::new(alloc, table)?, &runs)?;
-        let classes = structures.classes(alloc, structures.order(), &runs)?;
+        let mut text = TextClasses::new(alloc, known);
+        let order = structures.order();
+        let classes = structures.classes(alloc, &mut text, order, &runs, &leaves)?;
         Ok(LeafTable {
             structures,
             leaves,
+            known,
+            added: text.into_added(),
             classes,
         })
     }
@@ -62,16 +74,15 @@ impl<'a> LeafTable<'a> {
         }
     }
 
-    /// The class of the structure of this name.
-    fn class(&self, name: &'a NameAt) -> Option<u32>
-        ensures { result ≡ class_named (behind self.now.structures.definitions.items) self.now.classes.items
-            name.now.name }
+    /// The class of the structure of this name, where it is found.
+    pub fn class(&self, name: &'a NameAt) -> Option<u32>
+        ensures { IfSome result (λ class.
+            IsClassOf (table_classes self.now) class (table_leaves self.now name.now.name)) }
     {
         self.structures.class(&self.classes, name)
     }
 
-    /// Whether two structures are of one class, so that their leaves are the same. Structures of two classes may
-    /// have the same leaves too.
+    /// Whether two structures are of one class, so that their leaves are the same.
     pub fn are_alike(&self, first: &'a NameAt, second: &'a NameAt) -> bool
         ensures { IsTrue result → HaveSameLeaves (table_leaves self.now) first.now.name second.now.name }
     {
@@ -82,6 +93,14 @@ impl<'a> LeafTable<'a> {
                 Some(class) => self.class(second) == Some(class),
             },
         }
+    }
+
+    /// The classes that the text adds behind those of earlier texts.
+    pub fn into_added(self) -> List<LeafClass>
+        ensures added { result ≡ self.entry.added }
+        ensures made { AreMadeBehind self.entry.known.now.classes result }
+    {
+        self.added
     }
 
     /// The leaves of an activity's output structure, with `_RC` before them.

@@ -6,12 +6,15 @@
 mod classes;
 mod container_leaves;
 mod forms;
+mod leaf_classes;
 mod members;
 mod rows;
 mod structures;
+mod text_classes;
 mod uses;
 
 pub use forms::StructureLeaves;
+pub use leaf_classes::{LeafClass, LeafClasses, MemberForm, MemberKind};
 pub use members::LeafTable;
 pub use structures::Structures;
 pub use uses::{mixed_kinds, unknown_leaves};

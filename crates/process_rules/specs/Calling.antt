@@ -73,7 +73,8 @@ text_or (Some number) stored = Some (callee.Text number)
 
 -- what an activity in the process of this number runs by a name
 abbrev pub callee_meant : Known → ℕ → List ℕ → Option Callee
-callee_meant known process name = text_or (earlier_meant known process name) (stored_named known.catalog.now.library name)
+callee_meant known process name = text_or (earlier_meant known process name)
+    (stored_named known.catalog.now.library name)
 
 -- where it is in the library once the text is added
 abbrev pub place_among : Library → Callee → ℕ

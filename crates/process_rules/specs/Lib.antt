@@ -1,9 +1,9 @@
 pub mod Indexes
 pub mod Imports
+pub mod Containers
 pub mod Calling
 pub mod Knowing
 pub mod Callees
-pub mod Seen
 pub mod Numbering
 pub mod Doers
 pub mod Said

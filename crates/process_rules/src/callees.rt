@@ -1,22 +1,22 @@
 //! Rules 17 and 18: the processes that activities name, and the leaves of their containers.
-ghost use Rattle.std.specs.Prelude.{◌≡◌, ◌++◌, List, Some, map, option_copied, IfOk, OnOk};
+ghost use Rattle.std.specs.Prelude.{◌≡◌, ◌++◌, List, map, option_copied, IfOk, OnOk, IsTrue};
 ghost use Rattle.std.specs.Bool.{Decides};
 ghost use Rattle.std.specs.List.Sorted.{IsNonDecreasingBy};
 ghost use Rattle.std.specs.Option.{option_map};
 ghost use Rattle.flow_model.specs.declared.trees.ProcessTree.{ProcessTree};
+ghost use Rattle.leaf_rules.specs.TableClasses.{table_classes};
 ghost use Rattle.leaf_rules.specs.Leaves.{table_leaves};
 ghost use Rattle.process_rules.specs.Callees.{process_named, IsNoProcess, NamesNone, NamesNoProcess, called};
 ghost use Rattle.process_rules.specs.Callees.{callee_input, callee_output, AreAlike, IsFitting, HasMisfit};
 ghost use Rattle.process_rules.specs.Callees.{call_at, call_of, calls_in, calls_among, AreCallsInOrder, IsMisfitOf};
 ghost use Rattle.process_rules.specs.Calling.{callee_meant};
+ghost use Rattle.process_rules.specs.Containers.{IsOfClass};
 ghost use Rattle.process_rules.specs.Knowing.{IsKnowing};
-ghost use Rattle.process_rules.specs.Seen.{AreMatches, AreSeen, template_inputs, template_outputs};
 ghost use Rattle.text_graphs.specs.Graphs.{graph_at, graphs_in};
 ghost use Rattle.text_graphs.specs.Places.{IsLeastOf, AnyAt};
 
 use crate::alike::are_alike;
 use crate::people::{Callee, Known};
-use crate::seen::{Matches, Seen, is_like_template};
 use flow_model::{ActivityTree, NameAt, WorkTree};
 use leaf_rules::LeafTable;
 use std::alloc::{AllocError, Global};
@@ -100,30 +100,41 @@ fn is_like<'a>(table: &LeafTable<'a>, ours: &'a NameAt, theirs: &'a NameAt) -> b
     are_alike(table.plain(ours), table.plain(theirs))
 }
 
-/// Whether the input of an activity is like that of a process.
+/// Whether a structure of the text is of a class, where one is given.
+fn is_of_class<'a>(table: &LeafTable<'a>, ours: &'a NameAt, class: Option<u32>) -> bool
+    ensures { IsTrue result → IsOfClass (table_classes table.now) class (table_leaves table.now ours.now.name) }
+{
+    match class {
+        None => false,
+        Some(number) => table.class(ours) == Some(number),
+    }
+}
+
+/// Whether the input of an activity is like that of a process. No leaves are compared where both are of one class,
+/// since that may take long.
 fn input_fits<'a>(
     known: &Known<'a>,
     table: &LeafTable<'a>,
-    matches: &mut Matches<'a>,
     input: &'a NameAt,
     callee: Callee,
-) -> Result<bool, AllocError>
-    ensures kept { OnOk result (AreMatches (table_leaves table.now) (template_inputs known.now.catalog.now.library)
-        matches.old → AreMatches (table_leaves table.now) (template_inputs known.now.catalog.now.library) matches.new) }
-    ensures fits { IfOk result (λ fits. AreMatches (table_leaves table.now)
-        (template_inputs known.now.catalog.now.library) matches.old
-        → Decides fits (AreAlike (table_leaves table.now input.now.name)
+) -> bool
+    requires { table.now.known.now ≡ known.now.catalog.now.classes }
+    ensures { Decides result (AreAlike (table_leaves table.now input.now.name)
         (callee_input (table_leaves table.now) known.now.catalog.now.library
-        (map (λ p. p.now) known.now.processes.items) callee))) }
+        (map (λ p. p.now) known.now.processes.items) callee)) }
 {
     match callee {
         Callee::Text(number) => match known.process(number) {
-            None => Ok(false),
-            Some(process) => Ok(is_like(table, input, &process.input)),
+            None => false,
+            Some(process) => is_like(table, input, &process.input),
         },
         Callee::Library(place) => match known.catalog().template(place) {
-            None => Ok(false),
-            Some(template) => is_like_template(table, matches, place, input, &template.graph.input),
+            None => false,
+            Some(template) => {
+                let class = known.catalog().container_classes(place).input;
+                is_of_class(table, input, class)
+                    || are_alike(table.plain(input), Some(&template.graph.input))
+            }
         },
     }
 }
@@ -132,28 +143,25 @@ fn input_fits<'a>(
 fn output_fits<'a>(
     known: &Known<'a>,
     table: &LeafTable<'a>,
-    matches: &mut Matches<'a>,
     output: &'a NameAt,
     callee: Callee,
-) -> Result<bool, AllocError>
-    ensures kept { OnOk result (AreMatches (table_leaves table.now) (template_outputs known.now.catalog.now.library)
-        matches.old
-        → AreMatches (table_leaves table.now) (template_outputs known.now.catalog.now.library) matches.new) }
-    ensures fits { IfOk result (λ fits. AreMatches (table_leaves table.now)
-        (template_outputs known.now.catalog.now.library) matches.old
-        → Decides fits (AreAlike (table_leaves table.now output.now.name)
+) -> bool
+    requires { table.now.known.now ≡ known.now.catalog.now.classes }
+    ensures { Decides result (AreAlike (table_leaves table.now output.now.name)
         (callee_output (table_leaves table.now) known.now.catalog.now.library
-        (map (λ p. p.now) known.now.processes.items) callee))) }
+        (map (λ p. p.now) known.now.processes.items) callee)) }
 {
     match callee {
         Callee::Text(number) => match known.process(number) {
-            None => Ok(false),
-            Some(process) => Ok(is_like(table, output, &process.output)),
+            None => false,
+            Some(process) => is_like(table, output, &process.output),
         },
         Callee::Library(place) => match known.catalog().template(place) {
-            None => Ok(false),
+            None => false,
             Some(template) => {
-                is_like_template(table, matches, place, output, &template.graph.output)
+                let class = known.catalog().container_classes(place).output;
+                is_of_class(table, output, class)
+                    || are_alike(table.plain(output), Some(&template.graph.output))
             }
         },
     }
@@ -163,20 +171,15 @@ fn output_fits<'a>(
 fn fits<'a>(
     known: &Known<'a>,
     table: &LeafTable<'a>,
-    seen: &mut Seen<'a>,
     activity: &'a ActivityTree,
     callee: Callee,
-) -> Result<bool, AllocError>
-    ensures seen { OnOk result (AreSeen (table_leaves table.now) known.now.catalog.now.library seen.old
-        → AreSeen (table_leaves table.now) known.now.catalog.now.library seen.new) }
-    ensures fits { IfOk result (λ fits. AreSeen (table_leaves table.now) known.now.catalog.now.library seen.old
-        → Decides fits (IsFitting (table_leaves table.now) known.now.catalog.now.library
-        (map (λ p. p.now) known.now.processes.items) activity.now callee)) }
+) -> bool
+    requires { table.now.known.now ≡ known.now.catalog.now.classes }
+    ensures { Decides result (IsFitting (table_leaves table.now) known.now.catalog.now.library
+        (map (λ p. p.now) known.now.processes.items) activity.now callee) }
 {
-    if !input_fits(known, table, &mut seen.inputs, &activity.input, callee)? {
-        return Ok(false);
-    }
-    output_fits(known, table, &mut seen.outputs, &activity.output, callee)
+    input_fits(known, table, &activity.input, callee)
+        && output_fits(known, table, &activity.output, callee)
 }
 
 /// An activity that runs a process, and which one.
@@ -245,23 +248,18 @@ fn calls_in_order<'a>(
 
 /// The place of the first of these calls whose containers aren't like those of the process. No call behind it is
 /// compared, since a comparison leaf by leaf may take long.
-fn first_misfit<'a>(
-    alloc: Global,
-    known: &Known<'a>,
-    table: &LeafTable<'a>,
-    calls: &[Call<'a>],
-) -> Result<Option<u32>, AllocError>
-    requires { IsNonDecreasingBy (λ c. c.activity.now.place) calls.now }
-    ensures { IfOk result (IsLeastOf (AnyAt (λ c. IsMisfitOf (table_leaves table.now) known.now.catalog.now.library
-        (map (λ p. p.now) known.now.processes.items) (call_at c)) calls.now)) }
+fn first_misfit<'a>(known: &Known<'a>, table: &LeafTable<'a>, calls: &[Call<'a>]) -> Option<u32>
+    requires classes { table.now.known.now ≡ known.now.catalog.now.classes }
+    requires rising { IsNonDecreasingBy (λ c. c.activity.now.place) calls.now }
+    ensures { IsLeastOf (AnyAt (λ c. IsMisfitOf (table_leaves table.now) known.now.catalog.now.library
+        (map (λ p. p.now) known.now.processes.items) (call_at c)) calls.now) result }
 {
-    let mut seen = Seen::new(alloc);
     for call in calls {
-        if !fits(known, table, &mut seen, call.activity, call.callee)? {
-            return Ok(Some(call.activity.place));
+        if !fits(known, table, call.activity, call.callee) {
+            return Some(call.activity.place);
         }
     }
-    Ok(None)
+    None
 }
 
 /// Rule 18: the leaves of a process activity's containers and of the process's differ.
@@ -271,10 +269,11 @@ pub fn mismatched_containers<'a>(
     table: &LeafTable<'a>,
     scopes: &[Scope<'a>],
 ) -> Result<Option<u32>, AllocError>
+    requires { table.now.known.now ≡ known.now.catalog.now.classes }
     ensures { (processes : List ProcessTree) → IsKnowing known.now processes
         → IfOk result (IsLeastOf (AnyAt (λ s. HasMisfit (table_leaves table.now) known.now.catalog.now.library processes
         (graph_at s)) scopes.now)) }
 {
     let calls = calls_in_order(alloc, known, scopes)?;
-    first_misfit(alloc, known, table, &calls)
+    Ok(first_misfit(known, table, &calls))
 }

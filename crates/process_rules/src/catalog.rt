@@ -1,21 +1,37 @@
 //! The library of the imports so far, with its names.
 ghost use Rattle.std.specs.Prelude.{◌≡◌, ◌≤◌, ◌<◌, ◌^◌, ◌++◌, ◌∷◌, [], length, slice_get, option_copied, IfOk, OnOk};
 ghost use Rattle.std.specs.Prelude.{OnErr};
+ghost use Rattle.std.proofs.Props.{props};
+ghost use Rattle.leaf_rules.specs.Classes.{AreMadeBehind};
+ghost use Rattle.process_rules.specs.Containers.{AreClassesKnown};
 ghost use Rattle.process_rules.specs.Indexes.{AreIndexed};
 
 use flow_model::{Library, List, Name, PersonDef, Template};
 use indexmap::IndexMap;
+use leaf_rules::{LeafClass, LeafClasses};
 use std::alloc::{AllocError, Global};
 
-/// A library and where the newest of each name stands in it.
+/// The classes of the containers of a template, where they are known.
+#[derive(Clone, Copy, Debug)]
+pub struct ContainerClasses {
+    pub input: Option<u32>,
+    pub output: Option<u32>,
+}
+
+/// A library, where the newest of each name stands in it, and of which classes the containers of its templates are.
 #[derive(Drop)]
 pub struct Catalog {
     library: Library,
     templates: IndexMap<Vec<u8>, u32>,
     people: IndexMap<Vec<u8>, u32>,
+    /// The classes of the structures of the texts so far.
+    classes: LeafClasses,
+    /// Those of the containers of templates, by the places of the templates.
+    containers: IndexMap<u32, ContainerClasses>,
     pub ghost few: { length library.templates ≤ 2 ^ 32 },
     pub ghost templates_indexed: { AreIndexed (λ t. t.name) library.templates templates },
     pub ghost people_indexed: { AreIndexed (λ q. q.name) library.people people },
+    pub ghost classed: { AreClassesKnown classes.classes library.templates containers } by { Prim.hlevel props },
 }
 
 /// The place of the next element of a list; there is no memory for more than 2^32 elements.
@@ -31,6 +47,8 @@ fn next_place(len: usize) -> Result<u32, AllocError>
 impl Catalog {
     ghost use Rattle.process_rules.specs.Imports.{newest_place, next_version, latest_place};
     ghost use Rattle.process_rules.specs.Imports.{latest_person};
+    ghost use Rattle.process_rules.specs.Containers.{HasClasses};
+    ghost use Rattle.flow_model.specs.declared.graphs.Template.{Template as Stored};
 
     /// An empty library.
     pub fn new(alloc: Global) -> Catalog
@@ -43,6 +61,8 @@ impl Catalog {
             },
             templates: IndexMap::new(alloc),
             people: IndexMap::new(alloc),
+            classes: LeafClasses::new(alloc),
+            containers: IndexMap::new(alloc),
         }
     }
 
@@ -65,6 +85,27 @@ impl Catalog {
         ensures { option_copied result ≡ slice_get self.now.library.templates place }
     {
         self.library.templates.as_slice().get(place as usize)
+    }
+
+    /// The classes of the structures of the texts so far.
+    pub fn classes(&self) -> &LeafClasses
+        ensures { result.now ≡ self.now.classes }
+    {
+        &self.classes
+    }
+
+    /// The classes of the containers of the template at a place, where they are known.
+    pub fn container_classes(&self, place: u32) -> ContainerClasses
+        ensures { (t : Stored) → slice_get self.now.library.templates place ≡ Some t
+            → HasClasses self.now.classes.classes t result }
+    {
+        match self.containers.get(&place).copied() {
+            None => ContainerClasses {
+                input: None,
+                output: None,
+            },
+            Some(found) => found,
+        }
     }
 
     /// The version that the next template of this name has.
@@ -104,8 +145,26 @@ impl Catalog {
         self.library.people.as_slice().get(place as usize)
     }
 
-    /// Adds a template, which is the newest of its name from now on. An error is want of memory; then nothing is added.
-    pub fn add_template(&mut self, alloc: Global, template: Template) -> Result<(), AllocError>
+    /// Adds the classes of the structures of a text. An error is want of memory; then a part of them may have been
+    /// added.
+    pub fn add_classes(&mut self, alloc: Global, added: List<LeafClass>) -> Result<(), AllocError>
+        requires { AreMadeBehind self.old.classes.classes added }
+        ensures added { OnOk result (self.new.classes.classes ≡ self.old.classes.classes ++ added) }
+        ensures unchanged { self.new.library ≡ self.old.library }
+    {
+        self.classes.extend(alloc, added)
+    }
+
+    /// Adds a template, which is the newest of its name from now on, with the classes of its containers. An error is
+    /// want of memory; then nothing is added.
+    pub fn add_template(
+        &mut self,
+        alloc: Global,
+        template: Template,
+        containers: ContainerClasses,
+    ) -> Result<(), AllocError>
+        requires { HasClasses self.old.classes.classes template containers }
+        ensures classes { self.new.classes ≡ self.old.classes }
         ensures added { OnOk result (self.new.library ≡ record {
           templates = self.old.library.templates
               ++ template ∷ [];
@@ -116,6 +175,8 @@ impl Catalog {
         let place = next_place(self.library.templates.len())?;
         let name = Vec::from_slice(alloc, template.name.as_slice())?;
         self.templates.reserve(1)?;
+        // Where there is no memory for the template, these stay at a place without one; the next template takes it.
+        self.containers.insert(place, containers)?;
         self.library.templates.push(template)?;
         match self.templates.insert(name, place) {
             Ok(_) => Ok(()),

@@ -11,11 +11,10 @@ mod doers;
 mod numbers;
 mod people;
 mod said;
-mod seen;
 mod sizes;
 
 pub use callees::{mismatched_containers, unknown_processes};
-pub use catalog::Catalog;
+pub use catalog::{Catalog, ContainerClasses};
 pub use counts::count_limit;
 pub use doers::{is_manual, unknown_people, wrong_performers};
 pub use numbers::graph_numbers;

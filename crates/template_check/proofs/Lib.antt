@@ -11,6 +11,7 @@ pub mod Calling
 pub mod ProcessNames
 pub mod Together
 pub mod Meaning
+pub mod Classing
 pub mod Numbers
 pub mod Resolutions
 pub mod Walking

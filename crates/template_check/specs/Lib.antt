@@ -6,3 +6,4 @@ pub mod Found
 pub mod Compiling
 pub mod Judged
 pub mod Numbered
+pub mod Classed

@@ -8,6 +8,7 @@ ghost use Rattle.conditions.specs.Resolving.{IsClear, IsResolved};
 ghost use Rattle.text_graphs.specs.Attributes.{first_said, join_said, joined_by, expires_said, expires_by, exit_said};
 ghost use Rattle.text_graphs.specs.Attributes.{doer_said, done_by, program_by};
 ghost use Rattle.process_rules.specs.Imports.{next_version};
+ghost use Rattle.template_check.specs.Classed.{IsClassNamed};
 ghost use Rattle.template_check.specs.Compiling.{declared_person};
 ghost use Rattle.template_check.specs.Numbered.{HasToldShape};
 ghost use Rattle.process_rules.specs.Calling.{place_behind, place_meant, IsCalling, IsCallingWork};
@@ -32,7 +33,7 @@ use flow_model::{
     Template, When, WhenTree, Work, WorkTree,
 };
 use leaf_rules::LeafTable;
-use process_rules::{Callee, Catalog, Known, Shape, is_manual};
+use process_rules::{Callee, Catalog, ContainerClasses, Known, Shape, is_manual};
 use std::alloc::{AllocError, Global};
 use text_graphs::{Scope, narrow};
 
@@ -605,6 +606,17 @@ impl<'a> Builder<'a> {
             depth: shape.depth,
             size: u32::try_from(shape.size).unwrap_or(u32::MAX),
         })
+    }
+
+    /// The classes of the containers of a process, where they are known.
+    pub fn containers(&self, process: &'a ProcessTree) -> ContainerClasses
+        ensures input { IsClassNamed self.now.table result.input process.now.input.name }
+        ensures output { IsClassNamed self.now.table result.output process.now.output.name }
+    {
+        ContainerClasses {
+            input: self.table.class(&process.input),
+            output: self.table.class(&process.output),
+        }
     }
 
     /// A person with the roles.

@@ -12,6 +12,7 @@ ghost use Rattle.process_rules.specs.Doers.{NamesNoPerformer};
 ghost use Rattle.process_rules.specs.Knowing.{IsKnowing};
 ghost use Rattle.process_rules.specs.Shapes.{shape_at, shapes_of, told_shape};
 ghost use Rattle.template_check.specs.Built.{AreSoundBehind, AreSoundWithin, IsSound};
+ghost use Rattle.template_check.specs.Classed.{IsClassed};
 ghost use Rattle.template_check.specs.Compiling.{AreBuilt, AreLeavesOf, HasPeopleOf, HasTree, IsNamedBy, IsMeantBy};
 ghost use Rattle.template_check.specs.Found.{AreGraphsFound};
 ghost use Rattle.template_check.specs.Meant.{reading_of};
@@ -32,8 +33,8 @@ use crate::judging::{
 use fdl_lexer::{LexFault, lex};
 use fdl_parser::{SyntaxFault, parse};
 use flow_model::{ItemTree, List, PersonDef, Template, Tree};
-use leaf_rules::{LeafTable, Structures};
-use process_rules::{Catalog, Known, Shape, shapes};
+use leaf_rules::{LeafClass, LeafTable, Structures};
+use process_rules::{Catalog, ContainerClasses, Known, Shape, shapes};
 use std::alloc::{AllocError, Global};
 use text_graphs::{Scope, narrow, text_scopes};
 
@@ -45,6 +46,10 @@ const MOST_BYTES: usize = 1_048_576;
 pub struct Compiled {
     pub templates: List<Template>,
     pub people: List<PersonDef>,
+    /// The classes of the containers of each template.
+    pub containers: List<ContainerClasses>,
+    /// The classes of structures that the text adds.
+    pub classes: List<LeafClass>,
 }
 
 /// The line of a place: 1 and the number of line feeds before it.
@@ -95,23 +100,21 @@ pub fn syntax_tree(alloc: Global, text: &[u8]) -> Result<Tree, ImportFault>
     }
 }
 
-/// The templates and the people of an accepted text.
-fn built<'a>(
-    builder: &Builder<'a>,
-    tree: &'a Tree,
-    shapes: &[Shape],
-) -> Result<Compiled, AllocError>
+/// The templates and the people of an accepted text, with the classes of its structures.
+fn built<'a>(builder: Builder<'a>, tree: &'a Tree, shapes: &[Shape]) -> Result<Compiled, AllocError>
     requires sound { All (λ p. IsSound p.elements) (processes_in tree.now.items) }
     requires performers { (p : ℕ) → InGraphs tree.now.items NamesNoPerformer p → ⊥ }
-    requires leaves { AreLeavesOf tree.now.items (table_leaves builder.now.table) }
-    requires found { AreGraphsFound (reading_of builder.now) tree.now.items }
-    requires knowing { IsKnowing builder.now.known (processes_in tree.now.items) }
+    requires leaves { AreLeavesOf tree.now.items (table_leaves builder.table) }
+    requires found { AreGraphsFound (reading_of builder) tree.now.items }
+    requires knowing { IsKnowing builder.known (processes_in tree.now.items) }
     requires shapes { shapes.now
-        ≡ map told_shape (shapes_of builder.now.known.catalog.now.library (processes_in tree.now.items)) }
-    ensures { IfOk result (AreBuilt builder.now.known.catalog.now.library tree.now.items) }
+        ≡ map told_shape (shapes_of builder.known.catalog.now.library (processes_in tree.now.items)) }
+    ensures built { IfOk result (AreBuilt builder.entry.known.catalog.now.library tree.now.items) }
+    ensures classed { IfOk result (IsClassed builder.entry.table.known.now.classes) }
 {
     let mut templates = List::new(builder.alloc);
     let mut people = List::new(builder.alloc);
+    let mut containers = List::new(builder.alloc);
     for item in tree.items.as_slice() {
         match item {
             ItemTree::Structure(_) => {}
@@ -121,10 +124,17 @@ fn built<'a>(
                 let shape = shape_of(shapes, number);
                 let template = builder.template(narrow(number)?, process, shape)?;
                 templates.push(template)?;
+                let classes = builder.containers(process);
+                containers.push(classes)?;
             }
         }
     }
-    Ok(Compiled { templates, people })
+    Ok(Compiled {
+        templates,
+        people,
+        containers,
+        classes: builder.table.into_added(),
+    })
 }
 
 /// The shape of the process of this number.
@@ -143,7 +153,7 @@ type Judged = Result<Compiled, (u8, u32)>;
 /// Names, leaves and conditions that the rules have passed stand for something, so building finds whatever it looks
 /// up.
 fn sized_and_built<'a>(
-    builder: &Builder<'a>,
+    builder: Builder<'a>,
     tree: &'a Tree,
     shapes: &[Shape],
     scopes: &[Scope<'a>],
@@ -151,17 +161,18 @@ fn sized_and_built<'a>(
     requires graphs { AreGraphsOf tree.now.items (graphs_in scopes.now) }
     requires sound { AreSoundWithin scopes.now (processes_in tree.now.items) }
     requires unbroken { IsFirstBroken (rules_on_uses tree.now.items) None }
-    requires called { (p : ℕ) → InGraphs tree.now.items (NamesNone (callee_meant builder.now.known)) p → ⊥ }
+    requires called { (p : ℕ) → InGraphs tree.now.items (NamesNone (callee_meant builder.known)) p → ⊥ }
     requires performers { (p : ℕ) → InGraphs tree.now.items NamesNoPerformer p → ⊥ }
-    requires structures { behind builder.now.table.structures.definitions.items ≡ structures_in tree.now.items }
-    requires leaves { AreLeavesOf tree.now.items (table_leaves builder.now.table) }
-    requires knowing { IsKnowing builder.now.known (processes_in tree.now.items) }
+    requires structures { behind builder.table.structures.definitions.items ≡ structures_in tree.now.items }
+    requires leaves { AreLeavesOf tree.now.items (table_leaves builder.table) }
+    requires knowing { IsKnowing builder.known (processes_in tree.now.items) }
     requires shapes { shapes.now
-        ≡ map told_shape (shapes_of builder.now.known.catalog.now.library (processes_in tree.now.items)) }
+        ≡ map told_shape (shapes_of builder.known.catalog.now.library (processes_in tree.now.items)) }
     ensures built { IfOk result (λ judged.
-        IfOk judged (AreBuilt builder.now.known.catalog.now.library tree.now.items)) }
+        IfOk judged (AreBuilt builder.entry.known.catalog.now.library tree.now.items)) }
+    ensures classed { IfOk result (λ judged. IfOk judged (IsClassed builder.entry.table.known.now.classes)) }
     ensures first { IfOk result (λ judged.
-        IsFirstBroken (from_sizes builder.now.known.catalog.now.library tree.now.items) (fault_in judged)) }
+        IsFirstBroken (from_sizes builder.entry.known.catalog.now.library tree.now.items) (fault_in judged)) }
 {
     let known = &builder.known;
     if let Some(fault) = first_of_sizes(known, tree, shapes) {
@@ -188,7 +199,9 @@ fn called_and_built<'a>(
     requires structures { behind table.structures.definitions.items ≡ structures_in tree.now.items }
     requires leaves { All (λ s. HasContainers (leaves_in (structures_in tree.now.items)) (table_leaves table)
         (graph_at s)) scopes.now }
+    requires known { table.known.now ≡ earlier.now.classes }
     ensures built { IfOk result (λ judged. IfOk judged (AreBuilt earlier.now.library tree.now.items)) }
+    ensures classed { IfOk result (λ judged. IfOk judged (IsClassed earlier.now.classes.classes)) }
     ensures first { IfOk result (λ judged.
         IsFirstBroken (from_callees earlier.now.library tree.now.items) (fault_in judged)) }
 {
@@ -205,7 +218,7 @@ fn called_and_built<'a>(
         table,
         known,
     };
-    sized_and_built(&builder, tree, &shapes, scopes)
+    sized_and_built(builder, tree, &shapes, scopes)
 }
 
 /// Judges rules 13 to 24, and builds what the text adds where none is broken.
@@ -225,10 +238,11 @@ fn read_and_built<'a>(
     requires names { IsFirstBroken (rules_on_names tree.now.items) None }
     requires connectors { IsFirstBroken (rules_on_connectors tree.now.items) None }
     ensures built { IfOk result (λ judged. IfOk judged (AreBuilt earlier.now.library tree.now.items)) }
+    ensures classed { IfOk result (λ judged. IfOk judged (IsClassed earlier.now.classes.classes)) }
     ensures first { IfOk result (λ judged.
         IsFirstBroken (from_leaves earlier.now.library tree.now.items) (fault_in judged)) }
 {
-    let table = LeafTable::new(alloc, structures)?;
+    let table = LeafTable::new(alloc, structures, earlier.classes())?;
     if let Some(fault) = first_of_leaves(tree, &table, scopes) {
         return Ok(Err(fault));
     }
@@ -253,6 +267,7 @@ fn connected_and_built<'a>(
     requires named { All (λ s. AreNamesApart s.elements.now) scopes.now }
     requires names { IsFirstBroken (rules_on_names tree.now.items) None }
     ensures built { IfOk result (λ judged. IfOk judged (AreBuilt earlier.now.library tree.now.items)) }
+    ensures classed { IfOk result (λ judged. IfOk judged (IsClassed earlier.now.classes.classes)) }
     ensures first { IfOk result (λ judged.
         IsFirstBroken (from_connectors earlier.now.library tree.now.items) (fault_in judged)) }
 {
@@ -265,6 +280,7 @@ fn connected_and_built<'a>(
 /// What a tree adds to the library, or the first rule from 4 on that it breaks.
 fn compile_tree(alloc: Global, tree: &Tree, earlier: &Catalog) -> Result<Judged, AllocError>
     ensures built { IfOk result (λ judged. IfOk judged (AreBuilt earlier.now.library tree.now.items)) }
+    ensures classed { IfOk result (λ judged. IfOk judged (IsClassed earlier.now.classes.classes)) }
     ensures first { IfOk result (λ judged.
         IsFirstBroken (later_rules earlier.now.library tree.now.items) (fault_in judged)) }
 {
@@ -287,6 +303,7 @@ pub fn compile(alloc: Global, text: &[u8], earlier: &Catalog) -> Result<Compiled
     ensures named { IfOk result (λ compiled. IsNamedBy text.now compiled.templates) }
     ensures meant { IfOk result (λ compiled. IsMeantBy text.now earlier.now.library compiled.templates) }
     ensures people { IfOk result (λ compiled. HasPeopleOf text.now compiled.people) }
+    ensures classed { IfOk result (IsClassed earlier.now.classes.classes) }
     ensures judged { IsJudged earlier.now.library text.now result }
 {
     let tree = syntax_tree(alloc, text)?;

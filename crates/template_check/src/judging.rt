@@ -155,6 +155,7 @@ pub fn first_of_callees<'a>(
     requires leaves { All (λ s. HasContainers (leaves_in (structures_in tree.now.items)) (table_leaves table.now)
         (graph_at s)) scopes.now }
     requires knowing { IsKnowing known.now (processes_in tree.now.items) }
+    requires classes { table.now.known.now ≡ known.now.catalog.now.classes }
     ensures called { IfOk result (λ fault. fault ≡ None
         → (p : ℕ) → InGraphs tree.now.items (NamesNone (callee_meant known.now)) p → ⊥) }
     ensures first { IfOk result (IsFirstBroken (rules_on_callees known.now.catalog.now.library tree.now.items)) }

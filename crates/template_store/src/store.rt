@@ -1,14 +1,21 @@
 //! The imports so far.
 ghost use Rattle.std.specs.Prelude.{◌≡◌, ◌-◌, ◌^◌, ◌<◌, ◌+◌, [], ◌++◌, min, length, slice_get, option_copied};
-ghost use Rattle.std.specs.Prelude.{Some, OnOk, IfOk, IfSome, ◌==◌, ◌&&◌, position, bytes_eq, true};
+ghost use Rattle.std.specs.Prelude.{List as Seq, Some, OnOk, IfOk, IfSome, ◌==◌, ◌&&◌, position, bytes_eq, true};
+ghost use Rattle.leaf_rules.specs.Classes.{AreMadeBehind};
+ghost use Rattle.process_rules.specs.Containers.{HasClasses};
+ghost use Rattle.flow_model.specs.declared.graphs.Template.{Template as Stored};
+ghost use Rattle.leaf_rules.specs.declared.leaf_classes.LeafClass.{LeafClass as Class};
 ghost use Rattle.template_check.specs.Built.{AreSound};
+ghost use Rattle.template_check.specs.Classed.{HaveClasses, IsClassed};
 ghost use Rattle.template_check.specs.Judged.{IsJudged};
 ghost use Rattle.process_rules.specs.Imports.{newest_place, latest_person};
 ghost use Rattle.template_check.specs.declared.compiling.Compiled.{Compiled as Added};
 ghost use Rattle.template_store.specs.Store.{version_place, with_compiled, is_refusal, AddsText};
 ghost use Rattle.template_store.specs.Store.{CompilesTo};
 
-use flow_model::{Library, Name, PersonDef, Template};
+use flow_model::{Library, List, Name, PersonDef, Template};
+use leaf_rules::LeafClass;
+use process_rules::ContainerClasses;
 use std::alloc::{AllocError, Global};
 use std::marker::Model;
 use template_check::{Catalog, Compiled, ImportFault, compile};
@@ -27,8 +34,10 @@ fn compiled_text(
     accepted: Option<Accepted>,
     catalog: &Catalog,
 ) -> Result<Compiled, ImportFault>
-    requires { IfSome accepted (λ last. CompilesTo catalog.now.library last.text.items last.compiled) }
+    requires { IfSome accepted (λ last. CompilesTo catalog.now.library last.text.items last.compiled
+        × IsClassed catalog.now.classes.classes last.compiled) }
     ensures compiled { IfOk result (CompilesTo catalog.now.library text.now) }
+    ensures classed { IfOk result (IsClassed catalog.now.classes.classes) }
     ensures judged { IsJudged catalog.now.library text.now result }
 {
     if let Some(accepted) = accepted {
@@ -55,6 +64,7 @@ impl Model for TemplateStore {
     ghost use Rattle.std.specs.Prelude.{IfSome};
     ghost use Rattle.flow_model.specs.declared.graphs.Library.{Library};
     ghost use Rattle.flow_model.specs.contracts.graphs.Library as of_library;
+    ghost use Rattle.template_check.specs.Classed.{IsClassed};
     ghost use Rattle.template_store.specs.Store.{CompilesTo};
 
     ghost Value = { Library };
@@ -64,7 +74,8 @@ impl Model for TemplateStore {
     ghost view = { λ store. store.catalog.library };
 
     ghost invariant = { λ store.
-        IfSome store.accepted (λ accepted. CompilesTo store.catalog.library accepted.text.items accepted.compiled) };
+        IfSome store.accepted (λ accepted. CompilesTo store.catalog.library accepted.text.items accepted.compiled
+        × IsClassed store.catalog.classes.classes accepted.compiled) };
 }
 
 impl TemplateStore {
@@ -161,28 +172,81 @@ fn position_of(templates: &[Template], name: &Name, version: u32) -> Option<usiz
 
 /// Adds what a text compiled to; answers the number of processes.
 fn add(catalog: &mut Catalog, alloc: Global, compiled: Compiled) -> Result<u32, AllocError>
+    requires { IsClassed catalog.old.classes.classes compiled }
     ensures added { IfOk result (λ count. (count ≡ min (length compiled.templates) (2 ^ 32 - 1))
         × (catalog.new.library ≡ with_compiled catalog.old.library compiled)) }
 {
-    let Compiled { templates, people } = compiled;
+    let Compiled {
+        templates,
+        people,
+        containers,
+        classes,
+    } = compiled;
     let count = u32::try_from(templates.len()).unwrap_or(u32::MAX);
-    add_templates(catalog, alloc, templates.into_vec())?;
+    add_processes(catalog, alloc, templates, containers.as_slice(), classes)?;
     add_people(catalog, alloc, people.into_vec())?;
     Ok(count)
+}
+
+/// Adds the templates of a text, with the classes of their containers.
+///
+/// The classes of a text without processes are not added: its table of leaves would stay in memory for nothing.
+fn add_processes(
+    catalog: &mut Catalog,
+    alloc: Global,
+    templates: List<Template>,
+    containers: &[ContainerClasses],
+    classes: List<LeafClass>,
+) -> Result<(), AllocError>
+    requires made { AreMadeBehind catalog.old.classes.classes classes }
+    requires containers { HaveClasses (catalog.old.classes.classes ++ classes) templates containers.now }
+    ensures added { OnOk result (catalog.new.library ≡ record {
+      templates = catalog.old.library.templates ++ templates;
+      people = catalog.old.library.people;
+    }) }
+{
+    if templates.is_empty() {
+        return Ok(());
+    }
+    catalog.add_classes(alloc, classes)?;
+    add_templates(catalog, alloc, templates.into_vec(), containers)
+}
+
+/// The classes of the containers of the template at a place, if they are there.
+fn nth_containers(containers: &[ContainerClasses], place: usize) -> Option<ContainerClasses>
+    ensures { result ≡ slice_get containers.now place }
+{
+    containers.get(place).copied()
+}
+
+/// The classes of the containers of the template at a place, where they are known.
+fn containers_at(containers: &[ContainerClasses], place: usize) -> ContainerClasses
+    ensures { (classes : Seq Class) (ts : Seq Stored) (t : Stored) → HaveClasses classes ts containers.now
+        → slice_get ts place ≡ Some t → HasClasses classes t result }
+{
+    match nth_containers(containers, place) {
+        Some(found) => found,
+        None => ContainerClasses {
+            input: None,
+            output: None,
+        },
+    }
 }
 
 fn add_templates(
     catalog: &mut Catalog,
     alloc: Global,
     templates: Vec<Template>,
+    containers: &[ContainerClasses],
 ) -> Result<(), AllocError>
+    requires { HaveClasses catalog.old.classes.classes templates.items containers.now }
     ensures added { OnOk result (catalog.new.library ≡ record {
       templates = catalog.old.library.templates ++ templates.items;
       people = catalog.old.library.people;
     }) }
 {
-    for template in templates {
-        catalog.add_template(alloc, template)?;
+    for (i, template) in templates.into_iter().enumerate() {
+        catalog.add_template(alloc, template, containers_at(containers, i))?;
     }
     Ok(())
 }

@@ -14,7 +14,7 @@ loop-call-init c =
     let library = c.args.known.now.catalog.now.library in
     let processes = map (λ (p : Bor ProcessTree). p.now) c.args.known.now.processes.items in
     let Fits = λ (x : Call). IsFitting leaves library processes x.activity.now x.callee in
-    (c.new-seen.ensures leaves library, AllWithin-none Fits c.args.calls.now 0)
+    AllWithin-none Fits c.args.calls.now 0
 
 pub loop-call-preserved : goal.loop-call-preserved
 loop-call-preserved c =
@@ -22,21 +22,17 @@ loop-call-preserved c =
     let library = c.args.known.now.catalog.now.library in
     let processes = map (λ (p : Bor ProcessTree). p.now) c.args.known.now.processes.items in
     let Fits = λ (x : Call). IsFitting leaves library processes x.activity.now x.callee in
-    let decides = c.in_ok-fits.ensures.fits c.loop-call.invariant.0 in (
-      c.in_ok-fits.ensures.seen c.loop-call.invariant.0,
-      AllWithin-more Fits c.args.calls.now 0 c.loop-call.call-index c.loop-call.invariant.1 (at_read c.args.calls.now Fits c.loop-call.call-index c.call-item.result c.loop-call-test.true c.call-item.is (decides.0 c.if-not-branch.false)),
-    )
+    AllWithin-more Fits c.args.calls.now 0 c.loop-call.call-index c.loop-call.invariant (at_read c.args.calls.now Fits c.loop-call.call-index c.call-item.result c.loop-call-test.true c.call-item.is (c.fits.ensures.0 c.if-not-fits.false))
 
-pub returns-then-not-branch : goal.returns-then-not-branch
-returns-then-not-branch c =
+pub returns-then-not-fits : goal.returns-then-not-fits
+returns-then-not-fits c =
     let leaves = table_leaves c.args.table.now in
     let library = c.args.known.now.catalog.now.library in
     let processes = map (λ (p : Bor ProcessTree). p.now) c.args.known.now.processes.items in
     let Fits = λ (x : Call). IsFitting leaves library processes x.activity.now x.callee in
     let call = c.call-item.result in
-    let decides = c.in_ok-fits.ensures.fits c.loop-call.invariant.0 in
-    first_least Fits (λ x. x.activity.now.place) c.args.calls.now c.loop-call.call-index call c.loop-call-test.true c.call-item.is c.requires c.loop-call.invariant.1
-    (decides_not (Fits call) c.in_ok-fits.field-0 c.if-not-branch.true decides)
+    first_least Fits (λ x. x.activity.now.place) c.args.calls.now c.loop-call.call-index call c.loop-call-test.true c.call-item.is c.requires.rising c.loop-call.invariant
+    (decides_not (Fits call) c.fits.result c.if-not-fits.true c.fits.ensures)
 
 pub returns : goal.returns
 returns c =
@@ -44,4 +40,4 @@ returns c =
     let library = c.args.known.now.catalog.now.library in
     let processes = map (λ (p : Bor ProcessTree). p.now) c.args.known.now.processes.items in
     let Fits = λ (x : Call). IsFitting leaves library processes x.activity.now x.callee in
-    none_least Fits (λ x. x.activity.now.place) c.args.calls.now c.loop-call.call-index c.loop-call-test.false c.loop-call.invariant.1
+    none_least Fits (λ x. x.activity.now.place) c.args.calls.now c.loop-call.call-index c.loop-call-test.false c.loop-call.invariant

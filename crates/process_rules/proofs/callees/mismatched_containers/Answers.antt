@@ -1,8 +1,7 @@
-use Rattle.std.proofs.Common.{Bor, List, IfOk, map, subst}
-use Rattle.std.proofs.lemmas.Result.{IfOk-weaker}
+use Rattle.std.proofs.Common.{Bor, List, map, subst}
 use Rattle.flow_model.specs.declared.trees.ProcessTree.{ProcessTree}
 use Rattle.leaf_rules.specs.Leaves.{table_leaves}
-use Rattle.process_rules.specs.Callees.{Calls, HasMisfitBy, IsMisfitOf, call_at}
+use Rattle.process_rules.specs.Callees.{Calls, HasMisfitBy}
 use Rattle.process_rules.specs.Calling.{callee_meant}
 use Rattle.process_rules.proofs.InOrder.{least_of_graphs}
 use Rattle.process_rules.proofs.Knowing.{calls_known}
@@ -20,6 +19,6 @@ returns c = λ processes knowing.
     let result = c.first_misfit.result in
     let found = c.in_ok-calls.calls.items in
     let first = rw c.deref.ensures.value at c.first_misfit.ensures in
-    let least = IfOk-weaker result (IsLeastOf (AnyAt (λ x. IsMisfitOf leaves library listed (call_at x)) found)) (IsLeastOf (AnyAt (λ s. HasMisfitBy (callee_meant known) leaves library listed (graph_at s)) scopes)) (least_of_graphs (callee_meant known) leaves library listed scopes found c.in_ok-calls.ensures) first in
-    let told = subst (λ (ps : List ProcessTree). IfOk result (IsLeastOf (AnyAt (λ s. HasMisfitBy (callee_meant known) leaves library ps (graph_at s)) scopes))) knowing.listed least in
-    subst (λ (calls : Calls). IfOk result (IsLeastOf (AnyAt (λ s. HasMisfitBy calls leaves library processes (graph_at s)) scopes))) (calls_known known processes knowing) told
+    let least = least_of_graphs (callee_meant known) leaves library listed scopes found c.in_ok-calls.ensures result first in
+    let told = subst (λ (ps : List ProcessTree). IsLeastOf (AnyAt (λ s. HasMisfitBy (callee_meant known) leaves library ps (graph_at s)) scopes) result) knowing.listed least in
+    subst (λ (calls : Calls). IsLeastOf (AnyAt (λ s. HasMisfitBy calls leaves library processes (graph_at s)) scopes) result) (calls_known known processes knowing) told

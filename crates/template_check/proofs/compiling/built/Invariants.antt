@@ -1,7 +1,9 @@
 use Rattle.std.proofs.Common.{◌≡◌, length, take}
 use Rattle.std.specs.List.{All}
+use Rattle.leaf_rules.specs.TableClasses.{table_classes}
 use Rattle.process_rules.specs.Calling.{AreOrdered}
 use Rattle.template_check.specs.Built.{IsSoundAlone}
+use Rattle.template_check.specs.Classed.{HaveClasses}
 use Rattle.template_check.specs.Compiling.{declared_people, process_names, template_names}
 use Rattle.template_check.specs.Meant.{AreMeantFrom, reading_of}
 use Rattle.text_graphs.specs.Texts.{processes_in}
@@ -17,4 +19,6 @@ invariant-loop-item l = record {
   people : l.people ≡ declared_people (take l.item-index l.tree.items);
   versions : versions_of l.templates ≡ next_versions l.builder.known.catalog.now.library (processes_in (take l.item-index l.tree.items));
   told : AreTold l.shapes l.templates;
+  even : length l.containers ≡ length l.templates;
+  classed : HaveClasses (table_classes l.builder.table) l.templates l.containers;
 }

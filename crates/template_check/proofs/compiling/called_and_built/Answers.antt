@@ -3,7 +3,9 @@ use Rattle.std.specs.Prelude.{IfOk}
 use Rattle.process_rules.specs.declared.catalog.Catalog.{Catalog}
 use Rattle.leaf_rules.specs.Leaves.{table_leaves}
 use Rattle.leaf_rules.specs.StructureLeaves.{leaves_in}
+use Rattle.leaf_rules.specs.declared.leaf_classes.LeafClasses.{LeafClasses}
 use Rattle.text_graphs.specs.Texts.{structures_in}
+use Rattle.template_check.specs.Classed.{IsClassed}
 use Rattle.template_check.specs.Compiling.{AreBuilt}
 use Rattle.template_check.specs.Rules.{fault_in, rules_on_callees, rules_on_people, from_sizes, IsFirstBroken}
 use Rattle.template_check.proofs.Fitting.{of_graph}
@@ -38,6 +40,10 @@ sized_and_built-requires-clause-leaves c =
 pub returns-clause-built : goal.returns-clause-built
 returns-clause-built c =
     subst (λ (k : Catalog). IfOk c.sized_and_built.result (λ judged. IfOk judged (AreBuilt k.library c.args.tree.now.items))) c.in_ok-known.ensures.catalog c.sized_and_built.ensures.built
+
+pub returns-clause-classed : goal.returns-clause-classed
+returns-clause-classed c =
+    subst (λ (k : LeafClasses). IfOk c.sized_and_built.result (λ judged. IfOk judged (IsClassed k.classes))) c.requires.known c.sized_and_built.ensures.classed
 
 pub returns-clause-first : goal.returns-clause-first
 returns-clause-first c =

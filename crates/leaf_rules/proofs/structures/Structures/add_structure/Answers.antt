@@ -1,4 +1,4 @@
-use Rattle.std.proofs.Common.{◌≡◌, ◌-◌, List, [], ◌∷◌, ◌++◌, sym, subst, ◌∙◌, arith}
+use Rattle.std.proofs.Common.{◌≡◌, List, [], ◌∷◌, ◌++◌, sym, subst, ◌∙◌, arith}
 use Rattle.flow_model.specs.declared.graphs.Leaf.{Leaf}
 use Rattle.leaf_rules.specs.ReturnCodes.{return_code}
 use Rattle.leaf_rules.specs.Runs.{AreKindsMade}

@@ -1,10 +1,7 @@
-use Rattle.std.proofs.Common.{ℕ, List}
-use Rattle.flow_model.specs.declared.graphs.Leaf.{Leaf}
-use Rattle.leaf_rules.specs.Classes.{Numbering, AreClasses, AreLeavesKnown}
-use Rattle.leaf_rules.specs.Structures.{behind}
+use Rattle.std.proofs.Common.{◌≡◌}
+use Rattle.leaf_rules.specs.Classes.{AreClassed, leaves_at}
+use Rattle.leaf_rules.specs.TableClasses.{text_classes}
 use Rattle.leaf_rules.proofs.structures.Structures.classes.Given as goal
 
 abbrev pub invariant-loop-number : goal.invariant-loop-number
-invariant-loop-number l =
-    (table : List Leaf) (inner : List ℕ → List Leaf) (leaves : Numbering) → AreLeavesKnown (behind l.self.definitions.items) l.runs table inner leaves
-    → AreClasses leaves l.classes.items
+invariant-loop-number l = (l.text.known ≡ l.initial.text.known) × AreClassed (leaves_at l.made) (text_classes l.text) l.found.items
